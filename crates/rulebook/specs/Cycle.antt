@@ -1,0 +1,126 @@
+-- The netted cycle.
+use Prim.Native.Nat.{ℕ, zero, suc, _+_, _-_}
+use mathlib.Core.Bool.{Bool, false, not, _||_, _&&_}
+use mathlib.Core.List.{List, [], _∷_, map}
+use lib.ListN.{length}
+use Rattle.rulebook.specs.declared.Account.{Account}
+use Rattle.rulebook.specs.Lists.{if_then_else_, _is_, _isNot_, _atMost_, some, total, keep}
+use Rattle.rulebook.specs.declared.Item.{Item}
+use Rattle.rulebook.specs.Ledger.{Ledger, Holdings, accountOf, sameAccount}
+use Rattle.rulebook.specs.Movements.{account, cashOf, Movement, move}
+use Rattle.rulebook.specs.Waiting.{isTrade}
+
+-- the waiting list with a mark on each trade that is taken
+abbrev pub Marked : Type 0
+Marked = Bool × Item
+
+-- the account that a trade debits, and the one that it credits
+unfoldable pub seller : Item → Account
+seller trade = accountOf trade.security trade.debited
+
+unfoldable pub buyer : Item → Account
+buyer trade = accountOf trade.security trade.credited
+
+-- Cycle: take all pairs and exchange trades whose settlement day has come.
+unfoldable pub due : (day : ℕ) → Item → Bool
+due day item = isTrade item.state && item.«settlement_day» atMost day
+
+unfoldable pub taken : (day : ℕ) → List Item → List Marked
+taken day waiting = map (λ item. (due day item, item)) waiting
+
+-- the sum of a figure over the taken trades
+unfoldable pub over : (Item → ℕ) → List Marked → ℕ
+over figure marked = total (λ m. if m .0 then figure (m .1) else 0) marked
+
+-- what a trade brings to an account, and what it takes from it
+unfoldable pub bringsShares : Account → Item → ℕ
+bringsShares a t = if sameAccount (buyer t) a then t.quantity.0 else 0
+
+unfoldable pub takesShares : Account → Item → ℕ
+takesShares a t = if sameAccount (seller t) a then t.quantity.0 else 0
+
+-- and of a member's cash, which the buyer pays to the seller
+unfoldable pub bringsCash : (member currency : ℕ) → Item → ℕ
+bringsCash member currency t = if t.debited.member is member && t.currency is currency then t.amount.0 else 0
+
+unfoldable pub takesCash : (member currency : ℕ) → Item → ℕ
+takesCash member currency t = if t.credited.member is member && t.currency is currency then t.amount.0 else 0
+
+-- what the taken trades bring to an account, and what they take from it
+unfoldable pub sharesBrought : Account → List Marked → ℕ
+sharesBrought a = over (bringsShares a)
+
+unfoldable pub sharesTaken : Account → List Marked → ℕ
+sharesTaken a = over (takesShares a)
+
+unfoldable pub cashBrought : (member currency : ℕ) → List Marked → ℕ
+cashBrought member currency = over (bringsCash member currency)
+
+unfoldable pub cashTaken : (member currency : ℕ) → List Marked → ℕ
+cashTaken member currency = over (takesCash member currency)
+
+-- An account, or a member's cash, is short if balance plus what the taken trades bring less what they take is below zero: by what is missing there,
+-- and short is what misses something.
+unfoldable pub sharesMissing : Holdings → List Marked → Account → ℕ
+sharesMissing h marked a = sharesTaken a marked - (h.balance a + sharesBrought a marked)
+
+unfoldable pub cashMissing : Holdings → List Marked → (member currency : ℕ) → ℕ
+cashMissing h marked member currency = cashTaken member currency marked - (h.cash member currency + cashBrought member currency marked)
+
+-- the trade debits a short one: its seller's account or its buyer's cash
+unfoldable pub debitsShort : Holdings → List Marked → Item → Bool
+debitsShort h marked trade = sharesMissing h marked (seller trade) isNot 0 || cashMissing h marked trade.credited.member trade.currency isNot 0
+
+-- any is short: then some taken trade debits it, for no balance is below zero
+unfoldable pub anyShort : Holdings → List Marked → Bool
+anyShort h marked = some (λ m. m .0 && debitsShort h marked (m .1)) marked
+
+-- drop the last taken trade in list order that passes a test
+unfoldable pub dropLast : (Item → Bool) → List Marked → List Marked
+dropLast test [] = []
+dropLast test (m ∷ rest) =
+    let later = m ∷ dropLast test rest in
+    if some (λ l. l .0 && test (l .1)) rest then later
+    else if m .0 && test (m .1) then (false, m .1) ∷ rest
+    else m ∷ rest
+
+-- While any is short, drop the last taken trade in list order that debits a short one: each round drops one
+unfoldable pub rounds : ℕ → Holdings → List Marked → List Marked
+rounds zero h marked = marked
+rounds (suc more) h marked =
+    let next = rounds more h (dropLast (debitsShort h marked) marked) in
+    if anyShort h marked then next else marked
+
+-- so as many rounds as there are items are enough
+unfoldable pub settlingOf : (day : ℕ) → Holdings → List Item → List Marked
+settlingOf day h waiting = rounds (length waiting) h (taken day waiting)
+
+unfoldable pub settling : Ledger → List Marked
+settling book = settlingOf book.day.number book.holdings book.waiting
+
+-- the items with a mark, and those without, in list order
+unfoldable pub withMark : List Marked → List Item
+withMark marked = map (λ m. m .1) (keep (λ m. m .0) marked)
+
+unfoldable pub withoutMark : List Marked → List Item
+withoutMark marked = map (λ m. m .1) (keep (λ m. not (m .0)) marked)
+
+-- each settled trade's four rows: shares, then cash.
+unfoldable pub legs : List Item → List Movement
+legs [] = []
+legs (trade ∷ rest) =
+    move (account (seller trade)) (account (buyer trade)) trade.quantity.0
+    ∷ move (cashOf trade.credited.member trade.currency) (cashOf trade.debited.member trade.currency) trade.amount.0
+    ∷ legs rest
+
+-- Settle the rest;
+unfoldable pub settled : Ledger → List Item
+settled book = withMark (settling book)
+
+-- Dropped trades are left waiting.
+unfoldable pub notSettled : Ledger → List Item
+notSettled book = withoutMark (settling book)
+
+-- trades left, one for each that a cycle drops
+unfoldable pub dropped : Ledger → ℕ
+dropped book = length (withMark (taken book.day.number book.waiting)) - length (settled book)

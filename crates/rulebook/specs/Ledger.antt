@@ -1,0 +1,107 @@
+-- The book.
+use Prim.Native.Nat.{ℕ, zero, suc, _+_, _-_, _^_}
+use mathlib.Core.Bool.{Bool, false, _&&_}
+use mathlib.Core.List.{List, [], map}
+use Rattle.rulebook.specs.Lists.{if_then_else_, _is_, some, total}
+use Rattle.rulebook.specs.declared.Party.{Party}
+use Rattle.rulebook.specs.declared.Account.{Account}
+use Rattle.rulebook.specs.declared.Day.{Day}
+use Rattle.rulebook.specs.declared.Security.{Security}
+use Rattle.rulebook.specs.declared.Item.{Item}
+
+pub record Holdings : Type 0 where
+  -- up to 32 securities with issued and outside counts, in order of admission
+  pub securities : List Security
+  -- Accounts are a map from those four to a balance: 0 where there is no account
+  pub balance : Account → ℕ
+  -- how many accounts there are, each of non-zero balance
+  pub accounts : ℕ
+  -- cash per member 1 to 64 and currency (1 USD, 2 LBP) in hundredths
+  pub cash : (member currency : ℕ) → ℕ
+
+pub record Ledger : Type 0 where
+  -- day number, day kind, cycles run today, last minute
+  pub day : Day
+  pub holdings : Holdings
+  -- a waiting list in order of arrival
+  pub waiting : List Item
+
+-- A fresh book has day 0, closed, nothing else.
+unfoldable pub fresh : Ledger
+fresh = record {
+  day = record { opened = false; number = 0; kind = 0; cycles = 0; minute = 0 };
+  holdings = record { securities = []; balance = λ account. 0; accounts = 0; cash = λ member currency. 0 };
+  waiting = [];
+}
+
+-- the book with one part replaced
+unfoldable pub putDay : Day → Ledger → Ledger
+putDay day book = record { day = day; holdings = book.holdings; waiting = book.waiting }
+
+unfoldable pub putHoldings : Holdings → Ledger → Ledger
+putHoldings holdings book = record { day = book.day; holdings = holdings; waiting = book.waiting }
+
+unfoldable pub putWaiting : List Item → Ledger → Ledger
+putWaiting waiting book = record { day = book.day; holdings = book.holdings; waiting = waiting }
+
+-- a party's account in a security
+unfoldable pub accountOf : ℕ → Party → Account
+accountOf security party = record { security = security; member = party.member; typ = party.typ; shareholder = party.shareholder }
+
+unfoldable pub sameAccount : Account → Account → Bool
+sameAccount a b = a.security is b.security && a.member is b.member && a.typ is b.typ && a.shareholder is b.shareholder
+
+-- 1 where there is an account, which has a non-zero balance
+unfoldable pub counted : ℕ → ℕ
+counted balance = if balance is 0 then 0 else 1
+
+-- the one definition that changes a balance; it keeps the number of accounts
+unfoldable pub putBalance : Account → ℕ → Holdings → Holdings
+putBalance account balance h = record {
+  securities = h.securities;
+  balance = λ other. if sameAccount account other then balance else h.balance other;
+  accounts = h.accounts + counted balance - counted (h.balance account);
+  cash = h.cash;
+}
+
+unfoldable pub putCash : (member currency amount : ℕ) → Holdings → Holdings
+putCash member currency amount h = record {
+  securities = h.securities;
+  balance = h.balance;
+  accounts = h.accounts;
+  cash = λ m c. if member is m && currency is c then amount else h.cash m c;
+}
+
+unfoldable pub putSecurities : List Security → Holdings → Holdings
+putSecurities securities h = record { securities = securities; balance = h.balance; accounts = h.accounts; cash = h.cash }
+
+unfoldable pub putOutside : (security count : ℕ) → Holdings → Holdings
+putOutside security count h = putSecurities (map (λ s. if s.code is security then changed s else s) h.securities) h
+  where
+    changed : Security → Security
+    changed s = record { code = s.code; issued = s.issued; outside = record { 0 = count } }
+
+unfoldable pub admitted : ℕ → Holdings → Bool
+admitted security h = some (λ s. s.code is security) h.securities
+
+-- the counts of a security: 0 where it is not admitted
+unfoldable pub issuedOf : ℕ → Holdings → ℕ
+issuedOf security h = total (λ s. if s.code is security then s.issued.0 else 0) h.securities
+
+unfoldable pub outsideOf : ℕ → Holdings → ℕ
+outsideOf security h = total (λ s. if s.code is security then s.outside.0 else 0) h.securities
+
+-- the sum of a figure over the numbers below n
+unfoldable pub sumBelow : ℕ → (ℕ → ℕ) → ℕ
+sumBelow zero figure = 0
+sumBelow (suc n) figure = sumBelow n figure + figure n
+
+-- a currency's total over all members
+unfoldable pub cashTotal : ℕ → Holdings → ℕ
+cashTotal currency h = sumBelow 64 (λ n. h.cash (n + 1) currency)
+
+-- Held is the sum of a security's accounts: over the members, types and shareholders that a record's fields can name.
+unfoldable pub held : ℕ → Holdings → ℕ
+held security h =
+    sumBelow (2 ^ 10) λ member. sumBelow (2 ^ 8) λ typ. sumBelow (2 ^ 30) λ shareholder.
+    h.balance (record { security = security; member = member; typ = typ; shareholder = shareholder })

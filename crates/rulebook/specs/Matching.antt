@@ -1,0 +1,59 @@
+-- Document 004, X: matching of deliver and receive instructions.
+use Prim.Native.Nat.{ℕ, _-_}
+use mathlib.Core.Bool.{Bool, true, false, _||_, _&&_}
+use mathlib.Core.List.{List, [], _∷_, _++_}
+use Rattle.rulebook.specs.Lists.{if_then_else_, _is_, _atMost_}
+use Rattle.rulebook.specs.declared.Item.{Item}
+use Rattle.rulebook.specs.declared.State.the-variants.{Pair}
+use Rattle.rulebook.specs.AccountTypes.{alike}
+use Rattle.rulebook.specs.Waiting.{isDeliver, isReceive, ownReference}
+
+-- 2,000 (USD) or 3,015,000 (LBP)
+unfoldable pub tolerance : ℕ → ℕ
+tolerance currency = if currency is 1 then 2_000 else 3_015_000
+
+-- equal in security, shareholder, days, quantity, currency, both members naming each other, both types book entry or both physical, and receive
+-- amount less deliver amount between 0 and a limit
+unfoldable pub agree : ℕ → Item → Item → Bool
+agree limit deliver receive =
+    deliver.security is receive.security
+    && deliver.debited.shareholder is receive.credited.shareholder
+    && deliver.«trade_day» is receive.«trade_day»
+    && deliver.«settlement_day» is receive.«settlement_day»
+    && deliver.quantity.0 is receive.quantity.0
+    && deliver.currency is receive.currency
+    && deliver.debited.member is receive.debited.member
+    && deliver.credited.member is receive.credited.member
+    && alike deliver.debited.typ receive.credited.typ
+    && deliver.amount.0 atMost receive.amount.0
+    && receive.amount.0 - deliver.amount.0 atMost limit
+
+-- an arriving 12 or 13 pairs with a waiting single of the other form
+unfoldable pub pairsWith : ℕ → Item → Item → Bool
+pairsWith limit arriving waits =
+    (isDeliver waits.state && isReceive arriving.state && agree limit waits arriving)
+    || (isReceive waits.state && isDeliver arriving.state && agree limit arriving waits)
+
+-- The pair takes the receiver's amount
+unfoldable pub pairOf : Item → Item → Item
+pairOf deliver receive = record {
+  security = deliver.security;
+  currency = deliver.currency;
+  debited = deliver.debited;
+  credited = receive.credited;
+  quantity = deliver.quantity;
+  amount = receive.amount;
+  «trade_day» = deliver.«trade_day»;
+  «settlement_day» = deliver.«settlement_day»;
+  state = Pair (ownReference deliver.state) (ownReference receive.state) false false;
+}
+
+-- with the first waiting single; the earlier single is removed and the pair goes last. Otherwise the single goes last.
+unfoldable pub arrive : ℕ → Item → List Item → List Item
+arrive limit arriving [] = arriving ∷ []
+arrive limit arriving (waits ∷ rest) =
+    let later = waits ∷ arrive limit arriving rest in
+    if pairsWith limit arriving waits then rest ++ (pair ∷ []) else later
+  where
+    pair : Item
+    pair = if isDeliver waits.state then pairOf waits arriving else pairOf arriving waits

@@ -1,0 +1,50 @@
+-- Movements of shares and cash, which change the holdings and are written as posting rows.
+use Prim.Native.Nat.{ℕ, _+_, _-_}
+use mathlib.Core.List.{List, [], _∷_}
+use Rattle.rulebook.specs.Ledger.{Holdings, putBalance, putCash, putOutside, outsideOf}
+use Rattle.rulebook.specs.declared.Account.{Account}
+
+-- between what shares and cash move
+pub data Place : Type 0 where
+  -- a member's account
+  account : Account → Place
+  -- type 91 of a security, its outside count, and type 90, its issued count
+  type91 : (security : ℕ) → Place
+  type90 : (security : ℕ) → Place
+  -- a member's cash in a currency, and member 0, who stands for cash that is not in the book
+  cashOf : (member currency : ℕ) → Place
+  member0 : (currency : ℕ) → Place
+
+pub record Movement : Type 0 where
+  pub from : Place
+  pub to : Place
+  pub number : ℕ
+
+abbrev pub move : Place → Place → ℕ → Movement
+move from to number = record { from = from; to = to; number = number }
+
+unfoldable pub credit : Place → ℕ → Holdings → Holdings
+credit (account a) n h = putBalance a (h.balance a + n) h
+credit (type91 security) n h = putOutside security (outsideOf security h + n) h
+credit (type90 security) n h = h
+credit (cashOf member currency) n h = putCash member currency (h.cash member currency + n) h
+credit (member0 currency) n h = h
+
+unfoldable pub debit : Place → ℕ → Holdings → Holdings
+debit (account a) n h = putBalance a (h.balance a - n) h
+debit (type91 security) n h = putOutside security (outsideOf security h - n) h
+debit (type90 security) n h = h
+debit (cashOf member currency) n h = putCash member currency (h.cash member currency - n) h
+debit (member0 currency) n h = h
+
+unfoldable pub credits : List Movement → Holdings → Holdings
+credits [] h = h
+credits (m ∷ rest) h = credits rest (credit m.to m.number h)
+
+unfoldable pub debits : List Movement → Holdings → Holdings
+debits [] h = h
+debits (m ∷ rest) h = debits rest (debit m.from m.number h)
+
+-- movements booked together: all credits, then all debits, so that what one brings another may take
+unfoldable pub booked : List Movement → Holdings → Holdings
+booked movements h = debits movements (credits movements h)

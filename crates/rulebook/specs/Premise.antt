@@ -1,0 +1,170 @@
+-- What the fresh book is and every call keeps: the one premise that a call may have.
+use Prim.Native.Nat.{ℕ, _+_, _≤_, _<_, _^_}
+use mathlib.Core.Bool.{Bool, true, false, _||_}
+use mathlib.Core.List.{List, [], _∷_}
+use mathlib.Core.Path.{_≡_}
+use lib.ListN.{length}
+use Rattle.rulebook.specs.Lists.{if_then_else_, _is_, total}
+use Rattle.rulebook.specs.AccountTypes.{free, alike, pledgedOrBlocked}
+use Rattle.rulebook.specs.Ledger.{Holdings, Ledger, accountOf, sameAccount, counted, admitted, issuedOf, outsideOf, sumBelow, cashTotal, held}
+use Rattle.rulebook.specs.declared.Day.{Day}
+use Rattle.rulebook.specs.declared.Account.{Account}
+use Rattle.rulebook.specs.Windows.{cycleMinutes, officeEnd}
+use Rattle.rulebook.specs.Waiting.{sentBy, bothMarked}
+use Rattle.rulebook.specs.declared.Party.{Party}
+use Rattle.rulebook.specs.declared.Security.{Security}
+use Rattle.rulebook.specs.declared.Item.{Item}
+use Rattle.rulebook.specs.declared.State.{State}
+use Rattle.rulebook.specs.declared.State.the-variants.{Single, Pair, Trade}
+
+-- each element of a list is such
+abbrev pub Each : {A : Type 0} → (A → Type 0) → List A → Type 0
+Each P [] = Unit {0}
+Each P (x ∷ rest) = P x × Each P rest
+
+-- 1. at most 32 securities, at most 64 items, accounts plus items at most 256
+pub record Sizes (b : Ledger) : Type 0 where
+  pub securities : length b.holdings.securities ≤ 32
+  pub items : length b.waiting ≤ 64
+  pub accounts : b.holdings.accounts + length b.waiting ≤ 256
+
+-- 2. how many accounts have a balance, over all that a record's fields can name
+unfoldable pub accountCount : Holdings → ℕ
+accountCount h =
+    sumBelow (2 ^ 14) λ security. sumBelow (2 ^ 10) λ member. sumBelow (2 ^ 8) λ typ. sumBelow (2 ^ 30) λ shareholder.
+    counted (h.balance (record { security = security; member = member; typ = typ; shareholder = shareholder }))
+
+-- 3. how many securities have a code, and an admitted security
+abbrev pub withCode : ℕ → List Security → ℕ
+withCode code securities = total (λ s. if s.code is code then 1 else 0) securities
+
+pub record SecurityFits (s : Security) : Type 0 where
+  pub code-least : 1 ≤ s.code
+  pub code : s.code < 2 ^ 14
+  pub issued-least : 1 ≤ s.issued.0
+  pub issued : s.issued.0 < 2 ^ 40
+
+-- 10, 20, 110, 120, or pledged or blocked: 11, 21, 121, 12, 22, 112, 122
+unfoldable pub accountType : ℕ → Bool
+accountType typ = free typ || pledgedOrBlocked typ
+
+-- a member and a shareholder
+pub record PartyNamed (p : Party) : Type 0 where
+  pub member-least : 1 ≤ p.member
+  pub member : p.member ≤ 64
+  pub shareholder-least : 1 ≤ p.shareholder
+  pub shareholder : p.shareholder < 2 ^ 30
+
+-- an account that can have a balance
+pub record AccountFits (h : Holdings) (a : Account) : Type 0 where
+  pub security : admitted a.security h ≡ true
+  pub member-least : 1 ≤ a.member
+  pub member : a.member ≤ 64
+  pub typ : accountType a.typ ≡ true
+  pub shareholder-least : 1 ≤ a.shareholder
+  pub shareholder : a.shareholder < 2 ^ 30
+
+-- 4. a member and a currency that can have cash
+pub record CashFits (member currency : ℕ) : Type 0 where
+  pub member-least : 1 ≤ member
+  pub member-most : member ≤ 64
+  pub currency-least : 1 ≤ currency
+  pub currency-most : currency ≤ 2
+
+-- 5. a waiting item, by its state; today is the day that is open, or that opens next
+
+pub record ReferenceFits (reference : ℕ) : Type 0 where
+  pub least : 1 ≤ reference
+  pub most : reference < 2 ^ 32
+
+pub record SingleFits (today settlementDay : ℕ) (debited credited : Party) (delivers : Bool) (reference : ℕ) : Type 0 where
+  pub named : ReferenceFits reference
+  -- its own side free and its other side's type 0
+  pub own : (if delivers then free debited.typ else free credited.typ) ≡ true
+  pub other : (if delivers then credited.typ else debited.typ) ≡ 0
+  pub shareholders : debited.shareholder ≡ credited.shareholder
+  pub members : (debited.member is credited.member) ≡ false
+  -- not overdue
+  pub due : today ≤ settlementDay
+
+pub record PairFits (today settlementDay : ℕ) (debited credited : Party) (deliver receive : ℕ) : Type 0 where
+  pub deliver-named : ReferenceFits deliver
+  pub receive-named : ReferenceFits receive
+  -- both sides free, both book entry or both physical
+  pub types : alike debited.typ credited.typ ≡ true
+  pub shareholders : debited.shareholder ≡ credited.shareholder
+  pub members : (debited.member is credited.member) ≡ false
+  -- not older than settlement day + 10
+  pub due : today ≤ settlementDay + 10
+
+pub record TradeFits (today settlementDay security : ℕ) (debited credited : Party) (reference : ℕ) : Type 0 where
+  pub named : ReferenceFits reference
+  pub types : alike debited.typ credited.typ ≡ true
+  -- not on one account
+  pub apart : sameAccount (accountOf security debited) (accountOf security credited) ≡ false
+  -- not overdue
+  pub due : today ≤ settlementDay
+
+abbrev pub StateFits : (today settlementDay security : ℕ) (debited credited : Party) → State → Type 0
+StateFits today settlementDay security debited credited (Single delivers reference) = SingleFits today settlementDay debited credited delivers reference
+StateFits today settlementDay security debited credited (Pair deliver receive dm rm) = PairFits today settlementDay debited credited deliver receive
+StateFits today settlementDay security debited credited (Trade reference) = TradeFits today settlementDay security debited credited reference
+
+pub record ItemFits (number today : ℕ) (h : Holdings) (i : Item) : Type 0 where
+  pub security : admitted i.security h ≡ true
+  pub security-least : 1 ≤ i.security
+  pub security-most : i.security < 2 ^ 14
+  pub currency-least : 1 ≤ i.currency
+  pub currency-most : i.currency ≤ 2
+  pub debited : PartyNamed i.debited
+  pub credited : PartyNamed i.credited
+  pub quantity-least : 1 ≤ i.quantity.0
+  pub quantity : i.quantity.0 < 2 ^ 40
+  pub amount-least : 1 ≤ i.amount.0
+  pub amount : i.amount.0 < 2 ^ 40
+  -- traded on a day up to the last that opened, to settle on that day or later, at most 20 days from it
+  pub traded-least : 1 ≤ i.«trade_day»
+  pub «trade_day» : i.«trade_day» ≤ number
+  pub settles-least : i.«trade_day» ≤ i.«settlement_day»
+  pub «settlement_day» : i.«settlement_day» ≤ number + 20
+  pub state : StateFits today i.«settlement_day» i.security i.debited i.credited i.state
+
+-- the day that is open, or that opens next
+abbrev pub today : Day → ℕ
+today day = if day.opened then day.number else day.number + 1
+
+-- 6. how many items wait under a sender's reference
+abbrev pub sent : (sender reference : ℕ) → List Item → ℕ
+sent sender reference items = total (λ item. if sentBy sender reference item then 1 else 0) items
+
+-- 7. the day; kind and cycles stay after close
+pub record DayFits (d : Day) : Type 0 where
+  pub number : d.number ≤ 60_000
+  pub kind : d.kind ≤ 2
+  pub cycles : d.cycles ≤ length (cycleMinutes d.kind)
+  pub minute : d.minute ≤ 1439
+  -- while it is open
+  pub number-least : d.opened ≡ true → 1 ≤ d.number
+  pub kind-least : d.opened ≡ true → 1 ≤ d.kind
+  pub office : d.opened ≡ true → d.minute ≤ officeEnd d.kind
+
+pub record Premise (b : Ledger) : Type 0 where
+  pub sizes : Sizes b
+  -- the number of accounts is the number of those with a balance
+  pub counted : b.holdings.accounts ≡ accountCount b.holdings
+  -- no two securities have one code
+  pub codes : (code : ℕ) → withCode code b.holdings.securities ≤ 1
+  pub securities : Each SecurityFits b.holdings.securities
+  -- held + outside = issued
+  pub issue : (security : ℕ) → held security b.holdings + outsideOf security b.holdings ≡ issuedOf security b.holdings
+  -- what has a balance is an account
+  pub accounts : (a : Account) → 1 ≤ b.holdings.balance a → AccountFits b.holdings a
+  -- a currency's total over all members, and who has cash
+  pub ceiling : (currency : ℕ) → cashTotal currency b.holdings ≤ 1_000_000_000_000_000
+  pub cash : (member currency : ℕ) → 1 ≤ b.holdings.cash member currency → CashFits member currency
+  pub items : Each (ItemFits b.day.number (today b.day) b.holdings) b.waiting
+  -- no two items wait under one sender's reference
+  pub references : (sender reference : ℕ) → sent sender reference b.waiting ≤ 1
+  -- no pair waits with both halves marked
+  pub halves : Each (λ item. bothMarked item.state ≡ false) b.waiting
+  pub day : DayFits b.day

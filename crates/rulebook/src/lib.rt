@@ -1,0 +1,111 @@
+// The types of the depository ledger. The definitions in specs/ speak of these under specs.declared.
+
+// A count of shares.
+pub struct Shares(pub u64);
+
+// An amount of cash, in hundredths.
+pub struct Cents(pub u64);
+
+// One side of an order: a member, an account type and a shareholder. (`type` is a word of the language.)
+pub struct Party {
+    pub member: u64,
+    pub typ: u64,
+    pub shareholder: u64,
+}
+
+// An account: a party in a security.
+pub struct Account {
+    pub security: u64,
+    pub member: u64,
+    pub typ: u64,
+    pub shareholder: u64,
+}
+
+// A record's fifteen fields.
+pub struct Order {
+    pub form: u64,
+    pub minute: u64,
+    pub security: u64,
+    pub currency: u64,
+    pub debited: Party,
+    pub credited: Party,
+    pub quantity: Shares,
+    pub amount: Cents,
+    pub trade_day: u64,
+    pub settlement_day: u64,
+    pub reference: u64,
+}
+
+// What the record reader answers.
+pub enum Read {
+    Order(Order),
+    Refused(u64),
+}
+
+// What the record writer answers.
+pub enum Written {
+    Record,
+    Refused(u64),
+}
+
+// What an accepted call answers with: rows; sides settled, cancelled, deleted, suspended; trades left.
+pub struct Counts {
+    pub rows: u64,
+    pub settled: u64,
+    pub cancelled: u64,
+    pub deleted: u64,
+    pub suspended: u64,
+    pub left: u64,
+}
+
+// What a call answers.
+pub enum Answer {
+    Accepted(Counts),
+    Refused(u64),
+}
+
+// The day: its number (a count of business days), whether it is open, its kind (1 Monday to Thursday, 2 Friday), cycles run today, last minute.
+pub struct Day {
+    pub number: u64,
+    pub opened: bool,
+    pub kind: u64,
+    pub cycles: u64,
+    pub minute: u64,
+}
+
+// An admitted security.
+pub struct Security {
+    pub code: u64,
+    pub issued: Shares,
+    pub outside: Shares,
+}
+
+// The state of a waiting item: a single instruction (a deliver, or else a receive), a matched pair, or an exchange trade.
+pub enum State {
+    Single {
+        delivers: bool,
+        reference: u64,
+    },
+    Pair {
+        deliver_reference: u64,
+        receive_reference: u64,
+        deliver_marked: bool,
+        receive_marked: bool,
+    },
+    Trade {
+        reference: u64,
+    },
+}
+
+// A waiting item.
+pub struct Item {
+    pub security: u64,
+    pub currency: u64,
+    pub debited: Party,
+    pub credited: Party,
+    pub quantity: Shares,
+    pub amount: Cents,
+    pub trade_day: u64,
+    pub settlement_day: u64,
+    pub state: State,
+}
