@@ -121,6 +121,12 @@ cycle-enough b (cashOf m c) =
     omega (arith, enough-cash b.holdings (settling b) (settling-done b.day.number b.holdings b.waiting) m c, cash-legs m c (settling b) .0, cash-legs m c (settling b) .1)
 cycle-enough b (member0 c) = omega (arith, none-taken (member0 c) (λ q. refl) (legs (settled b)))
 
+-- so no debit of a settlement is cut off at 0: each account and each member's cash changes by exactly what the settled trades bring and take
+pub cycle-exact :
+    (b : Ledger) (p : Place)
+    → kept p (booked (legs (settled b)) b.holdings) + taken p (legs (settled b)) ≡ kept p b.holdings + brought p (legs (settled b))
+cycle-exact b = booked-exact (legs (settled b)) b.holdings (legs-known b.holdings (settled b)) (cycle-enough b)
+
 pub cycle-steps : Steps 16 cycle
 unfolding cycle outcome counts putSecurities
 cycle-steps b o e s a =
@@ -128,7 +134,7 @@ cycle-steps b o e s a =
     let i = settled-fits ItemSound b s.items in
     record {
       moves = legs ts;
-      changes = booked-exact (legs ts) b.holdings (legs-known b.holdings ts) (cycle-enough b);
+      changes = cycle-exact b;
       proper = legs-proper ts i;
       rows = λ _. refl;
       notices = λ z. absurd (omega (arith, z));

@@ -15,7 +15,7 @@ use Rattle.rulebook.specs.Forms.{effect}
 use Rattle.rulebook.specs.Refusals.{overCeiling, refusals}
 use Rattle.rulebook.specs.Call.{putMinute}
 use Rattle.rulebook.specs.Calls.{Call, resultOf, bookAfter, kept}
-use Rattle.rulebook.specs.Premise.{Sizes, Premise, today}
+use Rattle.rulebook.specs.Premise.{Sizes, accountCount, Premise, today}
 use Rattle.rulebook.proofs.ByCall.{result-step}
 use Rattle.rulebook.proofs.Issued.{effect-keeps, none-issued}
 use Rattle.rulebook.proofs.CashSums.{cash-exact}
@@ -126,3 +126,7 @@ pub calls-premise : (b : Ledger) → Premise b → (calls : List Call) → Premi
 unfolding bookAfter
 calls-premise b p [] = p
 calls-premise b p (c ∷ rest) = calls-premise (resultOf b c .book) (call-premise b c p) rest
+
+-- so the number of accounts that a book carries is the number of those with a balance, in every book that calls lead to
+pub accounts-counted : (calls : List Call) → bookAfter fresh calls .holdings .accounts ≡ accountCount (bookAfter fresh calls .holdings)
+accounts-counted calls = calls-premise fresh fresh-premise calls .counted

@@ -54,7 +54,7 @@ fields-fit octets = record {
   reference = field-fits octets _ 32;
 }
 
-read-is : (bytes : List ℕ) (o : Order) → readOf bytes ≡ Read.Order o → orderOf (fieldsIn bytes) ≡ o
+pub read-is : (bytes : List ℕ) (o : Order) → readOf bytes ≡ Read.Order o → orderOf (fieldsIn bytes) ≡ o
 unfolding readOf
 read-is bytes o e = go (readRefusal bytes is 0) (readRefusal bytes) e
   where
@@ -109,7 +109,7 @@ pub record Ranges (o : Order) : Type 0 where
   pub «settlement_day» : used o.form 13 ≡ true → 1 ≤ o.«settlement_day»
   pub reference : used o.form 14 ≡ true → 1 ≤ o.reference
 
-none-at : (test : ℕ → Bool) (xs : List ℕ) (i : ℕ) → i < length xs → some test xs ≡ false → test (getD xs i 0) ≡ false
+pub none-at : (test : ℕ → Bool) (xs : List ℕ) (i : ℕ) → i < length xs → some test xs ≡ false → test (getD xs i 0) ≡ false
 none-at test [] i l e = absurd (omega arith)
 none-at test (x ∷ xs) zero l e = go (test x) (some test xs) e
   where
@@ -131,7 +131,7 @@ in-range true a b n e t = go (leb a n) (leb n b) refl refl (not-false _ e)
     go false y p q r = absurd (false≢true r)
 in-range false a b n e t = absurd (false≢true t)
 
-is-zero : (u : Bool) (n : ℕ) → (not u && n isNot 0) ≡ false → u ≡ false → n ≡ 0
+pub is-zero : (u : Bool) (n : ℕ) → (not u && n isNot 0) ≡ false → u ≡ false → n ≡ 0
 is-zero false n e t = eqb-true n 0 (not-false _ e)
 is-zero true n e t = absurd (false≢true (sym t))
 
@@ -175,10 +175,18 @@ read-passes bytes o e = go (readRefusal bytes is 0) refl e
     go true p q = eqb-true _ 0 p
     go false p q = let z : Read.Refused (readRefusal bytes) ≡ Read.Order o = simp p at q in cc
 
-pub read-ranges : (bytes : List ℕ) (o : Order) → readOf bytes ≡ Read.Order o → Ranges o
+-- where no test refuses a record's fields
+pub record Passed (fields : List ℕ) : Type 0 where
+  pub form : noForm fields ≡ false
+  pub unused : unusedNotZero fields ≡ false
+  pub ranges : usedOutOfRange fields ≡ false
+
+pub read-tests : (bytes : List ℕ) (o : Order) → readOf bytes ≡ Read.Order o → (length bytes ≡ 40) × Passed (fieldsIn bytes)
 unfolding readRefusal
-read-ranges bytes o e =
+read-tests bytes o e =
     let fields = fieldsIn bytes in
-    let checks : List (ℕ × Bool) = (2, length bytes isNot 40) ∷ (3, noForm fields) ∷ (4, unusedNotZero fields) ∷ (5, usedOutOfRange fields) ∷ [] in
-    let n = none-applies checks (omega arith) (read-passes bytes o e) in
-    subst Ranges (read-is bytes o e) (fields-range fields (n .1 .0) (n .1 .1 .0) (n .1 .1 .1 .0))
+    let n = none-applies ((2, length bytes isNot 40) ∷ (3, noForm fields) ∷ (4, unusedNotZero fields) ∷ (5, usedOutOfRange fields) ∷ []) (omega arith) (read-passes bytes o e) in
+    (eqb-true (length bytes) 40 (not-false _ (n .0)), record { form = n .1 .0; unused = n .1 .1 .0; ranges = n .1 .1 .1 .0 })
+
+pub read-ranges : (bytes : List ℕ) (o : Order) → readOf bytes ≡ Read.Order o → Ranges o
+read-ranges bytes o e = let p = read-tests bytes o e .1 in subst Ranges (read-is bytes o e) (fields-range (fieldsIn bytes) (p .form) (p .unused) (p .ranges))

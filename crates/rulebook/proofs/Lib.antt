@@ -11,6 +11,7 @@ pub mod Types
 -- movements: what they do to each place, and their rows
 pub mod Places
 pub mod Reading
+pub mod RoundTrips
 pub mod CashSums
 pub mod HeldSums
 -- calls: the invariant, each form's step, lists of calls

@@ -223,3 +223,7 @@ zero-stays e b o s = same-stays b (openDay b o .after) refl refl s
 pub never-grows : (b : Ledger) (o : Order) → (o.form oneOf neverGrows) ≡ true → Sizes b → noSpace b o ≡ false
 unfolding effect
 never-grows b o e s = sizes-space b o (by-form Stays forms-stay silent-stays zero-stays o.form e b o s)
+
+-- A cycle never gets 18
+pub cycle-space : (b : Ledger) (o : Order) → o.form ≡ 16 → Sizes b → noSpace b o ≡ false
+cycle-space b o e = never-grows b o (simp e)
