@@ -27,7 +27,7 @@ use Rattle.rulebook.proofs.ListTotals.{total-append}
 use Rattle.rulebook.proofs.Securities.{count, outs, known, unknown, new-count}
 use Rattle.rulebook.proofs.Places.{brought, Known, Bears, booked-codes, booked-exact, one-enough}
 use Rattle.rulebook.proofs.Reading.{Proper}
-use Rattle.rulebook.proofs.Types.{Account·type, Quiet, deposit-types, withdraw-types, transfer-types, pledge-types, release-types, block-types, unblock-types}
+use Rattle.rulebook.proofs.Types.{Account·type, Quiet, pledged-account, deposit-types, withdraw-types, transfer-types, pledge-types, release-types, block-types, unblock-types}
 use Rattle.rulebook.proofs.Sound.{ItemSound, Sound, Accepted, sharesAt, cashAt, putInAt, releasedAt, writesAt, Figures, Step}
 
 -- a form does such a step
@@ -286,22 +286,22 @@ transfer-steps =
 
 pub pledge-steps : Steps 6 transfer
 pledge-steps =
-    shifts 6 refl refl (refl, (refl, (refl, (refl, (refl, tt))))) (λ o w. let t = pledge-types o.debited.typ o.credited.typ w in (t .0 .1, t .1))
+    shifts 6 refl refl (refl, (refl, (refl, (refl, (refl, tt))))) (λ o w. let t = pledge-types o.debited.typ o.credited.typ w in (t .0 .1, pledged-account o.credited.typ (t .1)))
     (λ o w a q. (debited-apart o (pledge-types o.debited.typ o.credited.typ w .0) a q, refl))
 
 pub release-steps : Steps 7 transfer
 release-steps =
-    shifts 7 refl refl (refl, (refl, (refl, (refl, (refl, tt))))) (λ o w. let t = release-types o.debited.typ o.credited.typ w in (t .1, t .0 .1))
+    shifts 7 refl refl (refl, (refl, (refl, (refl, (refl, tt))))) (λ o w. let t = release-types o.debited.typ o.credited.typ w in (pledged-account o.debited.typ (t .1), t .0 .1))
     (λ o w a q. (refl, credited-apart o (release-types o.debited.typ o.credited.typ w .0) a q))
 
 pub block-steps : Steps 8 transfer
 block-steps =
-    shifts 8 refl refl (refl, (refl, (refl, (refl, (refl, tt))))) (λ o w. let t = block-types o.debited.typ o.credited.typ w in (t .0 .1, t .1))
+    shifts 8 refl refl (refl, (refl, (refl, (refl, (refl, tt))))) (λ o w. let t = block-types o.debited.typ o.credited.typ w in (t .0 .1, pledged-account o.credited.typ (t .1)))
     (λ o w a q. (debited-apart o (block-types o.debited.typ o.credited.typ w .0) a q, refl))
 
 pub unblock-steps : Steps 9 transfer
 unblock-steps =
-    shifts 9 refl refl (refl, (refl, (refl, (refl, (refl, tt))))) (λ o w. let t = unblock-types o.debited.typ o.credited.typ w in (t .1, t .0 .1))
+    shifts 9 refl refl (refl, (refl, (refl, (refl, (refl, tt))))) (λ o w. let t = unblock-types o.debited.typ o.credited.typ w in (pledged-account o.debited.typ (t .1), t .0 .1))
     (λ o w a q. (refl, credited-apart o (unblock-types o.debited.typ o.credited.typ w .0) a q))
 
 -- forms 10 and 11

@@ -79,7 +79,7 @@ alike-quiet s t e =
 
 -- from a free account to a pledged or blocked one
 abbrev pub PutIn : ℕ → ℕ → Type 0
-PutIn s t = Quiet s × Account·type t
+PutIn s t = Quiet s × (pledgedOrBlocked t ≡ true)
 
 pledge-pair : (s t : ℕ) → listed pledgePairs s t ≡ true → PutIn s t
 unfolding pledgedOrBlocked pledgePairs
@@ -89,6 +89,11 @@ block-pair : (s t : ℕ) → listed blockPairs s t ≡ true → PutIn s t
 unfolding pledgedOrBlocked blockPairs
 block-pair s t e =
     listed-of PutIn blockPairs s t (((refl, refl), refl), (((refl, refl), refl), (((refl, refl), refl), (((refl, refl), refl), tt)))) e
+
+pub pledged-account : (t : ℕ) → pledgedOrBlocked t ≡ true → Account·type t
+unfolding pledgedOrBlocked
+pledged-account t e =
+    one-of Account·type (11 ∷ 21 ∷ 121 ∷ 12 ∷ 22 ∷ 112 ∷ 122 ∷ []) t (refl, (refl, (refl, (refl, (refl, (refl, (refl, tt))))))) e
 
 -- what passes test 11: at each form one table is asked
 
