@@ -13,7 +13,8 @@ use Rattle.rulebook.specs.Lists.{if_then_else_, _is_, _below_, _oneOf_, 
 use Rattle.rulebook.specs.Record.{readOf}
 use Rattle.rulebook.specs.Ledger.{Ledger, fresh, outsideOf, putDay}
 use Rattle.rulebook.specs.Movements.{Place, account, type91, type90, cashOf, member0}
-use Rattle.rulebook.specs.Rows.{Posting, postingRows, rowsBytes}
+use Rattle.rulebook.specs.Rows.{postingRows, rowsBytes}
+use Rattle.rulebook.specs.declared.Posting.{Posting}
 use Rattle.rulebook.specs.Forms.{Outcome, effect}
 use Rattle.rulebook.specs.Refusals.{refusals}
 use Rattle.rulebook.specs.Call.{Result, refused, putMinute, accepted, orderCall, readCall, callOf}

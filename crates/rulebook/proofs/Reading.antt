@@ -15,7 +15,8 @@ use Rattle.bits.proofs.Packing.{values-back}
 use Rattle.rulebook.specs.Ledger.{sameAccount}
 use Rattle.rulebook.specs.declared.Account.{Account}
 use Rattle.rulebook.specs.Movements.{Place, account, type91, type90, cashOf, member0, Movement}
-use Rattle.rulebook.specs.Rows.{Posting, postingWidths, postingBytes, postingIn, postingOf, postingRows, rowBytes, rowsBytes}
+use Rattle.rulebook.specs.Rows.{postingWidths, postingBytes, postingIn, postingOf, postingRows, rowBytes, rowsBytes}
+use Rattle.rulebook.specs.declared.Posting.{Posting}
 use Rattle.rulebook.specs.Calls.{firstRows, names}
 use Rattle.rulebook.proofs.Places.{isAt, brought, taken}
 
