@@ -27,7 +27,7 @@ module _ (b : Ledger) (o : Order) where
   abbrev to : Account
   to = accountOf o.security o.credited
 
-  shift-apart : (k : ℕ) → k ≤ 4 → o.form ≡ 5 + k → wrongPair b o ≡ false → wrongParties b o ≡ false → sameAccount to from ≡ false
+  shift-apart : (k : ℕ) → k ≤ 4 → o.form ≡ 5 + k → wrongPair o ≡ false → wrongParties o ≡ false → sameAccount to from ≡ false
   unfolding accountOf wrongParties
   shift-apart zero l e t w = same-sym to from ∙ go (o.debited.shareholder isNot o.credited.shareholder) (sameAccount from to) (simp e at w)
     where
@@ -40,5 +40,5 @@ module _ (b : Ledger) (o : Order) where
   shift-apart (suc (suc (suc (suc zero)))) l e t w = types-apart to from (unblock-apart o.debited.typ o.credited.typ (right-types 9 b o e t))
   shift-apart (suc (suc (suc (suc (suc k))))) l e t w = absurd (omega arith)
 
-  pub sides-apart : 5 ≤ o.form → o.form ≤ 9 → wrongPair b o ≡ false → wrongParties b o ≡ false → sameAccount to from ≡ false
+  pub sides-apart : 5 ≤ o.form → o.form ≤ 9 → wrongPair o ≡ false → wrongParties o ≡ false → sameAccount to from ≡ false
   sides-apart l u = shift-apart (o.form - 5) (omega arith) (omega arith)

@@ -67,7 +67,7 @@ either-end : (t : Bool) (p q : ℕ × ℕ) (e : ℕ) → p .1 ≤ e → q .1 ≤
 either-end true p q e l m = l
 either-end false p q e l m = m
 
-window-end : (b : Ledger) (o : Order) → o.form ≤ 16 → windowOf b o .1 ≤ officeEnd b.day.kind
+window-end : (b : Ledger) (o : Order) → o.form ≤ 16 → windowOf b.day o .1 ≤ officeEnd b.day.kind
 unfolding windowOf
 window-end b o l =
     let k = b.day.kind in

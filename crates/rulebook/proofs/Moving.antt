@@ -108,7 +108,7 @@ moved n b o from to k w kf kt l pf pt u f s =
 -- what an accepted order says, by form
 
 pub is-admitted :
-    (n : ℕ) (b : Ledger) (o : Order) → o.form ≡ n → (within 3 9 n || within 12 14 n) ≡ true → (n is 2) ≡ false → wrongSecurity b o ≡ false
+    (n : ℕ) (b : Ledger) (o : Order) → o.form ≡ n → (within 3 9 n || within 12 14 n) ≡ true → (n is 2) ≡ false → wrongSecurity b.holdings o ≡ false
     → some (λ x. x.code is o.security) b.holdings.securities ≡ true
 unfolding wrongSecurity admitted
 is-admitted n b o e t t₂ w = go (some (λ x. x.code is o.security) b.holdings.securities) (simp (e, t, t₂) at w)
@@ -117,12 +117,12 @@ is-admitted n b o e t t₂ w = go (some (λ x. x.code is o.security) b.holdings.
     go true p = refl
     go false p = cc
 
-not-admitted : (b : Ledger) (o : Order) → o.form ≡ 2 → wrongSecurity b o ≡ false → some (λ x. x.code is o.security) b.holdings.securities ≡ false
+not-admitted : (b : Ledger) (o : Order) → o.form ≡ 2 → wrongSecurity b.holdings o ≡ false → some (λ x. x.code is o.security) b.holdings.securities ≡ false
 unfolding wrongSecurity admitted
 not-admitted b o e w = simp e at w
 
 one-code :
-    (n : ℕ) (b : Ledger) (o : Order) → o.form ≡ n → (within 3 9 n || within 12 14 n) ≡ true → (n is 2) ≡ false → Sound b → wrongSecurity b o ≡ false
+    (n : ℕ) (b : Ledger) (o : Order) → o.form ≡ n → (within 3 9 n || within 12 14 n) ≡ true → (n is 2) ≡ false → Sound b → wrongSecurity b.holdings o ≡ false
     → count o.security b.holdings.securities ≡ 1
 one-code n b o e t t₂ s w = omega (arith, known o.security b.holdings.securities (is-admitted n b o e t t₂ w), s.codes o.security)
 
@@ -133,7 +133,7 @@ none-of false false z e = (refl, refl, e)
 
 -- test 16, its three parts
 little-parts :
-    (b : Ledger) (o : Order) → tooLittle b o ≡ false
+    (b : Ledger) (o : Order) → tooLittle b.holdings o ≡ false
     → ((o.form is 3 && outsideOf o.security b.holdings below o.quantity.0) ≡ false)
     × ((within 4 9 o.form && b.holdings.balance (accountOf o.security o.debited) below o.quantity.0) ≡ false)
     × ((o.form is 11 && b.holdings.cash o.debited.member o.currency below o.amount.0) ≡ false)
@@ -144,10 +144,10 @@ little-parts b o e =
     (o.form is 11 && b.holdings.cash o.debited.member o.currency below o.amount.0)
     e
 
-debit-enough : (b : Ledger) (o : Order) → tooLittle b o ≡ false → within 4 9 o.form ≡ true → o.quantity.0 ≤ b.holdings.balance (accountOf o.security o.debited)
+debit-enough : (b : Ledger) (o : Order) → tooLittle b.holdings o ≡ false → within 4 9 o.form ≡ true → o.quantity.0 ≤ b.holdings.balance (accountOf o.security o.debited)
 debit-enough b o e w = ltb-false _ _ (simp w at (little-parts b o e .1))
 
-pub right-types : (n : ℕ) (b : Ledger) (o : Order) → o.form ≡ n → wrongPair b o ≡ false → wrongTypes n o.debited.typ o.credited.typ ≡ false
+pub right-types : (n : ℕ) (b : Ledger) (o : Order) → o.form ≡ n → wrongPair o ≡ false → wrongTypes n o.debited.typ o.credited.typ ≡ false
 unfolding wrongPair
 right-types n b o e w = subst (λ (k : ℕ). wrongTypes k o.debited.typ o.credited.typ ≡ false) e w
 

@@ -53,18 +53,18 @@ pub record Sound (b : Ledger) : Type 0 where
 pub record Accepted (b : Ledger) (o : Order) : Type 0 where
   pub fits : OrderFits o
   pub ranges : Ranges o
-  pub right-day : wrongDay b o ≡ false
-  pub cycle : wrongCycle b o ≡ false
-  pub back : goesBack b o ≡ false
-  pub window : outsideWindow b o ≡ false
-  pub security : wrongSecurity b o ≡ false
-  pub types : wrongPair b o ≡ false
-  pub parties : wrongParties b o ≡ false
-  pub days : wrongDays b o ≡ false
-  pub reference : wrongReference b o ≡ false
-  pub cancel : wrongCancel b o ≡ false
-  pub little : tooLittle b o ≡ false
-  pub ceiling : overCeiling b o ≡ false
+  pub right-day : wrongDay b.day o ≡ false
+  pub cycle : wrongCycle b.day o ≡ false
+  pub back : goesBack b.day o ≡ false
+  pub window : outsideWindow b.day o ≡ false
+  pub security : wrongSecurity b.holdings o ≡ false
+  pub types : wrongPair o ≡ false
+  pub parties : wrongParties o ≡ false
+  pub days : wrongDays b.day.number o ≡ false
+  pub reference : wrongReference b.waiting o ≡ false
+  pub cancel : wrongCancel b.waiting o ≡ false
+  pub little : tooLittle b.holdings o ≡ false
+  pub ceiling : overCeiling b.holdings o ≡ false
   pub space : noSpace b o ≡ false
 
 -- the figures of demand 3, by form
