@@ -1,52 +1,54 @@
--- the book's counts and sums
-pub mod ListTotals
+-- WHAT IS PROVED OF THE DEFINITIONS
+
+-- both round trips of a record
+pub mod RoundTrips
+-- demand 3, over every list of calls
+pub mod Demand3
+-- the premise: the fresh book meets it, and every call keeps it
+pub mod EveryCall
+-- WHAT THE CODE'S PROOFS CITE
+
+-- movements: what they do to each place, and what each credit and debit keeps
+pub mod Places
+pub mod Booking
+-- the cycle: nothing is short at the end; its sums fit a word
+pub mod Rounds
+pub mod CycleBounds
+-- refusal 18: the forms that never get it, and for the others a test before the call; the rows of a call
+pub mod Sizes
+pub mod Space
+pub mod RowCounts
+-- the premise as code reads it: numbers, indices, a cancel
+pub mod Bounds
+pub mod ByIndex
+pub mod Halves
+pub mod Cancelling
+-- WHAT THESE REST ON
+
+-- lists, account types, sums over accounts, securities, rows that are read back
+pub mod Lists
+pub mod Types
 pub mod Held
 pub mod Securities
--- a cycle's rounds, and what waits
-pub mod Rounds
-pub mod Fitting
--- what is known of an order
-pub mod Facts
-pub mod Types
--- movements: what they do to each place, and their rows
-pub mod Places
 pub mod Reading
-pub mod RoundTrips
-pub mod CashSums
-pub mod HeldSums
--- calls: the invariant, each form's step, lists of calls
+pub mod Sums
+-- an order that was read, and one that no test refuses
+pub mod Orders
+-- one call: every form's step
 pub mod ByCall
-pub mod Sides
-pub mod Issued
-pub mod Sound
+pub mod Step
 pub mod Moving
-pub mod Instructing
-pub mod Cycling
+pub mod Settling
 pub mod Steps
+-- the parts of demand 3
 pub mod Totals
 pub mod Posted
-pub mod Demand3
--- what calls keep true of a book: the premise of the code
-pub mod TypeFacts
-pub mod OrderFacts
-pub mod Booking
-pub mod Lengths
-pub mod Sizes
+pub mod Sides
+-- the parts of the premise
 pub mod Counting
 pub mod Owners
-pub mod SettledTrades
-pub mod Agreed
-pub mod References
 pub mod Items
-pub mod Halves
+pub mod References
 pub mod Days
 pub mod NewItems
 pub mod Keeping
-pub mod EveryCall
-pub mod Bounds
-pub mod CycleBounds
-pub mod Cancelling
-pub mod ByIndex
-pub mod RowCounts
-pub mod Apart
-pub mod Space

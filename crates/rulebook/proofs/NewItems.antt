@@ -14,11 +14,9 @@ use Rattle.rulebook.specs.Record.{D, C, all, allBut, usedFields, used}
 use Rattle.rulebook.specs.Ledger.{Ledger, admitted}
 use Rattle.rulebook.specs.Waiting.{itemOf, senderOf, sentBy}
 use Rattle.rulebook.specs.Premise.{ReferenceFits, StateFits, ItemFits, today}
-use Rattle.rulebook.proofs.Types.{both}
-use Rattle.rulebook.proofs.TypeFacts.{deliver-free, receive-free, trade-alike}
-use Rattle.rulebook.proofs.Sound.{Accepted}
-use Rattle.rulebook.proofs.Moving.{uses, is-admitted, right-types}
-use Rattle.rulebook.proofs.OrderFacts.{is-open, instruct-parties, instruct-days, trade-parties, trade-days}
+use Rattle.rulebook.proofs.Lists.{both}
+use Rattle.rulebook.proofs.Types.{deliver-free, receive-free, trade-alike}
+use Rattle.rulebook.proofs.Orders.{Accepted, uses, is-admitted, right-types, is-open, instruct-parties, instruct-days, trade-parties, trade-days}
 
 -- the fields that all three use
 abbrev Uses : ℕ → List ℕ → Type 0

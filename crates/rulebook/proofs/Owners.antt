@@ -14,7 +14,7 @@ use Rattle.rulebook.specs.Premise.{Each, withCode, SecurityFits, Account
 use Rattle.rulebook.proofs.Rounds.{same-eq}
 use Rattle.rulebook.proofs.Securities.{changed, known, unknown}
 use Rattle.rulebook.proofs.Places.{isAccount, isCash, brought, credit-balance, debit-balance, credit-cash, debit-cash, booked-codes}
-use Rattle.rulebook.proofs.Types.{both}
+use Rattle.rulebook.proofs.Lists.{both}
 use Rattle.rulebook.proofs.Booking.{booked-any}
 
 -- an admitted security stays admitted

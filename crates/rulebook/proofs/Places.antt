@@ -12,8 +12,10 @@ use Rattle.rulebook.specs.Ledger.{Holdings, sameAccount, outsideOf, putB
 use Rattle.rulebook.specs.declared.Account.{Account}
 use Rattle.rulebook.specs.Movements.{Place, account, type91, type90, cashOf, member0, Movement, move, credit, debit, credits, debits, booked}
 use Rattle.rulebook.specs.Calls.{kept}
+use Rattle.rulebook.specs.Premise.{withCode}
+use Rattle.rulebook.proofs.Lists.{both}
 use Rattle.rulebook.proofs.Rounds.{same-eq}
-use Rattle.rulebook.proofs.Securities.{count, outs, changed, count-same, outs-one, outs-other}
+use Rattle.rulebook.proofs.Securities.{outs, changed, count-same, outs-one, outs-other}
 
 -- the place is an account, the outside count of a security, or a member's cash
 
@@ -57,7 +59,7 @@ taken p ms = total (λ m. if isAt p m.from then m.number else 0) ms
 
 abbrev pub Known : Holdings → Place → Type 0
 Known h (account b) = Unit {0}
-Known h (type91 security) = count security h.securities ≡ 1
+Known h (type91 security) = withCode security h.securities ≡ 1
 Known h (type90 security) = Unit {0}
 Known h (cashOf member currency) = Unit {0}
 Known h (member0 currency) = Unit {0}
@@ -67,7 +69,7 @@ AllKnown h [] = Unit {0}
 AllKnown h (m ∷ rest) = Known h m.from × Known h m.to × AllKnown h rest
 
 abbrev SameCodes : Holdings → Holdings → Type 0
-SameCodes h k = (c : ℕ) → count c k.securities ≡ count c h.securities
+SameCodes h k = (c : ℕ) → withCode c k.securities ≡ withCode c h.securities
 
 known-same : (h k : Holdings) → SameCodes h k → (q : Place) → Known h q → Known k q
 known-same h k e (account b) n = tt
@@ -107,7 +109,7 @@ debits-codes [] h c = refl
 debits-codes (m ∷ rest) h c = debits-codes rest (debit m.from m.number h) c ∙ debit-codes m.from m.number h c
 
 -- movements change no code
-pub booked-codes : (ms : List Movement) (h : Holdings) (c : ℕ) → count c (booked ms h .securities) ≡ count c h.securities
+pub booked-codes : (ms : List Movement) (h : Holdings) (c : ℕ) → withCode c (booked ms h .securities) ≡ withCode c h.securities
 unfolding booked
 booked-codes ms h c = debits-codes ms (credits ms h) c ∙ credits-codes ms h c
 
@@ -138,7 +140,7 @@ module _ (a : Account) where
   debit-balance (cashOf member currency) n h = omega arith
   debit-balance (member0 currency) n h = omega arith
 
-put-outs : (s c v : ℕ) (xs : List Security) → count c xs ≡ 1 → outs s (map (changed c v) xs) ≡ (if c is s then v else outs s xs)
+put-outs : (s c v : ℕ) (xs : List Security) → withCode c xs ≡ 1 → outs s (map (changed c v) xs) ≡ (if c is s then v else outs s xs)
 put-outs s c v xs k = go (c is s) refl
   where
     go : (t : Bool) → (c is s) ≡ t → outs s (map (changed c v) xs) ≡ (if c is s then v else outs s xs)
@@ -172,11 +174,6 @@ debit-outs s (type91 c) n h k = go (c is s) refl (put-outs s c (outs c h.securit
 debit-outs s (type90 c) n h k = omega arith
 debit-outs s (cashOf m c) n h k = omega arith
 debit-outs s (member0 c) n h k = omega arith
-
-both : (x y : Bool) → (x && y) ≡ true → (x ≡ true) × (y ≡ true)
-both true y e = (refl, e)
-both false true e = (cc, refl)
-both false false e = (cc, cc)
 
 pub is-sym : (m n : ℕ) → (m is n) ≡ (n is m)
 is-sym m n = go (n is m) refl

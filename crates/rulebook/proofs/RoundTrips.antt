@@ -17,11 +17,8 @@ use Rattle.rulebook.specs.declared.Read.{Read}
 use Rattle.rulebook.specs.Lists.{if_then_else_, _is_, _isNot_, _below_, _oneOf_, within, first}
 use Rattle.rulebook.specs.Record.{widths, places, fieldsOf, orderOf, D, C, all, allBut, usedFields, used, least, most, noForm, unusedNotZero, usedOutOfRange, fieldsIn, readRefusal, readOf, recordOf, writeRefusal}
 use Rattle.rulebook.specs.Premise.{Each}
-use Rattle.rulebook.proofs.Facts.{none-applies, none-at, in-range, is-zero, read-is, Passed, read-tests}
-
-infixr 10 _and_
-_and_ : {A B : Type 0} → A → B → A × B
-_and_ a b = (a, b)
+use Rattle.rulebook.proofs.Lists.{_and_}
+use Rattle.rulebook.proofs.Orders.{none-applies, none-at, in-range, is-zero, read-is, Passed, read-tests}
 
 -- a field that is used is in its range, and another is 0
 in-width : (u : Bool) (a b w n : ℕ) → (u && not (within a b n)) ≡ false → (not u && n isNot 0) ≡ false → b < 2 ^ w → n < 2 ^ w

@@ -1,4 +1,4 @@
--- Custody, issue, cash and pledged accounts: what is kept is what came less what went, over any list of calls. Assumes nothing.
+-- Custody, issued counts, cash and pledged accounts: what is kept is what came less what went, over any list of calls. Assumes nothing.
 use mathlib.Core.Path.{_≡_, refl}
 use mathlib.Core.Bool.{Bool, true, false, _&&_}
 use mathlib.Core.List.{List, [], _∷_}
@@ -7,59 +7,22 @@ use native.Mathlib.Omega.{arith}
 use lib.Dec.{T}
 use Rattle.rulebook.specs.declared.Order.{Order}
 use Rattle.rulebook.specs.declared.Read.{Read}
-use Rattle.rulebook.specs.Lists.{if_then_else_, _is_, _oneOf_, total, first}
+use Rattle.rulebook.specs.Lists.{first}
 use Rattle.rulebook.specs.AccountTypes.{pledgedOrBlocked}
 use Rattle.rulebook.specs.Record.{readOf}
-use Rattle.rulebook.specs.Ledger.{Holdings, Ledger, fresh, accountOf, sameAccount, cashTotal, issuedOf, outsideOf, putDay, held}
+use Rattle.rulebook.specs.Ledger.{Holdings, Ledger, fresh, cashTotal, issuedOf, putDay, held}
 use Rattle.rulebook.specs.declared.Account.{Account}
-use Rattle.rulebook.specs.Movements.{account, type91}
+use Rattle.rulebook.specs.Movements.{account}
 use Rattle.rulebook.specs.Forms.{Outcome, effect}
 use Rattle.rulebook.specs.Refusals.{refusals}
 use Rattle.rulebook.specs.Call.{putMinute}
 use Rattle.rulebook.specs.Calls.{Call, callsOn, bookAfter, records, sharesIn, cashIn, putIn, released, kept}
-use Rattle.rulebook.proofs.ByCall.{by-call, records-are, records-sum}
-use Rattle.rulebook.proofs.Held.{sum-zero}
-use Rattle.rulebook.proofs.Facts.{read-fits, read-ranges, passed}
-use Rattle.rulebook.proofs.Issued.{issued}
-use Rattle.rulebook.proofs.CashSums.{cash-exact}
-use Rattle.rulebook.proofs.HeldSums.{none-held, held-exact}
-use Rattle.rulebook.proofs.Sound.{Sound, Accepted, sharesAt, cashAt, putInAt, releasedAt, Step}
-use Rattle.rulebook.proofs.Steps.{effect-step}
-
-pub fresh-sound : Sound fresh
-unfolding fresh
-fresh-sound = record { codes = λ c. omega arith; items = tt }
-
-pub minute-sound : (minute : ℕ) (b : Ledger) → Sound b → Sound (putMinute minute b)
-unfolding putMinute putDay
-minute-sound minute b s = record { codes = s.codes; items = s.items }
-
--- an order that was read and that no test refuses
-
-pub accepted : (b : Ledger) (o : Order) (bytes : List ℕ) → readOf bytes ≡ Read.Order o → first (refusals b o) ≡ 0 → Accepted b o
-unfolding refusals
-accepted b o bytes e z =
-    let p = passed b o z in
-    record {
-      fits = read-fits bytes o e;
-      ranges = read-ranges bytes o e;
-      right-day = p .0;
-      cycle = p .1 .0;
-      back = p .1 .1 .0;
-      window = p .1 .1 .1 .0;
-      security = p .1 .1 .1 .1 .0;
-      types = p .1 .1 .1 .1 .1 .0;
-      parties = p .1 .1 .1 .1 .1 .1 .0;
-      days = p .1 .1 .1 .1 .1 .1 .1 .0;
-      reference = p .1 .1 .1 .1 .1 .1 .1 .1 .0;
-      cancel = p .1 .1 .1 .1 .1 .1 .1 .1 .1 .0;
-      little = p .1 .1 .1 .1 .1 .1 .1 .1 .1 .1 .0;
-      ceiling = p .1 .1 .1 .1 .1 .1 .1 .1 .1 .1 .1 .0;
-      space = p .1 .1 .1 .1 .1 .1 .1 .1 .1 .1 .1 .1 .0;
-    }
-
-pub order-step : (b : Ledger) (o : Order) (bytes : List ℕ) → Sound b → readOf bytes ≡ Read.Order o → first (refusals b o) ≡ 0 → Step o.form b o (effect b o)
-order-step b o bytes s e z = effect-step b o s (accepted b o bytes e z)
+use Rattle.rulebook.specs.Premise.{Premise}
+use Rattle.rulebook.proofs.ByCall.{by-call, records-are, none-in}
+use Rattle.rulebook.proofs.Sums.{none-held, held-exact, none-paid, cash-exact}
+use Rattle.rulebook.proofs.Step.{sharesAt, cashAt, putInAt, releasedAt, Step, step-issued}
+use Rattle.rulebook.proofs.Steps.{order-step}
+use Rattle.rulebook.proofs.EveryCall.{fresh-premise, order-premise}
 
 -- what each step keeps, a list of calls keeps
 module _
@@ -68,12 +31,10 @@ module _
     (law : (b : Ledger) (o : Order) (x : Outcome) → Step o.form b o x → comes o + keeps b.holdings ≡ goes o + keeps x.after.holdings)
   where
     list-step :
-        (b : Ledger) (o : Order) (bytes : List ℕ) → Sound b → readOf bytes ≡ Read.Order o → first (refusals b o) ≡ 0
-        → Sound (putMinute o.minute (effect b o .after)) × (comes o + keeps b.holdings ≡ goes o + keeps (putMinute o.minute (effect b o .after) .holdings))
+        (b : Ledger) (o : Order) (bytes : List ℕ) → Premise b → readOf bytes ≡ Read.Order o → first (refusals b o) ≡ 0
+        → Premise (putMinute o.minute (effect b o .after)) × (comes o + keeps b.holdings ≡ goes o + keeps (putMinute o.minute (effect b o .after) .holdings))
     unfolding putMinute putDay
-    list-step b o bytes s e z =
-        let x = order-step b o bytes s e z in
-        (minute-sound o.minute (effect b o .after) x.sound, law b o (effect b o) x)
+    list-step b o bytes p e z = (unfold putMinute putDay in order-premise b o bytes p e z, law b o (effect b o) (order-step b o bytes p e z))
 
     by-step :
         keeps (fresh .holdings) ≡ 0 → (calls : List Call) → keeps (bookAfter fresh calls .holdings) + records goes (callsOn fresh calls) ≡ records comes (callsOn fresh calls)
@@ -81,7 +42,7 @@ module _
         omega (
           arith,
           z,
-          by-call Sound (λ b. keeps b.holdings) (λ o c. comes o) (λ o c. goes o) list-step fresh fresh-sound calls,
+          by-call Premise (λ b. keeps b.holdings) (λ o c. comes o) (λ o c. goes o) list-step fresh fresh-premise calls,
           records-are comes (callsOn fresh calls),
           records-are goes (callsOn fresh calls),
         )
@@ -94,32 +55,14 @@ custody s =
     (λ b o x t. omega (arith, held-exact s (t .moves) b.holdings x.after.holdings (t .proper) (t .changes), t .figures .held s))
     (none-held s)
 
-pub none-outside : (s : ℕ) → outsideOf s (fresh .holdings) ≡ 0
-unfolding outsideOf fresh
-none-outside s = refl
-
--- outside = issued − deposits + withdrawals
-outside :
-    (s : ℕ) (calls : List Call)
-    → outsideOf s (bookAfter fresh calls .holdings) + sharesIn 3 s (callsOn fresh calls) ≡ sharesIn 2 s (callsOn fresh calls) + sharesIn 4 s (callsOn fresh calls)
-unfolding sharesIn kept
-outside s calls =
-    omega (
-      arith,
-      by-step (outsideOf s) (λ o. sharesAt 2 s o.form o + sharesAt 4 s o.form o) (λ o. sharesAt 3 s o.form o)
-          (λ b o x t. omega (arith, t .changes (type91 s), t .figures .outside s))
-          (none-outside s)
-          calls,
-      records-sum (λ o. sharesAt 2 s o.form o) (λ o. sharesAt 4 s o.form o) (callsOn fresh calls),
-    )
-
--- held + outside = issued
-pub issue : (s : ℕ) (calls : List Call) → held s (bookAfter fresh calls .holdings) + outsideOf s (bookAfter fresh calls .holdings) ≡ issuedOf s (bookAfter fresh calls .holdings)
-issue s calls = omega (arith, custody s calls, outside s calls, issued s calls)
-
-pub none-paid : (c : ℕ) → cashTotal c (fresh .holdings) ≡ 0
-unfolding cashTotal fresh
-none-paid c = sum-zero 64 _ (λ n. refl)
+-- Issued, the book's count, is the quantity of the security's form 2
+pub issued : (s : ℕ) (calls : List Call) → issuedOf s (bookAfter fresh calls .holdings) ≡ sharesIn 2 s (callsOn fresh calls)
+unfolding sharesIn
+issued s calls =
+    let l =
+    by-step (issuedOf s) (λ o. sharesAt 2 s o.form o) (λ o. 0) (λ b o x t. omega (arith, step-issued o.form b o x t s)) (unfold issuedOf fresh in refl) calls
+    in
+    omega (arith, l, records-are (λ o. 0) (callsOn fresh calls), none-in (callsOn fresh calls))
 
 -- cash = pay-ins − pay-outs
 pub cash : (c : ℕ) (calls : List Call) → cashTotal c (bookAfter fresh calls .holdings) + cashIn 11 c (callsOn fresh calls) ≡ cashIn 10 c (callsOn fresh calls)

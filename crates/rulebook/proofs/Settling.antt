@@ -1,4 +1,4 @@
--- Form 16: a cycle's movements are its settled trades' legs, and nothing is short for them. Assumes nothing.
+-- Form 16: a cycle's movements are its settled trades' legs, and no debit of them is cut off at 0. Assumes nothing.
 use mathlib.Core.Path.{_≡_, refl, sym, ap, _∙_}
 use mathlib.Core.Bool.{Bool, true, false, _&&_, _||_}
 use mathlib.Core.List.{List, [], _∷_}
@@ -17,26 +17,26 @@ use Rattle.rulebook.specs.Rows.{postingRows}
 use Rattle.rulebook.specs.Cycle.{Marked, seller, buyer, over, bringsShares, takesShares, bringsCash, takesCash, sharesTaken, sharesBrought, cashTaken, cashBrought, settling, withMark, settled, legs}
 use Rattle.rulebook.specs.Forms.{outcome, counts, cycle}
 use Rattle.rulebook.specs.Calls.{kept}
-use Rattle.rulebook.proofs.Rounds.{settling-done, enough-shares, enough-cash}
-use Rattle.rulebook.specs.Premise.{Each}
-use Rattle.rulebook.proofs.Fitting.{settled-fits, notSettled-fits}
-use Rattle.rulebook.proofs.Places.{isAt, brought, taken, AllKnown, Enough, booked-codes, booked-exact}
+use Rattle.rulebook.proofs.Rounds.{settling-done, enough-shares, enough-cash, settled-fits}
+use Rattle.rulebook.specs.Premise.{Each, ItemFits, today}
+use Rattle.rulebook.proofs.Lists.{each-so}
+use Rattle.rulebook.proofs.Places.{isAt, brought, taken, AllKnown, Enough, booked-exact}
 use Rattle.rulebook.proofs.Reading.{Proper, AllProper}
-use Rattle.rulebook.proofs.CashSums.{cashInto, cashOut}
-use Rattle.rulebook.proofs.HeldSums.{heldInto, heldOut}
-use Rattle.rulebook.proofs.Sound.{PartySound, ItemSound, Sound}
-use Rattle.rulebook.proofs.Moving.{Steps, party-apart}
+use Rattle.rulebook.proofs.Sums.{heldInto, heldOut, cashInto, cashOut}
+use Rattle.rulebook.proofs.Items.{PartyPosts, ItemPosts, item-posts}
+use Rattle.rulebook.proofs.Step.{admits-none, Steps}
+use Rattle.rulebook.proofs.Moving.{party-apart}
 
 legs-known : (h : Holdings) (ts : List Item) → AllKnown h (legs ts)
 unfolding legs
 legs-known h [] = tt
 legs-known h (t ∷ rest) = (tt, tt, (tt, tt, legs-known h rest))
 
-side-proper : (security : ℕ) (p : Party) → security < 2 ^ 14 → PartySound p → Proper (account (accountOf security p))
+side-proper : (security : ℕ) (p : Party) → security < 2 ^ 14 → PartyPosts p → Proper (account (accountOf security p))
 unfolding accountOf
 side-proper security p s f = (s, omega (arith, f.most), f.typ, f.shareholder, f.quiet .1)
 
-legs-proper : (ts : List Item) → Each ItemSound ts → AllProper (legs ts)
+legs-proper : (ts : List Item) → Each ItemPosts ts → AllProper (legs ts)
 unfolding legs seller buyer
 legs-proper [] e = tt
 legs-proper (t ∷ rest) e =
@@ -52,7 +52,7 @@ legs-proper (t ∷ rest) e =
       ),
     )
 
-legs-pledged : (a : Account) → pledgedOrBlocked a.typ ≡ true → (ts : List Item) → Each ItemSound ts → (taken (account a) (legs ts) ≡ 0) × (brought (account a) (legs ts) ≡ 0)
+legs-pledged : (a : Account) → pledgedOrBlocked a.typ ≡ true → (ts : List Item) → Each ItemPosts ts → (taken (account a) (legs ts) ≡ 0) × (brought (account a) (legs ts) ≡ 0)
 unfolding legs seller buyer
 legs-pledged a q [] e = (refl, refl)
 legs-pledged a q (t ∷ rest) e =
@@ -129,11 +129,15 @@ cycle-exact b = booked-exact (legs (settled b)) b.holdings (legs-known b.holding
 
 pub cycle-steps : Steps 16 cycle
 unfolding cycle outcome counts putSecurities
-cycle-steps b o e s a =
+cycle-steps b o e p a =
     let ts = settled b in
-    let i = settled-fits ItemSound b s.items in
+    let P : Item → Type 0 = ItemFits b.day.number (today b.day) b.holdings in
+    let i = each-so P ItemPosts (item-posts b.day.number (today b.day) b.holdings) ts (settled-fits P b p.items) in
     record {
+      listed = b.holdings.securities;
+      admits = unfold putSecurities in admits-none 16 o b.holdings refl p.codes;
       moves = legs ts;
+      holds = refl;
       changes = cycle-exact b;
       proper = legs-proper ts i;
       rows = λ _. refl;
@@ -145,7 +149,4 @@ cycle-steps b o e s a =
         cash = λ c. omega (arith, legs-sums ts .2 c);
         pledged = λ x q. legs-pledged x q ts i;
       };
-      sound = record { codes = λ c. omega (arith, booked-codes (legs ts) b.holdings c, s.codes c); items = notSettled-fits ItemSound b s.items };
-      listed = b.holdings.securities;
-      holds = refl;
     }
