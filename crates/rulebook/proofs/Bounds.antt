@@ -8,10 +8,9 @@ use native.Mathlib.Omega.{arith}
 use borrow.Author.Tests.{eqb-true, eq-eqb}
 use Rattle.rulebook.specs.declared.Security.{Security}
 use Rattle.rulebook.specs.Lists.{if_then_else_, _is_, some, total}
-use Rattle.rulebook.specs.AccountTypes.{free, pledgedOrBlocked}
 use Rattle.rulebook.specs.Ledger.{Holdings, Ledger, admitted, issuedOf, outsideOf, sumBelow, cashTotal, held}
 use Rattle.rulebook.specs.declared.Account.{Account}
-use Rattle.rulebook.specs.Premise.{Each, withCode, SecurityFits, accountType, AccountFits, CashFits, Premise}
+use Rattle.rulebook.specs.Premise.{Each, withCode, SecurityFits, AccountFits, CashFits, Premise}
 use Rattle.rulebook.proofs.Securities.{outs}
 use Rattle.rulebook.proofs.Lists.{each-so, each-both}
 use Rattle.rulebook.proofs.Types.{type-fits}

@@ -1,10 +1,13 @@
 -- Demand 3, whole: over any list of calls from the fresh book. Assumes nothing.
+pub mod Totals
+pub mod Posted
+pub mod Sides
 use Rattle.rulebook.specs.Ledger.{fresh}
 use Rattle.rulebook.specs.Calls.{Demand3}
-use Rattle.rulebook.proofs.Sides.{sided}
-use Rattle.rulebook.proofs.Totals.{custody, issued, cash, pledged}
+use Rattle.rulebook.proofs.Demand3.Sides.{sided}
+use Rattle.rulebook.proofs.Demand3.Totals.{custody, issued, cash, pledged}
 use Rattle.rulebook.proofs.EveryCall.{fresh-premise, calls-premise}
-use Rattle.rulebook.proofs.Posted.{posted}
+use Rattle.rulebook.proofs.Demand3.Posted.{posted}
 
 pub demand3 : Demand3
 unfolding Demand3

@@ -1,4 +1,11 @@
 -- The premise: the fresh book meets it, and every call keeps it, accepted or refused. Assumes nothing.
+pub mod Counting
+pub mod Owners
+pub mod Items
+pub mod References
+pub mod Days
+pub mod NewItems
+pub mod Keeping
 use mathlib.Core.Path.{_≡_, refl, subst}
 use mathlib.Core.Bool.{Bool, true, false}
 use mathlib.Core.List.{List, [], _∷_}
@@ -19,13 +26,13 @@ use Rattle.rulebook.specs.Premise.{Sizes, accountCount, Premise}
 use Rattle.rulebook.proofs.ByCall.{result-step}
 use Rattle.rulebook.proofs.Orders.{accepted}
 use Rattle.rulebook.proofs.Sums.{none-held, held-exact, none-paid, cash-exact}
-use Rattle.rulebook.proofs.Step.{cashAt, Step, step-codes, step-issued}
+use Rattle.rulebook.proofs.Steps.OneCall.{cashAt, Step, step-codes, step-issued}
 use Rattle.rulebook.proofs.Steps.{order-step}
 use Rattle.rulebook.proofs.Sizes.{fresh-sizes, space-sizes}
-use Rattle.rulebook.proofs.Counting.{fresh-counted, step-counted}
-use Rattle.rulebook.proofs.Owners.{fresh-owned}
-use Rattle.rulebook.proofs.Days.{fresh-day}
-use Rattle.rulebook.proofs.Keeping.{effect-keeps as form-keeps}
+use Rattle.rulebook.proofs.EveryCall.Counting.{fresh-counted, step-counted}
+use Rattle.rulebook.proofs.EveryCall.Owners.{fresh-owned}
+use Rattle.rulebook.proofs.EveryCall.Days.{fresh-day}
+use Rattle.rulebook.proofs.EveryCall.Keeping.{effect-keeps as form-keeps}
 
 pub fresh-premise : Premise fresh
 unfolding fresh

@@ -9,7 +9,7 @@ use Rattle.rulebook.specs.declared.State.the-variants.{Single, Pair, Tra
 use Rattle.rulebook.specs.Waiting.{withState, bothMarked, staying, unmarked}
 use Rattle.rulebook.specs.Matching.{pairOf, arrive}
 use Rattle.rulebook.specs.Premise.{Each}
-use Rattle.rulebook.proofs.Items.{arrive-each}
+use Rattle.rulebook.proofs.EveryCall.Items.{arrive-each}
 
 abbrev pub Half : Item → Type 0
 Half i = bothMarked i.state ≡ false

@@ -34,21 +34,6 @@ pub mod Reading
 pub mod Sums
 -- an order that was read, and one that no test refuses
 pub mod Orders
--- one call: every form's step
+-- from forms to calls and lists of calls, and the step that each form makes
 pub mod ByCall
-pub mod Step
-pub mod Moving
-pub mod Settling
 pub mod Steps
--- the parts of demand 3
-pub mod Totals
-pub mod Posted
-pub mod Sides
--- the parts of the premise
-pub mod Counting
-pub mod Owners
-pub mod Items
-pub mod References
-pub mod Days
-pub mod NewItems
-pub mod Keeping

@@ -193,7 +193,7 @@ read-ranges bytes o e = let p = read-tests bytes o e .1 in subst Ranges (read-is
 -- ---- an order that no test refuses
 
 -- an accepted order passes each of the tests 6 to 18
-pub passed : (b : Ledger) (o : Order) → first (refusals b o) ≡ 0 → NoneApplies (refusals b o)
+passed : (b : Ledger) (o : Order) → first (refusals b o) ≡ 0 → NoneApplies (refusals b o)
 unfolding refusals
 passed b o e = none-applies (refusals b o) (omega arith) e
 

@@ -1,11 +1,10 @@
 -- What movements do to each place that a book keeps: they add what they bring, then take what they take. Assumes nothing.
 use mathlib.Core.Path.{_≡_, refl, sym, ap, subst, _∙_}
-use mathlib.Core.Bool.{Bool, true, false, _&&_, _||_}
+use mathlib.Core.Bool.{Bool, true, false, _&&_}
 use mathlib.Core.List.{List, [], _∷_, map}
-use Prim.Native.Nat.{ℕ, zero, suc, _+_, _-_, _≤_, _<_}
+use Prim.Native.Nat.{ℕ, _+_, _-_, _≤_}
 use native.Mathlib.Omega.{arith}
 use borrow.Author.Tests.{eqb-true, eqb-false, ne-eqb}
-use lib.Dec.{eqb}
 use Rattle.rulebook.specs.declared.Security.{Security}
 use Rattle.rulebook.specs.Lists.{if_then_else_, _is_, total}
 use Rattle.rulebook.specs.Ledger.{Holdings, sameAccount, outsideOf, putBalance, putCash, putSecurities, putOutside}

@@ -1,19 +1,18 @@
 -- Posting rows that are written are read back, and count for the places of their movements. Assumes nothing.
-use mathlib.Core.Path.{_≡_, refl, sym, ap, ap₂, subst, _∙_}
-use mathlib.Core.Bool.{Bool, true, false, not, _&&_, _||_}
+use mathlib.Core.Path.{_≡_, refl, ap, ap₂, _∙_}
+use mathlib.Core.Bool.{Bool, true, false, _&&_, _||_}
 use mathlib.Core.List.{List, [], _∷_, _++_, append-assoc, append-nil}
-use Prim.Native.Nat.{ℕ, zero, suc, _+_, _*_, _^_, _%_, _≤_, _<_}
+use Prim.Native.Nat.{ℕ, suc, _^_, _≤_, _<_}
 use native.Mathlib.Omega.{arith}
 use borrow.Author.Tests.{ne-eqb}
-use lib.Dec.{eqb, lit<}
-use lib.ListN.{length, take, drop}
+use lib.Dec.{lit<}
+use lib.ListN.{length}
 use lib.Seq.{take-at, drop-at}
-use Rattle.rulebook.specs.Lists.{if_then_else_, _is_, _isNot_, _oneOf_, total}
+use Rattle.rulebook.specs.Lists.{if_then_else_, _is_, _oneOf_, total}
 use Rattle.bits.specs.Layout.{pack, cut, Fit}
 use Rattle.bits.proofs.Laws.{length-bytes}
 use Rattle.bits.proofs.Packing.{values-back}
 use Rattle.rulebook.specs.Ledger.{sameAccount}
-use Rattle.rulebook.specs.declared.Account.{Account}
 use Rattle.rulebook.specs.Movements.{Place, account, type91, type90, cashOf, member0, Movement}
 use Rattle.rulebook.specs.Rows.{Posting, postingWidths, postingBytes, postingIn, postingOf, postingRows, rowBytes, rowsBytes}
 use Rattle.rulebook.specs.Calls.{firstRows, names}

@@ -14,7 +14,7 @@ use Rattle.rulebook.specs.Ledger.{Ledger, Holdings, sameAccount}
 use Rattle.rulebook.specs.Waiting.{isTrade}
 use Rattle.rulebook.specs.Cycle.{Marked, due, taken, over, seller, sharesTaken, sharesBrought, cashTaken, cashBrought, takesShares, takesCash, sharesMissing, cashMissing, debitsShort, anyShort, dropLast, rounds, settlingOf, settling, withMark, withoutMark, settled, notSettled}
 use Rattle.rulebook.specs.Premise.{Each}
-use Rattle.rulebook.proofs.Lists.{both, keep-split, total-map, length-total, each-so, each-map, each-kept}
+use Rattle.rulebook.proofs.Lists.{both, keep-split, total-map, length-total, each-map, each-kept}
 
 -- ---- nothing is short at the end
 

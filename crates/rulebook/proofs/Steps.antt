@@ -1,8 +1,11 @@
 -- Every form makes such a step. Assumes nothing.
+pub mod OneCall
+pub mod Moving
+pub mod Settling
 use mathlib.Core.Path.{_≡_, refl, ap, sym}
 use mathlib.Core.Bool.{Bool, true, false, false≢true}
 use mathlib.Core.List.{List, [], _∷_}
-use Prim.Native.Nat.{ℕ, zero, suc, _+_, _≤_, _<_}
+use Prim.Native.Nat.{ℕ, _+_}
 use native.Mathlib.Omega.{arith}
 use lib.ListN.{length}
 use Rattle.rulebook.specs.declared.Order.{Order}
@@ -18,10 +21,10 @@ use Rattle.rulebook.specs.Calls.{kept}
 use Rattle.rulebook.specs.Premise.{Each, Premise}
 use Rattle.rulebook.proofs.Lists.{_and_}
 use Rattle.rulebook.proofs.ByCall.{AllForms, by-form}
-use Rattle.rulebook.proofs.Orders.{Accepted, accepted}
-use Rattle.rulebook.proofs.Step.{writesAt, Figures, admits-none, Step, Steps}
-use Rattle.rulebook.proofs.Moving.{admit-steps, deposit-steps, withdraw-steps, transfer-steps, pledge-steps, release-steps, block-steps, unblock-steps, payIn-steps, payOut-steps}
-use Rattle.rulebook.proofs.Settling.{cycle-steps}
+use Rattle.rulebook.proofs.Orders.{accepted}
+use Rattle.rulebook.proofs.Steps.OneCall.{writesAt, Figures, admits-none, Step, Steps}
+use Rattle.rulebook.proofs.Steps.Moving.{admit-steps, deposit-steps, withdraw-steps, transfer-steps, pledge-steps, release-steps, block-steps, unblock-steps, payIn-steps, payOut-steps}
+use Rattle.rulebook.proofs.Steps.Settling.{cycle-steps}
 
 -- ---- a form that moves nothing: 1, 12 to 15 and 17
 

@@ -1,20 +1,19 @@
 -- Forms 2 to 11: each makes one movement. Assumes nothing.
 use mathlib.Core.Path.{_≡_, refl, sym, ap, _∙_}
-use mathlib.Core.Bool.{Bool, true, false, not, _&&_, _||_, false≢true}
+use mathlib.Core.Bool.{Bool, true, false, _||_, false≢true}
 use mathlib.Core.List.{List, [], _∷_, _++_}
-use Prim.Native.Nat.{ℕ, _+_, _≤_, _<_, _^_}
+use Prim.Native.Nat.{ℕ, _+_, _<_, _^_}
 use native.Mathlib.Omega.{arith}
 use borrow.Author.Tests.{ltb-false, eq-eqb}
-use lib.ListN.{length}
 use Rattle.rulebook.specs.declared.Party.{Party}
 use Rattle.rulebook.specs.declared.Order.{Order}
 use Rattle.rulebook.specs.declared.Security.{Security}
-use Rattle.rulebook.specs.Lists.{if_then_else_, _is_, within, total}
+use Rattle.rulebook.specs.Lists.{if_then_else_, _is_, within}
 use Rattle.rulebook.specs.AccountTypes.{pledgedOrBlocked, wrongTypes}
 use Rattle.rulebook.specs.Record.{usedFields, used}
 use Rattle.rulebook.specs.Ledger.{Ledger, Holdings, accountOf, sameAccount, outsideOf, putHoldings, putSecurities}
 use Rattle.rulebook.specs.declared.Account.{Account}
-use Rattle.rulebook.specs.Movements.{Place, account, type91, type90, cashOf, member0, Movement, move, booked}
+use Rattle.rulebook.specs.Movements.{Place, account, type91, type90, cashOf, member0, move}
 use Rattle.rulebook.specs.Forms.{outcome, counts, moving, admit, deposit, withdraw, transfer, payIn, payOut}
 use Rattle.rulebook.specs.Refusals.{wrongSecurity}
 use Rattle.rulebook.specs.Calls.{kept}
@@ -26,7 +25,7 @@ use Rattle.rulebook.proofs.Securities.{outs, known, unknown, new-count,
 use Rattle.rulebook.proofs.Places.{brought, Known, Bears, booked-exact, one-enough}
 use Rattle.rulebook.proofs.Reading.{Proper}
 use Rattle.rulebook.proofs.Types.{Account·type, Quiet, PutIn, free-quiet, pledged-account, deposit-free, withdraw-free, transfer-free, pledge-types, release-types, block-types, unblock-types}
-use Rattle.rulebook.proofs.Step.{putInAt, releasedAt, writesAt, Figures, Admits, admits-none, Step, Steps}
+use Rattle.rulebook.proofs.Steps.OneCall.{putInAt, releasedAt, writesAt, Figures, Admits, admits-none, Step, Steps}
 
 -- a form that makes one movement, after it admits a security or none
 moved :

@@ -26,12 +26,12 @@ use Rattle.rulebook.proofs.Lists.{_and_, total-append, each-so, each-bo
 use Rattle.rulebook.proofs.Rounds.{settled-fits, notSettled-fits, Due, settled-due}
 use Rattle.rulebook.proofs.Types.{free-type, pledged-type, alike-free, deposit-free, transfer-free, pledge-types, release-types, block-types, unblock-types}
 use Rattle.rulebook.proofs.Orders.{Accepted, uses, is-admitted, right-types, is-open, opens-next, none-waits}
-use Rattle.rulebook.proofs.Owners.{Owned, AllGet, still-admitted, booked-admitted, account-admitted, booked-owned}
-use Rattle.rulebook.proofs.References.{Once, arrive-sent, cancel-sent, close-sent, cycle-sent, new-once}
+use Rattle.rulebook.proofs.EveryCall.Owners.{Owned, AllGet, still-admitted, booked-admitted, account-admitted, booked-owned}
+use Rattle.rulebook.proofs.EveryCall.References.{Once, arrive-sent, cancel-sent, close-sent, cycle-sent, new-once}
 use Rattle.rulebook.proofs.Halves.{Half, arrive-halves, kept-halves, closed-halves}
-use Rattle.rulebook.proofs.Items.{item-later, marking-fits, close-fits, arrive-fits}
-use Rattle.rulebook.proofs.Days.{DayAt, same-day, open-day, cycle-day, close-day}
-use Rattle.rulebook.proofs.NewItems.{single, deliver-item, receive-item, trade-item, deliver-sender, receive-sender, trade-sender}
+use Rattle.rulebook.proofs.EveryCall.Items.{item-later, marking-fits, close-fits, arrive-fits}
+use Rattle.rulebook.proofs.EveryCall.Days.{DayAt, same-day, open-day, cycle-day, close-day}
+use Rattle.rulebook.proofs.EveryCall.NewItems.{single, deliver-item, receive-item, trade-item, deliver-sender, receive-sender, trade-sender}
 
 abbrev Waiting : Ledger → List Item → Type 0
 Waiting b ws = Each (ItemFits b.day.number (today b.day) b.holdings) ws

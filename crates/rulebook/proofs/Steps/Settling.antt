@@ -1,19 +1,15 @@
 -- Form 16: a cycle's movements are its settled trades' legs, and no debit of them is cut off at 0. Assumes nothing.
-use mathlib.Core.Path.{_≡_, refl, sym, ap, _∙_}
-use mathlib.Core.Bool.{Bool, true, false, _&&_, _||_}
+use mathlib.Core.Path.{_≡_, refl}
+use mathlib.Core.Bool.{Bool, true, false}
 use mathlib.Core.List.{List, [], _∷_}
-use Prim.Native.Nat.{ℕ, _+_, _≤_, _<_, _^_}
+use Prim.Native.Nat.{ℕ, _+_, _<_, _^_}
 use native.Mathlib.Omega.{arith}
-use lib.ListN.{length}
 use Rattle.rulebook.specs.declared.Party.{Party}
 use Rattle.rulebook.specs.declared.Item.{Item}
-use Rattle.rulebook.specs.declared.Order.{Order}
-use Rattle.rulebook.specs.Lists.{if_then_else_, _is_, total}
 use Rattle.rulebook.specs.AccountTypes.{pledgedOrBlocked}
-use Rattle.rulebook.specs.Ledger.{Ledger, Holdings, accountOf, sameAccount, putSecurities}
+use Rattle.rulebook.specs.Ledger.{Ledger, Holdings, accountOf, putSecurities}
 use Rattle.rulebook.specs.declared.Account.{Account}
 use Rattle.rulebook.specs.Movements.{Place, account, type91, type90, cashOf, member0, Movement, booked}
-use Rattle.rulebook.specs.Rows.{postingRows}
 use Rattle.rulebook.specs.Cycle.{Marked, seller, buyer, over, bringsShares, takesShares, bringsCash, takesCash, sharesTaken, sharesBrought, cashTaken, cashBrought, settling, withMark, settled, legs}
 use Rattle.rulebook.specs.Forms.{outcome, counts, cycle}
 use Rattle.rulebook.specs.Calls.{kept}
@@ -23,9 +19,9 @@ use Rattle.rulebook.proofs.Lists.{each-so}
 use Rattle.rulebook.proofs.Places.{isAt, brought, taken, AllKnown, Enough, booked-exact}
 use Rattle.rulebook.proofs.Reading.{Proper, AllProper}
 use Rattle.rulebook.proofs.Sums.{heldInto, heldOut, cashInto, cashOut}
-use Rattle.rulebook.proofs.Items.{PartyPosts, ItemPosts, item-posts}
-use Rattle.rulebook.proofs.Step.{admits-none, Steps}
-use Rattle.rulebook.proofs.Moving.{party-apart}
+use Rattle.rulebook.proofs.EveryCall.Items.{PartyPosts, ItemPosts, item-posts}
+use Rattle.rulebook.proofs.Steps.OneCall.{admits-none, Steps}
+use Rattle.rulebook.proofs.Steps.Moving.{party-apart}
 
 legs-known : (h : Holdings) (ts : List Item) → AllKnown h (legs ts)
 unfolding legs

@@ -1,7 +1,7 @@
 -- Custody, issued counts, cash and pledged accounts: what is kept is what came less what went, over any list of calls. Assumes nothing.
 use mathlib.Core.Path.{_≡_, refl}
-use mathlib.Core.Bool.{Bool, true, false, _&&_}
-use mathlib.Core.List.{List, [], _∷_}
+use mathlib.Core.Bool.{Bool, true, false}
+use mathlib.Core.List.{List}
 use Prim.Native.Nat.{ℕ, _+_}
 use native.Mathlib.Omega.{arith}
 use lib.Dec.{T}
@@ -20,7 +20,7 @@ use Rattle.rulebook.specs.Calls.{Call, callsOn, bookAfter, records, shar
 use Rattle.rulebook.specs.Premise.{Premise}
 use Rattle.rulebook.proofs.ByCall.{by-call, records-are, none-in}
 use Rattle.rulebook.proofs.Sums.{none-held, held-exact, none-paid, cash-exact}
-use Rattle.rulebook.proofs.Step.{sharesAt, cashAt, putInAt, releasedAt, Step, step-issued}
+use Rattle.rulebook.proofs.Steps.OneCall.{sharesAt, cashAt, putInAt, releasedAt, Step, step-issued}
 use Rattle.rulebook.proofs.Steps.{order-step}
 use Rattle.rulebook.proofs.EveryCall.{fresh-premise, order-premise}
 

@@ -1,6 +1,6 @@
 -- Every account, outside count and member's cash is what the rows written say, over any list of calls. Assumes nothing.
 use mathlib.Core.Path.{_≡_, refl}
-use mathlib.Core.Bool.{Bool, true, false, _&&_, _||_}
+use mathlib.Core.Bool.{Bool, true, false}
 use mathlib.Core.List.{List, [], _∷_, _++_}
 use Prim.Native.Nat.{ℕ, _+_, _*_}
 use native.Mathlib.Omega.{arith}
@@ -20,7 +20,7 @@ use Rattle.rulebook.specs.Call.{Result, refused, putMinute, accepted, or
 use Rattle.rulebook.specs.Calls.{Call, call, resultOf, recordIn, callsOn, bookAfter, ofRecord, ofAnswer, firstRows, writes, postingsOf, postings, written, kept}
 use Rattle.rulebook.proofs.Reading.{counts, entries, rows-back, entries-brought, entries-taken}
 use Rattle.rulebook.specs.Premise.{Premise}
-use Rattle.rulebook.proofs.Step.{writesAt, Step}
+use Rattle.rulebook.proofs.Steps.OneCall.{writesAt, Step}
 use Rattle.rulebook.proofs.Steps.{order-step}
 use Rattle.rulebook.proofs.EveryCall.{fresh-premise, call-premise}
 
