@@ -122,28 +122,21 @@ names-at k n (member0 c′) (type90 s) f = refl
 names-at k n (member0 c′) (cashOf m c) f = refl
 names-at k n (member0 c′) (member0 c) f = refl
 
-number-of : (credit : ℕ) (q : Place) (n : ℕ) → postingOf credit q n .number ≡ n
+-- and says which side it is, and how much
+row-says : (credit : ℕ) (q : Place) (n : ℕ) → (postingOf credit q n .credit ≡ credit) × (postingOf credit q n .number ≡ n)
 unfolding postingOf
-number-of k (account a) n = refl
-number-of k (type91 s) n = refl
-number-of k (type90 s) n = refl
-number-of k (cashOf m c) n = refl
-number-of k (member0 c) n = refl
-
-credit-of : (credit : ℕ) (q : Place) (n : ℕ) → postingOf credit q n .credit ≡ credit
-unfolding postingOf
-credit-of k (account a) n = refl
-credit-of k (type91 s) n = refl
-credit-of k (type90 s) n = refl
-credit-of k (cashOf m c) n = refl
-credit-of k (member0 c) n = refl
+row-says k (account a) n = (refl, refl)
+row-says k (type91 s) n = (refl, refl)
+row-says k (type90 s) n = (refl, refl)
+row-says k (cashOf m c) n = (refl, refl)
+row-says k (member0 c) n = (refl, refl)
 
 -- what a row counts for a place
 abbrev pub counts : ℕ → Place → Posting → ℕ
 counts credit place p = if p.credit is credit && names p place then p.number else 0
 
 row-counts : (k j : ℕ) (q place : Place) (n : ℕ) → Proper q → counts k place (postingOf j q n) ≡ (if j is k && isAt place q then n else 0)
-row-counts k j q place n f = rw (names-at j n q place f, credit-of j q n, number-of j q n)
+row-counts k j q place n f = rw (names-at j n q place f, row-says j q n .0, row-says j q n .1)
 
 pub entries-brought : (place : Place) (ms : List Movement) → AllProper ms → total (counts 1 place) (entries ms) ≡ brought place ms
 entries-brought place [] f = refl

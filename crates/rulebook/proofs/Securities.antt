@@ -8,10 +8,10 @@ use borrow.Author.Tests.{eqb-true}
 use Rattle.rulebook.specs.declared.Security.{Security}
 use Rattle.rulebook.specs.Lists.{if_then_else_, _is_, some, total}
 use Rattle.rulebook.specs.Ledger.{Holdings, issuedOf, putBalance, putCash, putSecurities, putOutside}
-use Rattle.rulebook.specs.Movements.{Place, account, type91, type90, cashOf, member0, Movement, credit, debit, booked}
+use Rattle.rulebook.specs.Movements.{Movement, booked}
 use Rattle.rulebook.specs.Premise.{withCode}
 use Rattle.rulebook.proofs.Lists.{total-append, total-map}
-use Rattle.rulebook.proofs.Booking.{booked-any}
+use Rattle.rulebook.proofs.Booking.{booked-puts}
 
 -- the outside counts of a code
 abbrev pub outs : ℕ → List Security → ℕ
@@ -93,25 +93,10 @@ module _ (s : ℕ) where
       go x true = refl
       go x false = refl
 
-  credit-issued : (p : Place) (n : ℕ) (h : Holdings) → issuedOf s (credit p n h) ≡ issuedOf s h
-  unfolding credit
-  credit-issued (account a) n h = unfold issuedOf putBalance in refl
-  credit-issued (type91 security) n h = outside-issued security _ h
-  credit-issued (type90 security) n h = refl
-  credit-issued (cashOf m c) n h = unfold issuedOf putCash in refl
-  credit-issued (member0 c) n h = refl
-
-  debit-issued : (p : Place) (n : ℕ) (h : Holdings) → issuedOf s (debit p n h) ≡ issuedOf s h
-  unfolding debit
-  debit-issued (account a) n h = unfold issuedOf putBalance in refl
-  debit-issued (type91 security) n h = outside-issued security _ h
-  debit-issued (type90 security) n h = refl
-  debit-issued (cashOf m c) n h = unfold issuedOf putCash in refl
-  debit-issued (member0 c) n h = refl
-
   pub booked-issued : (ms : List Movement) (h : Holdings) → issuedOf s (booked ms h) ≡ issuedOf s h
+  unfolding issuedOf putBalance putCash
   booked-issued ms h =
-      booked-any (λ k. issuedOf s k ≡ issuedOf s h) (λ p n k e. credit-issued p n k ∙ e) (λ p n k e. debit-issued p n k ∙ e) ms h refl
+      booked-puts (λ k. issuedOf s k ≡ issuedOf s h) (λ a v k e. e) (λ c v k e. (unfold issuedOf in outside-issued c v k) ∙ e) (λ m c v k e. e) ms h refl
 
   pub new-issued : (h : Holdings) (new : Security) → issuedOf s (putSecurities (h.securities ++ (new ∷ [])) h) ≡ issuedOf s h + (if new.code is s then new.issued.0 else 0)
   unfolding issuedOf putSecurities

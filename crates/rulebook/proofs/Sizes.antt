@@ -18,7 +18,7 @@ use Rattle.rulebook.specs.Forms.{outcome, moving, silent, openDay, withd
 use Rattle.rulebook.specs.Refusals.{noSpace}
 use Rattle.rulebook.specs.Premise.{Sizes}
 use Rattle.rulebook.proofs.ByCall.{Form, AllForms, by-form}
-use Rattle.rulebook.proofs.Booking.{booked-any}
+use Rattle.rulebook.proofs.Booking.{booked-puts}
 use Rattle.rulebook.proofs.Lists.{_and_, keep-length}
 use Rattle.rulebook.proofs.Rounds.{cycle-length}
 
@@ -101,26 +101,10 @@ unfolding booked
 booked-accounts ms h = omega (arith, debits-accounts ms (credits ms h), credits-accounts ms h)
 
 -- and neither admits a security
-
-credit-listed : (p : Place) (n : ℕ) (h : Holdings) → length (credit p n h .securities) ≡ length h.securities
-unfolding credit putBalance putCash putSecurities putOutside
-credit-listed (account a) n h = refl
-credit-listed (type91 s) n h = length-map h.securities _
-credit-listed (type90 s) n h = refl
-credit-listed (cashOf m c) n h = refl
-credit-listed (member0 c) n h = refl
-
-debit-listed : (p : Place) (n : ℕ) (h : Holdings) → length (debit p n h .securities) ≡ length h.securities
-unfolding debit putBalance putCash putSecurities putOutside
-debit-listed (account a) n h = refl
-debit-listed (type91 s) n h = length-map h.securities _
-debit-listed (type90 s) n h = refl
-debit-listed (cashOf m c) n h = refl
-debit-listed (member0 c) n h = refl
-
 pub booked-listed : (ms : List Movement) (h : Holdings) → length (booked ms h .securities) ≡ length h.securities
+unfolding putBalance putCash putSecurities putOutside
 booked-listed ms h =
-    booked-any (λ k. length k.securities ≡ length h.securities) (λ q n k e. credit-listed q n k ∙ e) (λ q n k e. debit-listed q n k ∙ e) ms h refl
+    booked-puts (λ k. length k.securities ≡ length h.securities) (λ a v k e. e) (λ s v k e. length-map k.securities _ ∙ e) (λ m c v k e. e) ms h refl
 
 pub legs-opened : (ts : List Item) → opened (legs ts) ≡ length ts
 unfolding legs

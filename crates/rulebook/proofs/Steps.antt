@@ -67,38 +67,22 @@ still n b o x p t e r l = record {
   figures = no-figures n o t;
 }
 
-open-steps : Steps 1 openDay
-unfolding openDay silent outcome counts putDay
-open-steps b o e p a = still 1 b o (openDay b o) p refl refl (λ _. refl) refl
-
-deliver-steps : Steps 12 instruct
-unfolding instruct silent outcome counts putWaiting
-deliver-steps b o e p a = still 12 b o (instruct b o) p refl refl (λ _. refl) refl
-
-receive-steps : Steps 13 instruct
-unfolding instruct silent outcome counts putWaiting
-receive-steps b o e p a = still 13 b o (instruct b o) p refl refl (λ _. refl) refl
-
-trade-steps : Steps 14 trade
-unfolding trade silent outcome counts putWaiting
-trade-steps b o e p a = still 14 b o (trade b o) p refl refl (λ _. refl) refl
-
--- their rows are notices
-cancel-steps : Steps 15 cancel
-unfolding cancel outcome counts putWaiting
-cancel-steps b o e p a = still 15 b o (cancel b o) p refl refl (λ z. absurd (omega (arith, z))) refl
-
-close-steps : Steps 17 close
-unfolding close outcome counts
-close-steps b o e p a = still 17 b o (close b o) p refl refl (λ z. absurd (omega (arith, z))) refl
-
 -- ---- all seventeen
 
 all-steps : AllForms Steps 1 forms
-unfolding forms
+unfolding forms openDay instruct trade cancel close silent outcome counts putDay putWaiting
 all-steps =
-    open-steps and admit-steps and deposit-steps and withdraw-steps and transfer-steps and pledge-steps and release-steps and block-steps and unblock-steps
-    and payIn-steps and payOut-steps and deliver-steps and receive-steps and trade-steps and cancel-steps and cycle-steps and close-steps and tt
+    (λ b o e p a. still 1 b o (openDay b o) p refl refl (λ _. refl) refl)
+    and admit-steps and deposit-steps and withdraw-steps and transfer-steps and pledge-steps and release-steps and block-steps and unblock-steps
+    and payIn-steps and payOut-steps
+    and (λ b o e p a. still 12 b o (instruct b o) p refl refl (λ _. refl) refl)
+    and (λ b o e p a. still 13 b o (instruct b o) p refl refl (λ _. refl) refl)
+    and (λ b o e p a. still 14 b o (trade b o) p refl refl (λ _. refl) refl)
+    -- the rows of 15 and 17 are notices
+    and (λ b o e p a. still 15 b o (cancel b o) p refl refl (λ z. absurd (omega (arith, z))) refl)
+    and cycle-steps
+    and (λ b o e p a. still 17 b o (close b o) p refl refl (λ z. absurd (omega (arith, z))) refl)
+    and tt
 
 -- an order that was read and that no test refuses makes a step; no order that was read has another form
 pub order-step : (b : Ledger) (o : Order) (bytes : List ℕ) → Premise b → readOf bytes ≡ Read.Order o → first (refusals b o) ≡ 0 → Step o.form b o (effect b o)

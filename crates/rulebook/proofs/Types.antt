@@ -20,7 +20,7 @@ Quiet t = (pledgedOrBlocked t ≡ false) × Account·type t
 
 -- ---- what holds of each of a table's lines holds of one of them
 
-one-of : (P : ℕ → Type 0) (xs : List ℕ) (t : ℕ) → Each P xs → (t oneOf xs) ≡ true → P t
+pub one-of : (P : ℕ → Type 0) (xs : List ℕ) (t : ℕ) → Each P xs → (t oneOf xs) ≡ true → P t
 one-of P [] t a e = absurd (false≢true e)
 one-of P (x ∷ rest) t a e = go (t is x) refl (one-of P rest t (a .1))
   where

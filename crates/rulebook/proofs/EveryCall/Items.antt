@@ -97,11 +97,12 @@ arrive-each P pair limit new f (w ∷ rest) e = go (pairsWith limit new w) refl 
 
 -- ---- an item as the days go
 
--- later, with more securities
-
-pub item-later :
-    (n n′ t t′ : ℕ) (h h′ : Holdings) → n ≤ n′ → t′ ≡ t → ((c : ℕ) → admitted c h ≡ true → admitted c h′ ≡ true) → (i : Item) → ItemFits n t h i → ItemFits n′ t′ h′ i
-item-later n n′ t t′ h h′ l e a i f = record {
+-- later, with more securities, in another state
+pub item-state :
+    (n n′ t t′ : ℕ) (h h′ : Holdings) → n ≤ n′ → ((c : ℕ) → admitted c h ≡ true → admitted c h′ ≡ true) → (i : Item) (x : State)
+    → StateFits t′ i.«settlement_day» i.security i.debited i.credited x → ItemFits n t h i → ItemFits n′ t′ h′ (withState x i)
+unfolding withState
+item-state n n′ t t′ h h′ l a i x s f = record {
   security = a i.security f.security;
   security-least = f.security-least;
   security-most = f.security-most;
@@ -117,32 +118,15 @@ item-later n n′ t t′ h h′ l e a i f = record {
   «trade_day» = omega (arith, f.«trade_day»);
   settles-least = f.settles-least;
   «settlement_day» = omega (arith, f.«settlement_day»);
-  state = subst (λ (x : ℕ). StateFits x i.«settlement_day» i.security i.debited i.credited i.state) (sym e) f.state;
-}
-
--- another state
-
-pub item-state :
-    (n t t′ : ℕ) (h : Holdings) (i : Item) (x : State) → StateFits t′ i.«settlement_day» i.security i.debited i.credited x → ItemFits n t h i → ItemFits n t′ h (withState x i)
-unfolding withState
-item-state n t t′ h i x s f = record {
-  security = f.security;
-  security-least = f.security-least;
-  security-most = f.security-most;
-  currency-least = f.currency-least;
-  currency-most = f.currency-most;
-  debited = f.debited;
-  credited = f.credited;
-  quantity-least = f.quantity-least;
-  quantity = f.quantity;
-  amount-least = f.amount-least;
-  amount = f.amount;
-  traded-least = f.traded-least;
-  «trade_day» = f.«trade_day»;
-  settles-least = f.settles-least;
-  «settlement_day» = f.«settlement_day»;
   state = s;
 }
+
+-- in its own state
+pub item-later :
+    (n n′ t t′ : ℕ) (h h′ : Holdings) → n ≤ n′ → t′ ≡ t → ((c : ℕ) → admitted c h ≡ true → admitted c h′ ≡ true) → (i : Item) → ItemFits n t h i → ItemFits n′ t′ h′ i
+unfolding withState
+item-later n n′ t t′ h h′ l e a i f =
+    item-state n n′ t t′ h h′ l a i i.state (subst (λ (x : ℕ). StateFits x i.«settlement_day» i.security i.debited i.credited i.state) (sym e) f.state) f
 
 mark-state :
     (t sender : ℕ) (i : Item) (x : State) → StateFits t i.«settlement_day» i.security i.debited i.credited x
@@ -158,7 +142,7 @@ mark-state t sender i (Trade r) f = f
 
 marked-fits : (n t : ℕ) (h : Holdings) (sender : ℕ) (i : Item) → ItemFits n t h i → ItemFits n t h (marked sender i)
 unfolding marked withState
-marked-fits n t h sender i f = item-state n t t h i (marked sender i .state) (mark-state t sender i i.state f.state) f
+marked-fits n t h sender i f = item-state n n t t h h (omega arith) (λ c e. e) i (marked sender i .state) (mark-state t sender i i.state f.state) f
 
 pub marking-fits : (n t : ℕ) (h : Holdings) (sender reference : ℕ) (ws : List Item) → Each (ItemFits n t h) ws → Each (ItemFits n t h) (marking sender reference ws)
 unfolding marking
@@ -205,7 +189,7 @@ next-state day i (Trade r) k f =
 next-fits : (day : ℕ) (h : Holdings) (i : Item) → not (leaves day i) ≡ true → ItemFits day day h i → ItemFits day (day + 1) h (unmarked i)
 unfolding leaves unmarked withState
 next-fits day h i e f =
-    item-state day day (day + 1) h i (unmarked i .state) (next-state day i i.state (eqb-true _ 0 (not-false _ (not-true _ e))) f.state) f
+    item-state day day day (day + 1) h h (omega arith) (λ c e. e) i (unmarked i .state) (next-state day i i.state (eqb-true _ 0 (not-false _ (not-true _ e))) f.state) f
 
 pub close-fits :
     (day : ℕ) (h : Holdings) (ws : List Item) → Each (ItemFits day day h) ws

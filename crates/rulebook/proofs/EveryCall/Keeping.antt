@@ -14,7 +14,7 @@ use Rattle.rulebook.specs.AccountTypes.{alike, wrongTypes}
 use Rattle.rulebook.specs.Record.{D, C, usedFields, used}
 use Rattle.rulebook.specs.Ledger.{Ledger, Holdings, accountOf, admitted, putDay, putHoldings, putWaiting, putSecurities}
 use Rattle.rulebook.specs.Movements.{Movement, booked}
-use Rattle.rulebook.specs.Waiting.{isTrade, itemOf, senderOf, marking, staying, bothMarked}
+use Rattle.rulebook.specs.Waiting.{isTrade, itemOf, senderOf, sentBy, marking, staying, bothMarked}
 use Rattle.rulebook.specs.Matching.{tolerance}
 use Rattle.rulebook.specs.Cycle.{buyer, settled, notSettled, legs}
 use Rattle.rulebook.specs.Close.{leaves}
@@ -145,20 +145,15 @@ waiting-kept : (b : Ledger) (minute : ℕ) (ws : List Item) → Premise b → Da
 unfolding putWaiting putMinute putDay
 waiting-kept b minute ws p d i r v = record { owned = owned-of b p; items = i; references = r; halves = v; day = d }
 
-deliver-keeps : Keeps 12 instruct
+instruct-keeps :
+    (n : ℕ) → n ≤ 16 → within 12 14 n ≡ true → (n is 15) ≡ false
+    → ((b : Ledger) (o : Order) → Accepted b o → o.form ≡ n → ItemFits b.day.number (today b.day) b.holdings (single o))
+    → ((b : Ledger) (o : Order) → Accepted b o → o.form ≡ n → (s r : ℕ) → sentBy s r (single o) ≡ true → (s ≡ senderOf o) × (r ≡ o.reference)) → Keeps n instruct
 unfolding instruct silent outcome
-deliver-keeps b o e p a =
+instruct-keeps n l t t₂ item sender b o e p a =
     waiting-kept b o.minute _ p (same-day b o (omega arith) p.day a)
-    (arrive-fits _ _ b.holdings (tolerance o.currency) (single o) (deliver-item b o a e) b.waiting p.items)
-    (λ s r. omega (arith, arrive-sent s r (tolerance o.currency) (single o) b.waiting, new-once (senderOf o) o.reference (single o) b.waiting p.references (none-waits b o 12 e refl refl a.reference) (deliver-sender b o a e) s r))
-    (arrive-halves (tolerance o.currency) (single o) (unfold bothMarked itemOf in refl) b.waiting p.halves)
-
-receive-keeps : Keeps 13 instruct
-unfolding instruct silent outcome
-receive-keeps b o e p a =
-    waiting-kept b o.minute _ p (same-day b o (omega arith) p.day a)
-    (arrive-fits _ _ b.holdings (tolerance o.currency) (single o) (receive-item b o a e) b.waiting p.items)
-    (λ s r. omega (arith, arrive-sent s r (tolerance o.currency) (single o) b.waiting, new-once (senderOf o) o.reference (single o) b.waiting p.references (none-waits b o 13 e refl refl a.reference) (receive-sender b o a e) s r))
+    (arrive-fits _ _ b.holdings (tolerance o.currency) (single o) (item b o a e) b.waiting p.items)
+    (λ s r. omega (arith, arrive-sent s r (tolerance o.currency) (single o) b.waiting, new-once (senderOf o) o.reference (single o) b.waiting p.references (none-waits b o n e t t₂ a.reference) (sender b o a e) s r))
     (arrive-halves (tolerance o.currency) (single o) (unfold bothMarked itemOf in refl) b.waiting p.halves)
 
 trade-keeps : Keeps 14 trade
@@ -259,7 +254,7 @@ forms-keep =
     and transfer-keeps 7 (omega arith) refl refl refl refl (λ d c w. free-type c (release-types d c w .0))
     and transfer-keeps 8 (omega arith) refl refl refl refl (λ d c w. pledged-type c (block-types d c w .1))
     and transfer-keeps 9 (omega arith) refl refl refl refl (λ d c w. free-type c (unblock-types d c w .0))
-    and payIn-keeps and payOut-keeps and deliver-keeps and receive-keeps and trade-keeps and cancel-keeps and cycle-keeps and close-keeps and tt
+    and payIn-keeps and payOut-keeps and instruct-keeps 12 (omega arith) refl refl deliver-item deliver-sender and instruct-keeps 13 (omega arith) refl refl receive-item receive-sender and trade-keeps and cancel-keeps and cycle-keeps and close-keeps and tt
 
 -- no order that was read has another form
 pub effect-keeps : (b : Ledger) (o : Order) → Premise b → Accepted b o → Kept o.minute (effect b o .after)

@@ -58,38 +58,34 @@ legs-pledged a q (t ∷ rest) e =
     )
 
 -- what the legs bring and take is what the cycle counts
+module _
+    (p : Place)
+    (out into : Item → ℕ)
+    (takes : (t : Item) → taken p (legs (t ∷ [])) ≡ out t)
+    (brings : (t : Item) → brought p (legs (t ∷ [])) ≡ into t)
+  where
+    abbrev Counts : List Marked → Type 0
+    Counts ms = (taken p (legs (withMark ms)) ≡ over out ms) × (brought p (legs (withMark ms)) ≡ over into ms)
 
-module _ (a : Account) where
-  shares-step :
-      (b : Bool) (i : Item) (rest : List Marked)
-      → (taken (account a) (legs (withMark rest)) ≡ sharesTaken a rest) × (brought (account a) (legs (withMark rest)) ≡ sharesBrought a rest)
-      → (taken (account a) (legs (withMark ((b, i) ∷ rest))) ≡ sharesTaken a ((b, i) ∷ rest))
-      × (brought (account a) (legs (withMark ((b, i) ∷ rest))) ≡ sharesBrought a ((b, i) ∷ rest))
-  unfolding legs withMark sharesTaken sharesBrought takesShares bringsShares over
-  shares-step true i rest ih = omega arith
-  shares-step false i rest ih = omega arith
+    legs-step : (b : Bool) (i : Item) (rest : List Marked) → Counts rest → Counts ((b, i) ∷ rest)
+    unfolding legs withMark over
+    legs-step true i rest ih = (omega (arith, takes i), omega (arith, brings i))
+    legs-step false i rest ih = (omega arith, omega arith)
 
-  shares-legs :
-      (ms : List Marked) → (taken (account a) (legs (withMark ms)) ≡ sharesTaken a ms) × (brought (account a) (legs (withMark ms)) ≡ sharesBrought a ms)
-  unfolding legs withMark sharesTaken sharesBrought takesShares bringsShares over
-  shares-legs [] = (refl, refl)
-  shares-legs (x ∷ rest) = shares-step (x .0) (x .1) rest (shares-legs rest)
+    legs-count : (ms : List Marked) → Counts ms
+    unfolding legs withMark over
+    legs-count [] = (refl, refl)
+    legs-count (m ∷ rest) = legs-step (m .0) (m .1) rest (legs-count rest)
 
-module _ (m c : ℕ) where
-  cash-step :
-      (b : Bool) (i : Item) (rest : List Marked)
-      → (taken (cashOf m c) (legs (withMark rest)) ≡ cashTaken m c rest) × (brought (cashOf m c) (legs (withMark rest)) ≡ cashBrought m c rest)
-      → (taken (cashOf m c) (legs (withMark ((b, i) ∷ rest))) ≡ cashTaken m c ((b, i) ∷ rest))
-      × (brought (cashOf m c) (legs (withMark ((b, i) ∷ rest))) ≡ cashBrought m c ((b, i) ∷ rest))
-  unfolding legs withMark cashTaken cashBrought takesCash bringsCash over
-  cash-step true i rest ih = omega arith
-  cash-step false i rest ih = omega arith
+shares-legs :
+    (a : Account) (ms : List Marked) → (taken (account a) (legs (withMark ms)) ≡ sharesTaken a ms) × (brought (account a) (legs (withMark ms)) ≡ sharesBrought a ms)
+unfolding legs sharesTaken sharesBrought takesShares bringsShares
+shares-legs a ms = legs-count (account a) (takesShares a) (bringsShares a) (λ t. omega arith) (λ t. omega arith) ms
 
-  cash-legs :
-      (ms : List Marked) → (taken (cashOf m c) (legs (withMark ms)) ≡ cashTaken m c ms) × (brought (cashOf m c) (legs (withMark ms)) ≡ cashBrought m c ms)
-  unfolding legs withMark cashTaken cashBrought takesCash bringsCash over
-  cash-legs [] = (refl, refl)
-  cash-legs (x ∷ rest) = cash-step (x .0) (x .1) rest (cash-legs rest)
+cash-legs :
+    (m c : ℕ) (ms : List Marked) → (taken (cashOf m c) (legs (withMark ms)) ≡ cashTaken m c ms) × (brought (cashOf m c) (legs (withMark ms)) ≡ cashBrought m c ms)
+unfolding legs cashTaken cashBrought takesCash bringsCash
+cash-legs m c ms = legs-count (cashOf m c) (takesCash m c) (bringsCash m c) (λ t. omega arith) (λ t. omega arith) ms
 
 abbrev SameSums : List Movement → Type 0
 SameSums ms =
