@@ -1,7 +1,7 @@
 -- What each credit and each debit keeps, movements keep. Assumes nothing.
 use mathlib.Core.List.{List, [], _∷_}
-use Prim.Native.Nat.{ℕ, _+_, _-_}
-use Rattle.rulebook.specs.Ledger.{Holdings, putBalance, putCash, putOutside, outsideOf}
+use Prim.Native.Nat.{ℕ}
+use Rattle.rulebook.specs.Ledger.{Holdings, putBalance, putCash, putOutside}
 use Rattle.rulebook.specs.declared.Account.{Account}
 use Rattle.rulebook.specs.Movements.{Place, account, type91, type90, cashOf, member0, Movement, credit, debit, credits, debits, booked}
 
@@ -48,15 +48,15 @@ unfolding credit debit
 booked-puts P balance outside cash = booked-any P credit-keeps debit-keeps
   where
     credit-keeps : (q : Place) (n : ℕ) (h : Holdings) → P h → P (credit q n h)
-    credit-keeps (account a) n h p = balance a (h.balance a + n) h p
-    credit-keeps (type91 s) n h p = outside s (outsideOf s h + n) h p
+    credit-keeps (account a) n h p = balance a _ h p
+    credit-keeps (type91 s) n h p = outside s _ h p
     credit-keeps (type90 s) n h p = p
-    credit-keeps (cashOf m c) n h p = cash m c (h.cash m c + n) h p
+    credit-keeps (cashOf m c) n h p = cash m c _ h p
     credit-keeps (member0 c) n h p = p
 
     debit-keeps : (q : Place) (n : ℕ) (h : Holdings) → P h → P (debit q n h)
-    debit-keeps (account a) n h p = balance a (h.balance a - n) h p
-    debit-keeps (type91 s) n h p = outside s (outsideOf s h - n) h p
+    debit-keeps (account a) n h p = balance a _ h p
+    debit-keeps (type91 s) n h p = outside s _ h p
     debit-keeps (type90 s) n h p = p
-    debit-keeps (cashOf m c) n h p = cash m c (h.cash m c - n) h p
+    debit-keeps (cashOf m c) n h p = cash m c _ h p
     debit-keeps (member0 c) n h p = p

@@ -1,4 +1,5 @@
 -- Demand 3, whole: over any list of calls from the fresh book. Assumes nothing.
+-- its parts, each over any list of calls: custody, issued counts, cash and pledges; rows written; sides
 pub mod Totals
 pub mod Posted
 pub mod Sides

@@ -1,4 +1,5 @@
 -- The premise: the fresh book meets it, and every call keeps it, accepted or refused. Assumes nothing.
+-- its parts: the number of accounts; who has a balance or cash; waiting items; their references; the day; what an order brings in; all forms
 pub mod Counting
 pub mod Owners
 pub mod Items

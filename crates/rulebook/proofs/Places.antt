@@ -84,7 +84,7 @@ all-known-same h k e (m ∷ rest) n = (known-same h k e m.from (n .0), known-sam
 credit-codes : (q : Place) (n : ℕ) (h : Holdings) → SameCodes h (credit q n h)
 unfolding credit putBalance putCash putSecurities putOutside
 credit-codes (account b) n h c = refl
-credit-codes (type91 security) n h c = count-same c security (outsideOf security h + n) h.securities
+credit-codes (type91 security) n h c = count-same c security _ h.securities
 credit-codes (type90 security) n h c = refl
 credit-codes (cashOf member currency) n h c = refl
 credit-codes (member0 currency) n h c = refl
@@ -92,7 +92,7 @@ credit-codes (member0 currency) n h c = refl
 debit-codes : (q : Place) (n : ℕ) (h : Holdings) → SameCodes h (debit q n h)
 unfolding debit putBalance putCash putSecurities putOutside
 debit-codes (account b) n h c = refl
-debit-codes (type91 security) n h c = count-same c security (outsideOf security h - n) h.securities
+debit-codes (type91 security) n h c = count-same c security _ h.securities
 debit-codes (type90 security) n h c = refl
 debit-codes (cashOf member currency) n h c = refl
 debit-codes (member0 currency) n h c = refl

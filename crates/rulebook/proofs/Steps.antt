@@ -1,4 +1,5 @@
--- Every form makes such a step. Assumes nothing.
+-- Every form makes a step: movements that its order says, that its rows show, and that nothing cuts off. Assumes nothing.
+-- what a step is; the forms that make one movement; the cycle
 pub mod OneCall
 pub mod Moving
 pub mod Settling
