@@ -1,23 +1,27 @@
--- What an accepted call's order is known to be: its fields fit their widths, and no refusal applies. Assumes nothing.
-use mathlib.Core.Path.{_≡_, refl, sym, ap, subst, _∙_}
+-- What is known of an order that was read, and of one that no test refuses. Assumes nothing.
+use mathlib.Core.Path.{_≡_, refl, sym, ap, subst}
 use mathlib.Core.Bool.{Bool, true, false, not, _&&_, _||_, false≢true}
 use mathlib.Core.List.{List, [], _∷_}
-use Prim.Native.Nat.{ℕ, zero, suc, _+_, _≤_, _<_, _/_, _%_, _^_}
+use Prim.Native.Nat.{ℕ, zero, suc, _+_, _≤_, _<_, _^_}
 use native.Mathlib.Nat.{mod-lt}
 use native.Mathlib.Omega.{arith}
 use lib.Pow.{pow-pos}
 use lib.Dec.{leb}
 use lib.ListN.{length, getD}
-use borrow.Author.Tests.{eqb-true, leb-true, not-false}
+use borrow.Author.Tests.{eqb-true, leb-true, leb-false, ltb-false, not-false}
+use Rattle.bits.specs.Bits.{leading, field}
 use Rattle.rulebook.specs.declared.Order.{Order}
 use Rattle.rulebook.specs.declared.Party.{Party}
 use Rattle.rulebook.specs.declared.Read.{Read}
-use Rattle.rulebook.specs.Lists.{if_then_else_, _is_, _isNot_, within, some, first}
-use Rattle.bits.specs.Bits.{leading, field}
-use Rattle.rulebook.specs.Ledger.{Ledger, accountOf}
-use Rattle.rulebook.specs.declared.Account.{Account}
+use Rattle.rulebook.specs.Lists.{if_then_else_, _is_, _isNot_, _below_, _atMost_, _oneOf_, within, some, first}
+use Rattle.rulebook.specs.AccountTypes.{wrongTypes}
 use Rattle.rulebook.specs.Record.{widths, places, orderOf, fieldsIn, used, least, most, noForm, unusedNotZero, usedOutOfRange, readRefusal, readOf}
-use Rattle.rulebook.specs.Refusals.{refusals}
+use Rattle.rulebook.specs.Ledger.{Ledger, accountOf, sameAccount, admitted, outsideOf}
+use Rattle.rulebook.specs.Windows.{cycleMinutes, windowOf}
+use Rattle.rulebook.specs.Waiting.{senderOf, sentBy}
+use Rattle.rulebook.specs.Refusals.{wrongDay, wrongCycle, goesBack, outsideWindow, wrongSecurity, wrongPair, wrongParties, wrongDays, wrongReference, wrongCancel, tooLittle, overCeiling, noSpace, refusals}
+
+-- ---- an order that was read
 
 -- a party, and an account, that a record's fields can name
 pub record PartyFits (p : Party) : Type 0 where
@@ -83,11 +87,6 @@ none-applies (check ∷ rest) n e = go (check .1) refl (none-applies rest (n .1)
     go : (t : Bool) → check .1 ≡ t → (first rest ≡ 0 → NoneApplies rest) → NoneApplies (check ∷ rest)
     go true p later = absurd (omega (arith, n .0, simp p at e))
     go false p later = (p, later (simp p at e))
-
--- an accepted order passes each of the tests 6 to 18
-pub passed : (b : Ledger) (o : Order) → first (refusals b o) ≡ 0 → NoneApplies (refusals b o)
-unfolding refusals
-passed b o e = none-applies (refusals b o) (omega arith) e
 
 -- the members of an order that was read are 1 to 64 where its form uses them, and a type is 0 where its form does not use it
 
@@ -190,3 +189,174 @@ read-tests bytes o e =
 
 pub read-ranges : (bytes : List ℕ) (o : Order) → readOf bytes ≡ Read.Order o → Ranges o
 read-ranges bytes o e = let p = read-tests bytes o e .1 in subst Ranges (read-is bytes o e) (fields-range (fieldsIn bytes) (p .form) (p .unused) (p .ranges))
+
+-- ---- an order that no test refuses
+
+-- an accepted order passes each of the tests 6 to 18
+passed : (b : Ledger) (o : Order) → first (refusals b o) ≡ 0 → NoneApplies (refusals b o)
+unfolding refusals
+passed b o e = none-applies (refusals b o) (omega arith) e
+
+-- what is known of an order that was read and accepted
+pub record Accepted (b : Ledger) (o : Order) : Type 0 where
+  pub fits : OrderFits o
+  pub ranges : Ranges o
+  pub right-day : wrongDay b.day o ≡ false
+  pub cycle : wrongCycle b.day o ≡ false
+  pub back : goesBack b.day o ≡ false
+  pub window : outsideWindow b.day o ≡ false
+  pub security : wrongSecurity b.holdings o ≡ false
+  pub types : wrongPair o ≡ false
+  pub parties : wrongParties o ≡ false
+  pub days : wrongDays b.day.number o ≡ false
+  pub reference : wrongReference b.waiting o ≡ false
+  pub cancel : wrongCancel b.waiting o ≡ false
+  pub little : tooLittle b.holdings o ≡ false
+  pub ceiling : overCeiling b.holdings o ≡ false
+  pub space : noSpace b o ≡ false
+
+pub accepted : (b : Ledger) (o : Order) (bytes : List ℕ) → readOf bytes ≡ Read.Order o → first (refusals b o) ≡ 0 → Accepted b o
+unfolding refusals
+accepted b o bytes e z =
+    let p = passed b o z in
+    record {
+      fits = read-fits bytes o e;
+      ranges = read-ranges bytes o e;
+      right-day = p .0;
+      cycle = p .1 .0;
+      back = p .1 .1 .0;
+      window = p .1 .1 .1 .0;
+      security = p .1 .1 .1 .1 .0;
+      types = p .1 .1 .1 .1 .1 .0;
+      parties = p .1 .1 .1 .1 .1 .1 .0;
+      days = p .1 .1 .1 .1 .1 .1 .1 .0;
+      reference = p .1 .1 .1 .1 .1 .1 .1 .1 .0;
+      cancel = p .1 .1 .1 .1 .1 .1 .1 .1 .1 .0;
+      little = p .1 .1 .1 .1 .1 .1 .1 .1 .1 .1 .0;
+      ceiling = p .1 .1 .1 .1 .1 .1 .1 .1 .1 .1 .1 .0;
+      space = p .1 .1 .1 .1 .1 .1 .1 .1 .1 .1 .1 .1 .0;
+    }
+
+-- the fields that a form uses
+pub uses : (form place : ℕ) (o : Order) → o.form ≡ form → (t : Bool) → used form place ≡ t → used o.form place ≡ t
+uses form place o e t u = subst (λ (k : ℕ). used k place ≡ t) (sym e) u
+
+-- ---- what each test says, by form
+
+module _ (b : Ledger) (o : Order) where
+  -- 6
+  pub is-open : (n : ℕ) → o.form ≡ n → (n is 1) ≡ false → wrongDay b.day o ≡ false → b.day.opened ≡ true
+  unfolding wrongDay
+  is-open n e t w = not-false _ (simp (e, t) at w)
+
+  pub opens-next : o.form ≡ 1 → wrongDay b.day o ≡ false → (b.day.opened ≡ false) × ((b.day.number is 60_000) ≡ false)
+  unfolding wrongDay
+  opens-next e w = go (b.day.opened) (b.day.number is 60_000) (simp e at w)
+    where
+      go : (x y : Bool) → (x || y) ≡ false → (x ≡ false) × (y ≡ false)
+      go true y p = absurd (false≢true (sym p))
+      go false y p = (refl, p)
+
+  -- 7
+  pub cycles-left : o.form ≡ 16 → wrongCycle b.day o ≡ false → b.day.cycles < length (cycleMinutes b.day.kind)
+  unfolding wrongCycle
+  cycles-left e w = leb-false _ _ (go (length (cycleMinutes b.day.kind) atMost b.day.cycles) (simp e at w))
+    where
+      go : (x : Bool) → (x || false) ≡ false → x ≡ false
+      go true p = p
+      go false p = refl
+
+  -- 9
+  pub in-window : outsideWindow b.day o ≡ false → o.minute ≤ windowOf b.day o .1
+  unfolding outsideWindow
+  in-window w = in-range true (windowOf b.day o .0) (windowOf b.day o .1) o.minute w refl .1
+
+  first-not : (x y : Bool) → (not x || false || y || false) ≡ false → (x ≡ true) × (y ≡ false)
+  first-not true true p = absurd (false≢true (sym p))
+  first-not true false p = (refl, refl)
+  first-not false y p = absurd (false≢true (sym p))
+
+  -- 12, 13 and 14 of forms 12 and 13
+
+  pub instruct-parties :
+      (n : ℕ) → o.form ≡ n → within 5 9 n ≡ false → within 12 13 n ≡ true → within 6 9 n ≡ false → (n oneOf (5 ∷ 14 ∷ [])) ≡ false → wrongParties o ≡ false
+      → (o.debited.shareholder ≡ o.credited.shareholder) × ((o.debited.member is o.credited.member) ≡ false)
+  unfolding wrongParties
+  instruct-parties n e t₁ t₂ t₃ t₄ w =
+      let p = first-not (o.debited.shareholder is o.credited.shareholder) (o.debited.member is o.credited.member) (simp (e, t₁, t₂, t₃, t₄) at w) in
+      (eqb-true _ _ (p .0), p .1)
+
+  pub instruct-days :
+      (n : ℕ) → o.form ≡ n → within 5 9 n ≡ false → within 12 13 n ≡ true → (n is 14) ≡ false → wrongDays b.day.number o ≡ false
+      → (b.day.number ≤ o.«settlement_day») × (o.«settlement_day» ≤ b.day.number + 20) × (o.«trade_day» ≤ b.day.number)
+  unfolding wrongDays
+  instruct-days n e t₁ t₂ t₃ w =
+      let p = first-not (within b.day.number (b.day.number + 20) o.«settlement_day») (b.day.number below o.«trade_day») (simp (e, t₁, t₂, t₃) at w) in
+      let q = in-range true b.day.number (b.day.number + 20) o.«settlement_day» (ap not (p .0)) refl in
+      (q .0, q .1, ltb-false _ _ (p .1))
+
+  pub none-waits : (n : ℕ) → o.form ≡ n → within 12 14 n ≡ true → (n is 15) ≡ false → wrongReference b.waiting o ≡ false → some (sentBy (senderOf o) o.reference) b.waiting ≡ false
+  unfolding wrongReference
+  none-waits n e t₁ t₂ w = go (some (sentBy (senderOf o) o.reference) b.waiting) (simp (e, t₁, t₂) at w)
+    where
+      go : (x : Bool) → (x || false) ≡ false → x ≡ false
+      go true p = p
+      go false p = refl
+
+  -- 12 and 13 of form 14
+
+  pub trade-parties : o.form ≡ 14 → wrongParties o ≡ false → sameAccount (accountOf o.security o.debited) (accountOf o.security o.credited) ≡ false
+  unfolding wrongParties
+  trade-parties e w = simp e at w
+
+  pub trade-days : o.form ≡ 14 → wrongDays b.day.number o ≡ false → (o.«settlement_day» ≡ o.«trade_day» + 3) × (o.«trade_day» ≡ b.day.number)
+  unfolding wrongDays
+  trade-days e w =
+      let p = go (o.«settlement_day» is (o.«trade_day» + 3)) (o.«trade_day» is b.day.number) (simp e at w) in
+      (eqb-true _ _ (p .0), eqb-true _ _ (p .1))
+    where
+      go : (x y : Bool) → (not x || false || not y) ≡ false → (x ≡ true) × (y ≡ true)
+      go true true p = (refl, refl)
+      go true false p = absurd (false≢true (sym p))
+      go false y p = absurd (false≢true (sym p))
+
+-- 10
+pub is-admitted :
+    (n : ℕ) (b : Ledger) (o : Order) → o.form ≡ n → (within 3 9 n || within 12 14 n) ≡ true → (n is 2) ≡ false → wrongSecurity b.holdings o ≡ false
+    → some (λ x. x.code is o.security) b.holdings.securities ≡ true
+unfolding wrongSecurity admitted
+is-admitted n b o e t t₂ w = go (some (λ x. x.code is o.security) b.holdings.securities) (simp (e, t, t₂) at w)
+  where
+    go : (x : Bool) → (not x || false) ≡ false → x ≡ true
+    go true p = refl
+    go false p = cc
+
+pub not-admitted : (b : Ledger) (o : Order) → o.form ≡ 2 → wrongSecurity b.holdings o ≡ false → some (λ x. x.code is o.security) b.holdings.securities ≡ false
+unfolding wrongSecurity admitted
+not-admitted b o e w = simp e at w
+
+-- 11 and 16
+none-of : (x y z : Bool) → (x || y || z) ≡ false → (x ≡ false) × (y ≡ false) × (z ≡ false)
+none-of true y z e = (cc, cc, cc)
+none-of false true z e = (refl, cc, cc)
+none-of false false z e = (refl, refl, e)
+
+-- test 16, its three parts
+pub little-parts :
+    (b : Ledger) (o : Order) → tooLittle b.holdings o ≡ false
+    → ((o.form is 3 && outsideOf o.security b.holdings below o.quantity.0) ≡ false)
+    × ((within 4 9 o.form && b.holdings.balance (accountOf o.security o.debited) below o.quantity.0) ≡ false)
+    × ((o.form is 11 && b.holdings.cash o.debited.member o.currency below o.amount.0) ≡ false)
+unfolding tooLittle
+little-parts b o e =
+    none-of (o.form is 3 && outsideOf o.security b.holdings below o.quantity.0)
+    (within 4 9 o.form && b.holdings.balance (accountOf o.security o.debited) below o.quantity.0)
+    (o.form is 11 && b.holdings.cash o.debited.member o.currency below o.amount.0)
+    e
+
+pub debit-enough : (b : Ledger) (o : Order) → tooLittle b.holdings o ≡ false → within 4 9 o.form ≡ true → o.quantity.0 ≤ b.holdings.balance (accountOf o.security o.debited)
+debit-enough b o e w = ltb-false _ _ (simp w at (little-parts b o e .1))
+
+pub right-types : (n : ℕ) (b : Ledger) (o : Order) → o.form ≡ n → wrongPair o ≡ false → wrongTypes n o.debited.typ o.credited.typ ≡ false
+unfolding wrongPair
+right-types n b o e w = subst (λ (k : ℕ). wrongTypes k o.debited.typ o.credited.typ ≡ false) e w

@@ -14,7 +14,7 @@ use Rattle.rulebook.specs.AccountTypes.{alike, wrongTypes}
 use Rattle.rulebook.specs.Record.{D, C, usedFields, used}
 use Rattle.rulebook.specs.Ledger.{Ledger, Holdings, accountOf, admitted, putDay, putHoldings, putWaiting, putSecurities}
 use Rattle.rulebook.specs.Movements.{Movement, booked}
-use Rattle.rulebook.specs.Waiting.{isTrade, itemOf, senderOf, marking, staying, bothMarked}
+use Rattle.rulebook.specs.Waiting.{isTrade, itemOf, senderOf, sentBy, marking, staying, bothMarked}
 use Rattle.rulebook.specs.Matching.{tolerance}
 use Rattle.rulebook.specs.Cycle.{buyer, settled, notSettled, legs}
 use Rattle.rulebook.specs.Close.{leaves}
@@ -22,19 +22,16 @@ use Rattle.rulebook.specs.Forms.{outcome, moving, silent, openDay, admit
 use Rattle.rulebook.specs.Call.{putMinute}
 use Rattle.rulebook.specs.Premise.{Each, SecurityFits, accountType, AccountFits, StateFits, ItemFits, Premise, today}
 use Rattle.rulebook.proofs.ByCall.{Form, AllForms, by-form}
-use Rattle.rulebook.proofs.Fitting.{each-append, each-keep, settled-fits, notSettled-fits}
-use Rattle.rulebook.proofs.ListTotals.{total-append}
-use Rattle.rulebook.proofs.TypeFacts.{free-type, alike-free, deposit-type, transfer-type, pledged-type, released-type, blocked-type, unblocked-type}
-use Rattle.rulebook.proofs.Sound.{Accepted}
-use Rattle.rulebook.proofs.Moving.{uses, is-admitted, right-types}
-use Rattle.rulebook.proofs.OrderFacts.{is-open, opens-next, none-waits}
-use Rattle.rulebook.proofs.Owners.{Owned, AllGet, still-admitted, booked-admitted, account-admitted, booked-owned}
-use Rattle.rulebook.proofs.SettledTrades.{Due, settled-due}
-use Rattle.rulebook.proofs.References.{Once, arrive-sent, cancel-sent, close-sent, cycle-sent, new-once}
+use Rattle.rulebook.proofs.Lists.{_and_, total-append, each-so, each-both, each-append, each-kept}
+use Rattle.rulebook.proofs.Rounds.{settled-fits, notSettled-fits, Due, settled-due}
+use Rattle.rulebook.proofs.Types.{free-type, pledged-type, alike-free, deposit-free, transfer-free, pledge-types, release-types, block-types, unblock-types}
+use Rattle.rulebook.proofs.Orders.{Accepted, uses, is-admitted, right-types, is-open, opens-next, none-waits}
+use Rattle.rulebook.proofs.EveryCall.Owners.{Owned, AllGet, still-admitted, booked-admitted, account-admitted, booked-owned}
+use Rattle.rulebook.proofs.EveryCall.References.{Once, arrive-sent, cancel-sent, close-sent, cycle-sent, new-once}
 use Rattle.rulebook.proofs.Halves.{Half, arrive-halves, kept-halves, closed-halves}
-use Rattle.rulebook.proofs.Items.{each-so, each-both, item-later, marking-fits, close-fits, arrive-fits}
-use Rattle.rulebook.proofs.Days.{DayAt, same-day, open-day, cycle-day, close-day}
-use Rattle.rulebook.proofs.NewItems.{single, deliver-item, receive-item, trade-item, deliver-sender, receive-sender, trade-sender}
+use Rattle.rulebook.proofs.EveryCall.Items.{item-later, marking-fits, close-fits, arrive-fits}
+use Rattle.rulebook.proofs.EveryCall.Days.{DayAt, same-day, open-day, cycle-day, close-day}
+use Rattle.rulebook.proofs.EveryCall.NewItems.{single, deliver-item, receive-item, trade-item, deliver-sender, receive-sender, trade-sender}
 
 abbrev Waiting : Ledger → List Item → Type 0
 Waiting b ws = Each (ItemFits b.day.number (today b.day) b.holdings) ws
@@ -89,7 +86,7 @@ credited-fits n b o e a t t₂ u u₂ f =
 deposit-keeps : Keeps 3 deposit
 unfolding deposit used usedFields C
 deposit-keeps b o e p a =
-    moves 3 (omega arith) b o _ e p a (credited-fits 3 b o e a refl refl refl refl (deposit-type o.debited.typ o.credited.typ), tt)
+    moves 3 (omega arith) b o _ e p a (credited-fits 3 b o e a refl refl refl refl (λ w. free-type o.credited.typ (deposit-free o.debited.typ o.credited.typ w)), tt)
 
 withdraw-keeps : Keeps 4 withdraw
 unfolding withdraw
@@ -118,10 +115,6 @@ admit-more : (new : Security) (h : Holdings) (c : ℕ) → admitted c h ≡ true
 unfolding putSecurities
 admit-more new h c = still-admitted c h (putSecurities (h.securities ++ (new ∷ [])) h) (simp total-append (omega arith))
 
-append-fits : (new : Security) → SecurityFits new → (xs : List Security) → Each SecurityFits xs → Each SecurityFits (xs ++ (new ∷ []))
-append-fits new f [] e = (f, tt)
-append-fits new f (x ∷ rest) e = (e .0, append-fits new f rest (e .1))
-
 admit-keeps : Keeps 2 admit
 unfolding admit putHoldings putSecurities used usedFields
 admit-keeps b o e p a =
@@ -137,7 +130,7 @@ admit-keeps b o e p a =
     in
     let w : Owned h =
     record {
-      securities = append-fits new f b.holdings.securities p.securities;
+      securities = each-append SecurityFits b.holdings.securities _ p.securities (f, tt);
       accounts = λ x l. account-admitted b.holdings h (admit-more new b.holdings) x (p.accounts x l);
       cash = p.cash;
     }
@@ -152,20 +145,15 @@ waiting-kept : (b : Ledger) (minute : ℕ) (ws : List Item) → Premise b → Da
 unfolding putWaiting putMinute putDay
 waiting-kept b minute ws p d i r v = record { owned = owned-of b p; items = i; references = r; halves = v; day = d }
 
-deliver-keeps : Keeps 12 instruct
+instruct-keeps :
+    (n : ℕ) → n ≤ 16 → within 12 14 n ≡ true → (n is 15) ≡ false
+    → ((b : Ledger) (o : Order) → Accepted b o → o.form ≡ n → ItemFits b.day.number (today b.day) b.holdings (single o))
+    → ((b : Ledger) (o : Order) → Accepted b o → o.form ≡ n → (s r : ℕ) → sentBy s r (single o) ≡ true → (s ≡ senderOf o) × (r ≡ o.reference)) → Keeps n instruct
 unfolding instruct silent outcome
-deliver-keeps b o e p a =
+instruct-keeps n l t t₂ item sender b o e p a =
     waiting-kept b o.minute _ p (same-day b o (omega arith) p.day a)
-    (arrive-fits _ _ b.holdings (tolerance o.currency) (single o) (deliver-item b o a e) b.waiting p.items)
-    (λ s r. omega (arith, arrive-sent s r (tolerance o.currency) (single o) b.waiting, new-once (senderOf o) o.reference (single o) b.waiting p.references (none-waits b o 12 e refl refl a.reference) (deliver-sender b o a e) s r))
-    (arrive-halves (tolerance o.currency) (single o) (unfold bothMarked itemOf in refl) b.waiting p.halves)
-
-receive-keeps : Keeps 13 instruct
-unfolding instruct silent outcome
-receive-keeps b o e p a =
-    waiting-kept b o.minute _ p (same-day b o (omega arith) p.day a)
-    (arrive-fits _ _ b.holdings (tolerance o.currency) (single o) (receive-item b o a e) b.waiting p.items)
-    (λ s r. omega (arith, arrive-sent s r (tolerance o.currency) (single o) b.waiting, new-once (senderOf o) o.reference (single o) b.waiting p.references (none-waits b o 13 e refl refl a.reference) (receive-sender b o a e) s r))
+    (arrive-fits _ _ b.holdings (tolerance o.currency) (single o) (item b o a e) b.waiting p.items)
+    (λ s r. omega (arith, arrive-sent s r (tolerance o.currency) (single o) b.waiting, new-once (senderOf o) o.reference (single o) b.waiting p.references (none-waits b o n e t t₂ a.reference) (sender b o a e) s r))
     (arrive-halves (tolerance o.currency) (single o) (unfold bothMarked itemOf in refl) b.waiting p.halves)
 
 trade-keeps : Keeps 14 trade
@@ -181,7 +169,7 @@ cancel-keeps : Keeps 15 cancel
 unfolding cancel outcome staying
 cancel-keeps b o e p a =
     waiting-kept b o.minute _ p (same-day b o (omega arith) p.day a)
-    (each-keep _ _ (marking (senderOf o) o.reference b.waiting) (marking-fits _ _ b.holdings (senderOf o) o.reference b.waiting p.items))
+    (each-kept (ItemFits b.day.number (today b.day) b.holdings) (ItemFits b.day.number (today b.day) b.holdings) _ (λ i t f. f) (marking (senderOf o) o.reference b.waiting) (marking-fits _ _ b.holdings (senderOf o) o.reference b.waiting p.items))
     (λ s r. omega (arith, cancel-sent s r (senderOf o) o.reference b.waiting, p.references s r))
     (kept-halves (marking (senderOf o) o.reference b.waiting))
 
@@ -259,34 +247,14 @@ cycle-keeps b o e p a =
 
 forms-keep : AllForms Keeps 1 forms
 unfolding forms used usedFields D C
-forms-keep = (
-  open-keeps,
-  (
-    admit-keeps,
-    (
-      deposit-keeps,
-      (
-        withdraw-keeps,
-        (
-          transfer-keeps 5 (omega arith) refl refl refl refl transfer-type,
-          (
-            transfer-keeps 6 (omega arith) refl refl refl refl pledged-type,
-            (
-              transfer-keeps 7 (omega arith) refl refl refl refl released-type,
-              (
-                transfer-keeps 8 (omega arith) refl refl refl refl blocked-type,
-                (
-                  transfer-keeps 9 (omega arith) refl refl refl refl unblocked-type,
-                  (payIn-keeps, (payOut-keeps, (deliver-keeps, (receive-keeps, (trade-keeps, (cancel-keeps, (cycle-keeps, (close-keeps, tt)))))))),
-                ),
-              ),
-            ),
-          ),
-        ),
-      ),
-    ),
-  ),
-)
+forms-keep =
+    open-keeps and admit-keeps and deposit-keeps and withdraw-keeps
+    and transfer-keeps 5 (omega arith) refl refl refl refl (λ d c w. free-type c (transfer-free d c w .1))
+    and transfer-keeps 6 (omega arith) refl refl refl refl (λ d c w. pledged-type c (pledge-types d c w .1))
+    and transfer-keeps 7 (omega arith) refl refl refl refl (λ d c w. free-type c (release-types d c w .0))
+    and transfer-keeps 8 (omega arith) refl refl refl refl (λ d c w. pledged-type c (block-types d c w .1))
+    and transfer-keeps 9 (omega arith) refl refl refl refl (λ d c w. free-type c (unblock-types d c w .0))
+    and payIn-keeps and payOut-keeps and instruct-keeps 12 (omega arith) refl refl deliver-item deliver-sender and instruct-keeps 13 (omega arith) refl refl receive-item receive-sender and trade-keeps and cancel-keeps and cycle-keeps and close-keeps and tt
 
 -- no order that was read has another form
 pub effect-keeps : (b : Ledger) (o : Order) → Premise b → Accepted b o → Kept o.minute (effect b o .after)

@@ -1,42 +1,38 @@
--- Form 16: a cycle's movements are its settled trades' legs, and nothing is short for them. Assumes nothing.
-use mathlib.Core.Path.{_≡_, refl, sym, ap, _∙_}
-use mathlib.Core.Bool.{Bool, true, false, _&&_, _||_}
+-- Form 16: a cycle's movements are its settled trades' legs, and no debit of them is cut off at 0. Assumes nothing.
+use mathlib.Core.Path.{_≡_, refl}
+use mathlib.Core.Bool.{Bool, true, false}
 use mathlib.Core.List.{List, [], _∷_}
-use Prim.Native.Nat.{ℕ, _+_, _≤_, _<_, _^_}
+use Prim.Native.Nat.{ℕ, _+_, _<_, _^_}
 use native.Mathlib.Omega.{arith}
-use lib.ListN.{length}
 use Rattle.rulebook.specs.declared.Party.{Party}
 use Rattle.rulebook.specs.declared.Item.{Item}
-use Rattle.rulebook.specs.declared.Order.{Order}
-use Rattle.rulebook.specs.Lists.{if_then_else_, _is_, total}
 use Rattle.rulebook.specs.AccountTypes.{pledgedOrBlocked}
-use Rattle.rulebook.specs.Ledger.{Ledger, Holdings, accountOf, sameAccount, putSecurities}
+use Rattle.rulebook.specs.Ledger.{Ledger, Holdings, accountOf, putSecurities}
 use Rattle.rulebook.specs.declared.Account.{Account}
 use Rattle.rulebook.specs.Movements.{Place, account, type91, type90, cashOf, member0, Movement, booked}
-use Rattle.rulebook.specs.Rows.{postingRows}
 use Rattle.rulebook.specs.Cycle.{Marked, seller, buyer, over, bringsShares, takesShares, bringsCash, takesCash, sharesTaken, sharesBrought, cashTaken, cashBrought, settling, withMark, settled, legs}
 use Rattle.rulebook.specs.Forms.{outcome, counts, cycle}
 use Rattle.rulebook.specs.Calls.{kept}
-use Rattle.rulebook.proofs.Rounds.{settling-done, enough-shares, enough-cash}
-use Rattle.rulebook.specs.Premise.{Each}
-use Rattle.rulebook.proofs.Fitting.{settled-fits, notSettled-fits}
-use Rattle.rulebook.proofs.Places.{isAt, brought, taken, AllKnown, Enough, booked-codes, booked-exact}
+use Rattle.rulebook.proofs.Rounds.{settling-done, enough-shares, enough-cash, settled-fits}
+use Rattle.rulebook.specs.Premise.{Each, ItemFits, today}
+use Rattle.rulebook.proofs.Lists.{each-so}
+use Rattle.rulebook.proofs.Places.{isAt, brought, taken, AllKnown, Enough, booked-exact}
 use Rattle.rulebook.proofs.Reading.{Proper, AllProper}
-use Rattle.rulebook.proofs.CashSums.{cashInto, cashOut}
-use Rattle.rulebook.proofs.HeldSums.{heldInto, heldOut}
-use Rattle.rulebook.proofs.Sound.{PartySound, ItemSound, Sound}
-use Rattle.rulebook.proofs.Moving.{Steps, party-apart}
+use Rattle.rulebook.proofs.Sums.{heldInto, heldOut, cashInto, cashOut}
+use Rattle.rulebook.proofs.EveryCall.Items.{PartyPosts, ItemPosts, item-posts}
+use Rattle.rulebook.proofs.Steps.OneCall.{admits-none, Steps}
+use Rattle.rulebook.proofs.Steps.Moving.{party-apart}
 
 legs-known : (h : Holdings) (ts : List Item) → AllKnown h (legs ts)
 unfolding legs
 legs-known h [] = tt
 legs-known h (t ∷ rest) = (tt, tt, (tt, tt, legs-known h rest))
 
-side-proper : (security : ℕ) (p : Party) → security < 2 ^ 14 → PartySound p → Proper (account (accountOf security p))
+side-proper : (security : ℕ) (p : Party) → security < 2 ^ 14 → PartyPosts p → Proper (account (accountOf security p))
 unfolding accountOf
 side-proper security p s f = (s, omega (arith, f.most), f.typ, f.shareholder, f.quiet .1)
 
-legs-proper : (ts : List Item) → Each ItemSound ts → AllProper (legs ts)
+legs-proper : (ts : List Item) → Each ItemPosts ts → AllProper (legs ts)
 unfolding legs seller buyer
 legs-proper [] e = tt
 legs-proper (t ∷ rest) e =
@@ -52,7 +48,7 @@ legs-proper (t ∷ rest) e =
       ),
     )
 
-legs-pledged : (a : Account) → pledgedOrBlocked a.typ ≡ true → (ts : List Item) → Each ItemSound ts → (taken (account a) (legs ts) ≡ 0) × (brought (account a) (legs ts) ≡ 0)
+legs-pledged : (a : Account) → pledgedOrBlocked a.typ ≡ true → (ts : List Item) → Each ItemPosts ts → (taken (account a) (legs ts) ≡ 0) × (brought (account a) (legs ts) ≡ 0)
 unfolding legs seller buyer
 legs-pledged a q [] e = (refl, refl)
 legs-pledged a q (t ∷ rest) e =
@@ -62,38 +58,34 @@ legs-pledged a q (t ∷ rest) e =
     )
 
 -- what the legs bring and take is what the cycle counts
+module _
+    (p : Place)
+    (out into : Item → ℕ)
+    (takes : (t : Item) → taken p (legs (t ∷ [])) ≡ out t)
+    (brings : (t : Item) → brought p (legs (t ∷ [])) ≡ into t)
+  where
+    abbrev Counts : List Marked → Type 0
+    Counts ms = (taken p (legs (withMark ms)) ≡ over out ms) × (brought p (legs (withMark ms)) ≡ over into ms)
 
-module _ (a : Account) where
-  shares-step :
-      (b : Bool) (i : Item) (rest : List Marked)
-      → (taken (account a) (legs (withMark rest)) ≡ sharesTaken a rest) × (brought (account a) (legs (withMark rest)) ≡ sharesBrought a rest)
-      → (taken (account a) (legs (withMark ((b, i) ∷ rest))) ≡ sharesTaken a ((b, i) ∷ rest))
-      × (brought (account a) (legs (withMark ((b, i) ∷ rest))) ≡ sharesBrought a ((b, i) ∷ rest))
-  unfolding legs withMark sharesTaken sharesBrought takesShares bringsShares over
-  shares-step true i rest ih = omega arith
-  shares-step false i rest ih = omega arith
+    legs-step : (b : Bool) (i : Item) (rest : List Marked) → Counts rest → Counts ((b, i) ∷ rest)
+    unfolding legs withMark over
+    legs-step true i rest ih = (omega (arith, takes i), omega (arith, brings i))
+    legs-step false i rest ih = (omega arith, omega arith)
 
-  shares-legs :
-      (ms : List Marked) → (taken (account a) (legs (withMark ms)) ≡ sharesTaken a ms) × (brought (account a) (legs (withMark ms)) ≡ sharesBrought a ms)
-  unfolding legs withMark sharesTaken sharesBrought takesShares bringsShares over
-  shares-legs [] = (refl, refl)
-  shares-legs (x ∷ rest) = shares-step (x .0) (x .1) rest (shares-legs rest)
+    legs-count : (ms : List Marked) → Counts ms
+    unfolding legs withMark over
+    legs-count [] = (refl, refl)
+    legs-count (m ∷ rest) = legs-step (m .0) (m .1) rest (legs-count rest)
 
-module _ (m c : ℕ) where
-  cash-step :
-      (b : Bool) (i : Item) (rest : List Marked)
-      → (taken (cashOf m c) (legs (withMark rest)) ≡ cashTaken m c rest) × (brought (cashOf m c) (legs (withMark rest)) ≡ cashBrought m c rest)
-      → (taken (cashOf m c) (legs (withMark ((b, i) ∷ rest))) ≡ cashTaken m c ((b, i) ∷ rest))
-      × (brought (cashOf m c) (legs (withMark ((b, i) ∷ rest))) ≡ cashBrought m c ((b, i) ∷ rest))
-  unfolding legs withMark cashTaken cashBrought takesCash bringsCash over
-  cash-step true i rest ih = omega arith
-  cash-step false i rest ih = omega arith
+shares-legs :
+    (a : Account) (ms : List Marked) → (taken (account a) (legs (withMark ms)) ≡ sharesTaken a ms) × (brought (account a) (legs (withMark ms)) ≡ sharesBrought a ms)
+unfolding legs sharesTaken sharesBrought takesShares bringsShares
+shares-legs a ms = legs-count (account a) (takesShares a) (bringsShares a) (λ t. omega arith) (λ t. omega arith) ms
 
-  cash-legs :
-      (ms : List Marked) → (taken (cashOf m c) (legs (withMark ms)) ≡ cashTaken m c ms) × (brought (cashOf m c) (legs (withMark ms)) ≡ cashBrought m c ms)
-  unfolding legs withMark cashTaken cashBrought takesCash bringsCash over
-  cash-legs [] = (refl, refl)
-  cash-legs (x ∷ rest) = cash-step (x .0) (x .1) rest (cash-legs rest)
+cash-legs :
+    (m c : ℕ) (ms : List Marked) → (taken (cashOf m c) (legs (withMark ms)) ≡ cashTaken m c ms) × (brought (cashOf m c) (legs (withMark ms)) ≡ cashBrought m c ms)
+unfolding legs cashTaken cashBrought takesCash bringsCash
+cash-legs m c ms = legs-count (cashOf m c) (takesCash m c) (bringsCash m c) (λ t. omega arith) (λ t. omega arith) ms
 
 abbrev SameSums : List Movement → Type 0
 SameSums ms =
@@ -129,11 +121,15 @@ cycle-exact b = booked-exact (legs (settled b)) b.holdings (legs-known b.holding
 
 pub cycle-steps : Steps 16 cycle
 unfolding cycle outcome counts putSecurities
-cycle-steps b o e s a =
+cycle-steps b o e p a =
     let ts = settled b in
-    let i = settled-fits ItemSound b s.items in
+    let P : Item → Type 0 = ItemFits b.day.number (today b.day) b.holdings in
+    let i = each-so P ItemPosts (item-posts b.day.number (today b.day) b.holdings) ts (settled-fits P b p.items) in
     record {
+      listed = b.holdings.securities;
+      admits = unfold putSecurities in admits-none 16 o b.holdings refl p.codes;
       moves = legs ts;
+      holds = refl;
       changes = cycle-exact b;
       proper = legs-proper ts i;
       rows = λ _. refl;
@@ -145,7 +141,4 @@ cycle-steps b o e s a =
         cash = λ c. omega (arith, legs-sums ts .2 c);
         pledged = λ x q. legs-pledged x q ts i;
       };
-      sound = record { codes = λ c. omega (arith, booked-codes (legs ts) b.holdings c, s.codes c); items = notSettled-fits ItemSound b s.items };
-      listed = b.holdings.securities;
-      holds = refl;
     }

@@ -14,9 +14,7 @@ use Rattle.rulebook.specs.Windows.{byKind, cycleMinutes, officeEnd, wind
 use Rattle.rulebook.specs.Call.{putMinute}
 use Rattle.rulebook.specs.Forms.{outcome, silent, openDay, cycle, close}
 use Rattle.rulebook.specs.Premise.{DayFits}
-use Rattle.rulebook.proofs.Sound.{Accepted}
-use Rattle.rulebook.proofs.Moving.{uses}
-use Rattle.rulebook.proofs.OrderFacts.{opens-next, cycles-left, in-window}
+use Rattle.rulebook.proofs.Orders.{Accepted, uses, opens-next, cycles-left, in-window}
 
 -- the day with the minute of the call
 abbrev pub DayAt : ℕ → Ledger → Type 0

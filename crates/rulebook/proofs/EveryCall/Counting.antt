@@ -11,7 +11,7 @@ use Rattle.rulebook.specs.Premise.{accountCount}
 use Rattle.rulebook.proofs.Held.{sum-zero, accounts-put}
 use Rattle.rulebook.proofs.Reading.{Proper, AllProper}
 use Rattle.rulebook.proofs.Booking.{Both, booked-keeps}
-use Rattle.rulebook.proofs.Sound.{Step}
+use Rattle.rulebook.proofs.Steps.OneCall.{Step}
 
 abbrev pub Counted : Holdings → Type 0
 Counted h = h.accounts ≡ accountCount h

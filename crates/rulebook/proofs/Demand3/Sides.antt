@@ -5,7 +5,8 @@ use mathlib.Core.List.{List, [], _∷_, map}
 use Prim.Native.Nat.{ℕ, zero, suc, _+_, _≤_, zero-le}
 use borrow.Author.Tests.{ne-eqb}
 use Rattle.rulebook.specs.Calls.{Call, Made, callsOn, bookAfter, ofAnswer, answers, takesIn, sidesTaken}
-use Rattle.rulebook.proofs.ListTotals.{keep-split, total-append, total-map, cycle-total}
+use Rattle.rulebook.proofs.Lists.{_and_, keep-split, total-append, total-map}
+use Rattle.rulebook.proofs.Rounds.{cycle-total}
 use Rattle.rulebook.proofs.ByCall.{Form, AllForms, by-form, inAll, by-call, records-are, answers-are}
 use Rattle.rulebook.specs.Call.{putMinute}
 use Rattle.rulebook.specs.declared.Answer.{Answer}
@@ -178,40 +179,12 @@ close-keeps b o = omega (arith, close-sides b.day.number b.waiting)
 
 forms-keep : AllForms Keeps 1 forms
 unfolding forms openDay admit deposit withdraw transfer payIn payOut moving silent outcome counts putDay putHoldings
-forms-keep = (
-  quiet 1 openDay refl (λ b o. (refl, refl)),
-  (
-    quiet 2 admit refl (λ b o. (refl, refl)),
-    (
-      quiet 3 deposit refl (λ b o. (refl, refl)),
-      (
-        quiet 4 withdraw refl (λ b o. (refl, refl)),
-        (
-          quiet 5 transfer refl (λ b o. (refl, refl)),
-          (
-            quiet 6 transfer refl (λ b o. (refl, refl)),
-            (
-              quiet 7 transfer refl (λ b o. (refl, refl)),
-              (
-                quiet 8 transfer refl (λ b o. (refl, refl)),
-                (
-                  quiet 9 transfer refl (λ b o. (refl, refl)),
-                  (
-                    quiet 10 payIn refl (λ b o. (refl, refl)),
-                    (
-                      quiet 11 payOut refl (λ b o. (refl, refl)),
-                      (instruct-keeps, (instruct-keeps, (trade-keeps, (cancel-keeps, (cycle-keeps, (close-keeps, tt)))))),
-                    ),
-                  ),
-                ),
-              ),
-            ),
-          ),
-        ),
-      ),
-    ),
-  ),
-)
+forms-keep =
+    quiet 1 openDay refl (λ b o. (refl, refl)) and quiet 2 admit refl (λ b o. (refl, refl)) and quiet 3 deposit refl (λ b o. (refl, refl))
+    and quiet 4 withdraw refl (λ b o. (refl, refl)) and quiet 5 transfer refl (λ b o. (refl, refl)) and quiet 6 transfer refl (λ b o. (refl, refl))
+    and quiet 7 transfer refl (λ b o. (refl, refl)) and quiet 8 transfer refl (λ b o. (refl, refl)) and quiet 9 transfer refl (λ b o. (refl, refl))
+    and quiet 10 payIn refl (λ b o. (refl, refl)) and quiet 11 payOut refl (λ b o. (refl, refl)) and instruct-keeps and instruct-keeps and trade-keeps
+    and cancel-keeps and cycle-keeps and close-keeps and tt
 
 takes-most : (m : ℕ) → 18 ≤ m → takesAt m ≡ 0
 takes-most m h = simp (ne-eqb m 12 (λ e. omega arith), ne-eqb m 13 (λ e. omega arith), ne-eqb m 14 (λ e. omega arith))

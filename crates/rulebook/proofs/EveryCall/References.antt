@@ -13,8 +13,9 @@ use Rattle.rulebook.specs.Waiting.{isDeliver, isReceive, ownReference, s
 use Rattle.rulebook.specs.Matching.{pairsWith, pairOf, arrive}
 use Rattle.rulebook.specs.Cycle.{notSettled}
 use Rattle.rulebook.specs.Premise.{sent}
-use Rattle.rulebook.proofs.ListTotals.{keep-most, total-append, total-map, cycle-total}
-use Rattle.rulebook.proofs.Agreed.{Agreed, pairs}
+use Rattle.rulebook.proofs.Lists.{keep-most, total-append, total-map}
+use Rattle.rulebook.proofs.Rounds.{cycle-total}
+use Rattle.rulebook.proofs.EveryCall.Items.{Agreed, pairs}
 
 abbrev pub hit : Bool → ℕ
 hit t = if t then 1 else 0

@@ -2,20 +2,20 @@
 use mathlib.Core.Path.{_≡_, refl, subst}
 use mathlib.Core.Bool.{Bool, true, false, false≢true}
 use mathlib.Core.List.{List, [], _∷_, map}
-use Prim.Native.Nat.{ℕ, zero, suc, _+_, _-_, _≤_}
+use Prim.Native.Nat.{ℕ, zero, suc, _+_, _≤_}
 use native.Mathlib.Omega.{arith}
 use borrow.Author.Tests.{eqb-true}
 use Rattle.rulebook.specs.declared.Security.{Security}
 use Rattle.rulebook.specs.Lists.{if_then_else_, _is_, some}
-use Rattle.rulebook.specs.Ledger.{Holdings, fresh, admitted, putBalance, putCash, putSecurities, putOutside, outsideOf}
+use Rattle.rulebook.specs.Ledger.{Holdings, fresh, admitted, putBalance, putCash, putSecurities, putOutside}
 use Rattle.rulebook.specs.declared.Account.{Account}
 use Rattle.rulebook.specs.Movements.{Place, account, type91, type90, cashOf, member0, Movement, credit, debit, credits, debits, booked}
 use Rattle.rulebook.specs.Premise.{Each, withCode, SecurityFits, AccountFits, CashFits}
 use Rattle.rulebook.proofs.Rounds.{same-eq}
 use Rattle.rulebook.proofs.Securities.{changed, known, unknown}
 use Rattle.rulebook.proofs.Places.{isAccount, isCash, brought, credit-balance, debit-balance, credit-cash, debit-cash, booked-codes}
-use Rattle.rulebook.proofs.Types.{both}
-use Rattle.rulebook.proofs.Booking.{booked-any}
+use Rattle.rulebook.proofs.Lists.{both}
+use Rattle.rulebook.proofs.Booking.{booked-puts}
 
 -- an admitted security stays admitted
 
@@ -43,21 +43,9 @@ changed-fits c v (x ∷ rest) e = (go (x.code is c), changed-fits c v rest (e .1
     go true = let f = e .0 in record { code-least = f.code-least; code = f.code; issued-least = f.issued-least; issued = f.issued }
     go false = e .0
 
-credit-fits : (q : Place) (n : ℕ) (h : Holdings) → Each SecurityFits h.securities → Each SecurityFits (credit q n h .securities)
-unfolding credit putBalance putCash putSecurities putOutside
-credit-fits (account a) n h e = e
-credit-fits (type91 s) n h e = changed-fits s (outsideOf s h + n) h.securities e
-credit-fits (type90 s) n h e = e
-credit-fits (cashOf m c) n h e = e
-credit-fits (member0 c) n h e = e
-
-debit-fits : (q : Place) (n : ℕ) (h : Holdings) → Each SecurityFits h.securities → Each SecurityFits (debit q n h .securities)
-unfolding debit putBalance putCash putSecurities putOutside
-debit-fits (account a) n h e = e
-debit-fits (type91 s) n h e = changed-fits s (outsideOf s h - n) h.securities e
-debit-fits (type90 s) n h e = e
-debit-fits (cashOf m c) n h e = e
-debit-fits (member0 c) n h e = e
+booked-fits : (ms : List Movement) (h : Holdings) → Each SecurityFits h.securities → Each SecurityFits (booked ms h .securities)
+unfolding putBalance putCash putSecurities putOutside
+booked-fits ms h e = booked-puts (λ k. Each SecurityFits k.securities) (λ a v k e. e) (λ s v k e. changed-fits s v k.securities e) (λ m c v k e. e) ms h e
 
 -- what a place has after movements it had, or they brought
 
@@ -163,7 +151,7 @@ account-admitted h k e a f = record {
 
 pub booked-owned : (ms : List Movement) (h : Holdings) → AllGet h ms → Owned h → Owned (booked ms h)
 booked-owned ms h g o = record {
-  securities = booked-any (λ k. Each SecurityFits k.securities) credit-fits debit-fits ms h o.securities;
+  securities = booked-fits ms h o.securities;
   accounts = λ a l.
       account-admitted h (booked ms h) (booked-admitted ms h) a
       (either (AccountFits h a) (booked ms h .balance a) (h.balance a) (brought (account a) ms) (booked-most a ms h) l (o.accounts a) (brought-account h a ms g));
