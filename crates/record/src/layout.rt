@@ -1,0 +1,61 @@
+// A record's layout: sixteen fields packed without gaps, the last of them 48 zero bits.
+ghost use mathlib.Core.Path.{_≡_};
+ghost use Prim.Native.Nat.{_≤_};
+ghost use lib.ListN.{length};
+ghost use Rattle.rulebook.specs.Record.{fieldsIn, orderOf};
+use rulebook::Cents;
+use rulebook::Order;
+use rulebook::Party;
+use rulebook::Shares;
+
+// The fields that a record's bytes hold.
+pub fn fields_in(record: &[u8]) -> [u64; 16]
+    requires { ⌜ 40 ≤ length (now «record») ⌝ }
+    ensures { λ r. ⌜ r ≡ fieldsIn (now («record» .entry)) ⌝ }
+{
+    [
+        bits::get_bits(record, 0, 5),
+        bits::get_bits(record, 5, 11),
+        bits::get_bits(record, 16, 14),
+        bits::get_bits(record, 30, 2),
+        bits::get_bits(record, 32, 10),
+        bits::get_bits(record, 42, 8),
+        bits::get_bits(record, 50, 10),
+        bits::get_bits(record, 60, 8),
+        bits::get_bits(record, 68, 30),
+        bits::get_bits(record, 98, 30),
+        bits::get_bits(record, 128, 40),
+        bits::get_bits(record, 168, 40),
+        bits::get_bits(record, 208, 16),
+        bits::get_bits(record, 224, 16),
+        bits::get_bits(record, 240, 32),
+        bits::get_bits(record, 272, 48),
+    ]
+}
+
+// The order of such fields.
+pub fn order_of(fields: &[u64; 16]) -> Order
+    ensures { λ r. ⌜ r ≡ orderOf (now (fields .entry)) ⌝ }
+{
+    Order {
+        form: fields[0],
+        minute: fields[1],
+        security: fields[2],
+        currency: fields[3],
+        debited: Party {
+            member: fields[4],
+            typ: fields[5],
+            shareholder: fields[8],
+        },
+        credited: Party {
+            member: fields[6],
+            typ: fields[7],
+            shareholder: fields[9],
+        },
+        quantity: Shares(fields[10]),
+        amount: Cents(fields[11]),
+        trade_day: fields[12],
+        settlement_day: fields[13],
+        reference: fields[14],
+    }
+}
