@@ -1,6 +1,6 @@
--- A test on every number below another: what a loop over the places finds, and a table's rule, which is one computed test. Assumes nothing.
-use mathlib.Core.Path.{_≡_, refl}
-use mathlib.Core.Bool.{Bool, true, false, not, _||_}
+-- A test on every number below another: what a loop over the places has found, and a table's rule, which is one computed test. Assumes nothing.
+use mathlib.Core.Path.{_≡_, refl, sym, ap, _∙_}
+use mathlib.Core.Bool.{Bool, true, false, not, _||_, or-false, or-assoc}
 use Prim.Native.Nat.{ℕ, zero, suc, _<_}
 use native.Mathlib.Omega.{arith}
 
@@ -9,19 +9,12 @@ abbrev pub any : ℕ → (ℕ → Bool) → Bool
 any zero test = false
 any (suc n) test = test 0 || any n (λ k. test (suc k))
 
-pub any-found : (n : ℕ) (test : ℕ → Bool) (k : ℕ) → k < n → test k ≡ true → any n test ≡ true
-any-found zero test k l e = absurd (omega arith)
-any-found (suc n) test zero l e = simp e
-any-found (suc n) test (suc k) l e = or-true (test 0) (any n (λ j. test (suc j))) (any-found n (λ j. test (suc j)) k (omega arith) e)
-  where
-    or-true : (a b : Bool) → b ≡ true → (a || b) ≡ true
-    or-true true b h = refl
-    or-true false b h = h
+-- the last number apart
+pub any-more : (n : ℕ) (test : ℕ → Bool) → any (suc n) test ≡ (any n test || test n)
+any-more zero test = or-false (test 0)
+any-more (suc n) test = ap (λ (b : Bool). test 0 || b) (any-more n (λ k. test (suc k))) ∙ sym (or-assoc (test 0) (any n (λ k. test (suc k))) (test (suc n)))
 
-pub any-none : (n : ℕ) (test : ℕ → Bool) → ((k : ℕ) → k < n → test k ≡ false) → any n test ≡ false
-any-none zero test h = refl
-any-none (suc n) test h = simp (h 0 (omega arith)) (any-none n (λ k. test (suc k)) (λ k l. h (suc k) (omega arith)))
-
+-- where none passes, this one does not
 pub none-passes : (n : ℕ) (test : ℕ → Bool) → any n test ≡ false → (k : ℕ) → k < n → test k ≡ false
 none-passes zero test e k l = absurd (omega arith)
 none-passes (suc n) test e zero l = left (test 0) (any n (λ j. test (suc j))) e

@@ -1,3 +1,3 @@
 pub mod Below
-pub mod Ranges
+pub mod Places
 pub mod Answers

@@ -1,10 +1,14 @@
 // Refusals 3, 4 and 5, which reader and writer share.
 ghost use mathlib.Core.Path.{_≡_};
-ghost use Prim.Native.Nat.{_≤_, _<_};
+ghost use mathlib.Core.Bool.{not, _&&_};
+ghost use mathlib.Core.List.{[], _∷_, map};
+ghost use Prim.Native.Nat.{ℕ, _/_, _^_, _≤_, _<_};
+ghost use lib.Bits.{bitAnd};
+ghost use lib.Dec.{eqb};
 ghost use lib.ListN.{getD};
-ghost use Rattle.rulebook.specs.Lists.{_is_, within, some};
-ghost use Rattle.rulebook.specs.Record.{used, least, most, places};
-ghost use Rattle.record.specs.Fields.{fieldRefusal, fieldsRefusal};
+ghost use Rattle.rulebook.specs.Lists.{_isNot_, within, first};
+ghost use Rattle.rulebook.specs.Record.{used, least, most, places, unusedNotZero, usedOutOfRange};
+ghost use Rattle.record.specs.Fields.{earlierOf, fieldsRefusal};
 
 // Fields as bits of a word: the bit of a field is its place.
 const SECURITY: u64 = 1 << 2;
@@ -32,8 +36,8 @@ const SETTLEMENT_DAY: u64 = 1 << 13;
 const REFERENCE: u64 = 1 << 14;
 // A movement between two parties.
 const MOVEMENT: u64 = SECURITY | DEBITED | CREDITED | QUANTITY | SETTLEMENT_DAY;
-// Form and minute.
-const ALWAYS: u64 = 1 | 1 << 1;
+
+const FORM_AND_MINUTE: u64 = 1 | 1 << 1;
 
 const ALL: u64 = MOVEMENT | CURRENCY | AMOUNT | 1 << 12 | REFERENCE;
 
@@ -78,73 +82,78 @@ const MOST: [u64; 16] = [
     (1 << 48) - 1,
 ];
 
-// Whether the form uses the field.
-fn is_used(form: usize, place: usize) -> bool
-    requires { ⌜ (1 ≤ form) × (form ≤ 17) × (place < 16) ⌝ }
-    ensures { λ r. ⌜ r ≡ used form place ⌝ }
+// The fields that a form uses, a bit for each.
+fn used_by(form: usize) -> u64
+    requires { ⌜ (1 ≤ form) × (form ≤ 17) ⌝ }
+    ensures { λ r. ⌜ ((place : ℕ) → place < 16 → eqb (bitAnd (r / 2 ^ place) 1) 1 ≡ used form place) ⌝ }
 {
-    (ALWAYS | USED[form - 1]) >> place & 1 == 1
+    FORM_AND_MINUTE | USED[form - 1]
 }
 
-// The minute alone may be 0.
+// The least that a used field can be: the minute alone may be 0.
 fn least_of(place: usize) -> u64
     ensures { λ r. ⌜ r ≡ least place ⌝ }
 {
     if place == 1 { 0 } else { 1 }
 }
 
-// The day kind, which is form 1's quantity, is at most 2.
-fn most_of(form: usize, place: usize) -> u64
-    requires { ⌜ place < 16 ⌝ }
-    ensures { λ r. ⌜ r ≡ most form place ⌝ }
+// The most that each field can be: form 1's quantity is the day kind.
+fn most_of(form: usize) -> [u64; 16]
+    ensures { λ r. ⌜ r ≡ map (most form) places ⌝ }
 {
-    if place == 10 {
-        if form == 1 {
-            return 2;
-        }
+    let mut most = MOST;
+    if form == 1 {
+        most[10] = 2;
+        return most;
     }
-    MOST[place]
-}
-
-// Whether a used field is in its range.
-fn is_within(form: usize, place: usize, value: u64) -> bool
-    requires { ⌜ place < 16 ⌝ }
-    ensures { λ r. ⌜ r ≡ within (least place) (most form place) value ⌝ }
-{
-    if value < least_of(place) {
-        return false;
-    }
-    value <= most_of(form, place)
+    most
 }
 
 // The refusal of one field, or 0.
-fn field_refusal(form: usize, place: usize, value: u64) -> u64
-    requires { ⌜ (1 ≤ form) × (form ≤ 17) × (place < 16) ⌝ }
-    ensures { λ r. ⌜ r ≡ fieldRefusal form place value ⌝ }
+fn field_refusal(is_used: bool, least: u64, most: u64, value: u64) -> u64
+    ensures { λ r. ⌜ r ≡ first ((4, not «is_used» && value isNot 0) ∷ (5, «is_used» && not (within least most value)) ∷ []) ⌝ }
 {
-    if is_used(form, place) {
-        if is_within(form, place, value) {
-            return 0;
+    if is_used {
+        if value < least {
+            return 5;
         }
-        return 5;
-    }
-    if value == 0 {
+        if most < value {
+            return 5;
+        }
         return 0;
     }
-    4
+    if value == 0 { 0 } else { 4 }
 }
 
-// Whether some field gets this refusal.
-fn some_field(number: u64, form: usize, fields: &[u64; 16]) -> bool
-    requires { ⌜ (1 ≤ form) × (form ≤ 17) ⌝ }
-    ensures { λ r. ⌜ r ≡ some (λ place. fieldRefusal form place (getD (now (fields .entry)) place 0) is number) places ⌝ }
+// The first of two refusals in checking order, each of which may be 0 for none.
+fn earlier(one: u64, other: u64) -> u64
+    ensures { λ r. ⌜ r ≡ earlierOf one other ⌝ }
 {
-    for place in 0..16 {
-        if field_refusal(form, place, fields[place]) == number {
-            return true;
-        }
+    if one == 0 {
+        return other;
     }
-    false
+    if other == 0 {
+        return one;
+    }
+    if one < other { one } else { other }
+}
+
+// The first of 4 and 5 that applies to the fields of a form, or 0.
+fn fields_refusal(form: usize, fields: &[u64; 16]) -> u64
+    requires { ⌜ (1 ≤ form) × (form ≤ 17) × (getD (now fields) 0 0 ≡ form) ⌝ }
+    ensures { λ r. ⌜ r ≡ first ((4, unusedNotZero (now (fields .entry))) ∷ (5, usedOutOfRange (now (fields .entry))) ∷ []) ⌝ }
+{
+    let used = used_by(form);
+    let most = most_of(form);
+    let mut number = 0;
+    for place in 0..16 {
+        let is_used = used >> place & 1 == 1;
+        number = earlier(
+            number,
+            field_refusal(is_used, least_of(place), most[place], fields[place]),
+        );
+    }
+    number
 }
 
 // The first of 3, 4, 5 that applies, or 0.
@@ -158,11 +167,5 @@ pub fn refusal(fields: &[u64; 16]) -> u64
     if 17 < form {
         return 3;
     }
-    if some_field(4, form as usize, fields) {
-        return 4;
-    }
-    if some_field(5, form as usize, fields) {
-        return 5;
-    }
-    0
+    fields_refusal(form as usize, fields)
 }
