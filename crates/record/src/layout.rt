@@ -2,11 +2,14 @@
 ghost use mathlib.Core.Path.{_≡_};
 ghost use Prim.Native.Nat.{_≤_};
 ghost use lib.ListN.{length};
-ghost use Rattle.rulebook.specs.Record.{fieldsIn, orderOf};
+ghost use Rattle.rulebook.specs.Record.{fieldsIn, fieldsOf, orderOf};
 use rulebook::Cents;
 use rulebook::Order;
 use rulebook::Party;
 use rulebook::Shares;
+
+// The fields' widths in bits.
+pub const WIDTHS: [usize; 16] = [5, 11, 14, 2, 10, 8, 10, 8, 30, 30, 40, 40, 16, 16, 32, 48];
 
 // The fields that a record's bytes hold.
 pub fn fields_in(record: &[u8]) -> [u64; 16]
@@ -58,4 +61,30 @@ pub fn order_of(fields: &[u64; 16]) -> Order
         settlement_day: fields[13],
         reference: fields[14],
     }
+}
+
+// The fields of an order.
+pub fn fields_of(order: Order) -> [u64; 16]
+    ensures { λ r. ⌜ r ≡ fieldsOf order ⌝ }
+{
+    let debited = order.debited;
+    let credited = order.credited;
+    [
+        order.form,
+        order.minute,
+        order.security,
+        order.currency,
+        debited.member,
+        debited.typ,
+        credited.member,
+        credited.typ,
+        debited.shareholder,
+        credited.shareholder,
+        order.quantity.0,
+        order.amount.0,
+        order.trade_day,
+        order.settlement_day,
+        order.reference,
+        0,
+    ]
 }
