@@ -6,7 +6,7 @@ use Prim.Native.Nat.{ℕ, _≤_}
 use borrow.Author.Tests.{eq-eqb, ne-eqb, le-ltb}
 use lib.ListN.{length, drop}
 use Rattle.bits.specs.Layout.{Fit}
-use Rattle.rulebook.specs.Lists.{first}
+use Rattle.rulebook.specs.Lists.{if_then_else_, _below_, first}
 use Rattle.rulebook.specs.Record.{widths, fieldsIn, fieldsOf, orderOf, recordOf, readRefusal, readOf, writeRefusal, writtenOf, areaWritten, noForm, unusedNotZero, usedOutOfRange}
 use Rattle.rulebook.specs.declared.Order.{Order}
 use Rattle.rulebook.specs.declared.Read.{Read}
@@ -53,3 +53,12 @@ write-fits order e =
     neither false true c h = (cc, cc)
     neither false false true h = (cc, cc)
     neither false false false h = (refl, refl)
+
+-- the fields of an order that the writer takes are not refused
+pub write-passes : (order : Order) (area : List ℕ) → writeRefusal order area ≡ 0 → fieldsRefusal (fieldsOf order) ≡ 0
+unfolding writeRefusal fieldsRefusal
+write-passes order area e = other (length area below 40) (fieldsRefusal (fieldsOf order)) e
+  where
+    other : (t : Bool) (n : ℕ) → (if t then 1 else n) ≡ 0 → n ≡ 0
+    other true n h = cc
+    other false n h = h

@@ -1,3 +1,4 @@
 pub mod Below
 pub mod Places
 pub mod Answers
+pub mod RoundTrips
