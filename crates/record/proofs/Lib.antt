@@ -1,4 +1,4 @@
 pub mod Below
-pub mod Places
+pub mod FieldsBelow
 pub mod Answers
 pub mod RoundTrips

@@ -1,4 +1,5 @@
 // A record's layout: sixteen fields packed without gaps, the last of them 48 zero bits.
+use crate::places;
 ghost use mathlib.Core.Path.{_≡_};
 ghost use Prim.Native.Nat.{_≤_};
 ghost use lib.ListN.{length};
@@ -41,25 +42,25 @@ pub fn order_of(fields: &[u64; 16]) -> Order
     ensures { λ r. ⌜ r ≡ orderOf (now (fields .entry)) ⌝ }
 {
     Order {
-        form: fields[0],
-        minute: fields[1],
-        security: fields[2],
-        currency: fields[3],
+        form: fields[places::FORM],
+        minute: fields[places::MINUTE],
+        security: fields[places::SECURITY],
+        currency: fields[places::CURRENCY],
         debited: Party {
-            member: fields[4],
-            typ: fields[5],
-            shareholder: fields[8],
+            member: fields[places::DEBITED_MEMBER],
+            typ: fields[places::DEBITED_TYPE],
+            shareholder: fields[places::DEBITED_SHAREHOLDER],
         },
         credited: Party {
-            member: fields[6],
-            typ: fields[7],
-            shareholder: fields[9],
+            member: fields[places::CREDITED_MEMBER],
+            typ: fields[places::CREDITED_TYPE],
+            shareholder: fields[places::CREDITED_SHAREHOLDER],
         },
-        quantity: Shares(fields[10]),
-        amount: Cents(fields[11]),
-        trade_day: fields[12],
-        settlement_day: fields[13],
-        reference: fields[14],
+        quantity: Shares(fields[places::QUANTITY]),
+        amount: Cents(fields[places::AMOUNT]),
+        trade_day: fields[places::TRADE_DAY],
+        settlement_day: fields[places::SETTLEMENT_DAY],
+        reference: fields[places::REFERENCE],
     }
 }
 

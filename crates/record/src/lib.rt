@@ -1,5 +1,6 @@
 // The record reader and the record writer.
 mod layout;
+mod places;
 mod refusals;
 
 ghost use mathlib.Core.Path.{_≡_};
@@ -32,9 +33,9 @@ pub fn write(order: Order, area: &mut [u8]) -> Written
     }
     let fields = layout::fields_of(order);
     let number = refusals::refusal(&fields);
-    if number != 0 {
-        return Written::Refused(number);
+    if number == 0 {
+        bits::pack_bits(area, &layout::WIDTHS, &fields);
+        return Written::Record;
     }
-    bits::pack_bits(area, &layout::WIDTHS, &fields);
-    Written::Record
+    Written::Refused(number)
 }

@@ -1,4 +1,5 @@
 // Refusals 3, 4 and 5, which reader and writer share.
+use crate::places;
 ghost use mathlib.Core.Path.{_≡_};
 ghost use mathlib.Core.Bool.{not, _&&_};
 ghost use mathlib.Core.List.{[], _∷_, map};
@@ -10,36 +11,36 @@ ghost use Rattle.rulebook.specs.Lists.{_isNot_, within, first};
 ghost use Rattle.rulebook.specs.Record.{used, least, most, places, unusedNotZero, usedOutOfRange};
 ghost use Rattle.record.specs.Fields.{earlierOf, fieldsRefusal};
 
-// Fields as bits of a word: the bit of a field is its place.
-const SECURITY: u64 = 1 << 2;
+// Sets of fields, a bit for each at its place.
+const FORM_AND_MINUTE: u64 = 1 << places::FORM | 1 << places::MINUTE;
 
-const CURRENCY: u64 = 1 << 3;
+const SECURITY: u64 = 1 << places::SECURITY;
 
-const DEBITED_MEMBER: u64 = 1 << 4;
+const CURRENCY: u64 = 1 << places::CURRENCY;
 
-const DEBITED_TYPE: u64 = 1 << 5;
+const DEBITED_MEMBER: u64 = 1 << places::DEBITED_MEMBER;
 
-const CREDITED_MEMBER: u64 = 1 << 6;
+const DEBITED_TYPE: u64 = 1 << places::DEBITED_TYPE;
 
-const CREDITED_TYPE: u64 = 1 << 7;
+const DEBITED: u64 = DEBITED_MEMBER | DEBITED_TYPE | 1 << places::DEBITED_SHAREHOLDER;
 
-const DEBITED: u64 = DEBITED_MEMBER | DEBITED_TYPE | 1 << 8;
+const CREDITED_MEMBER: u64 = 1 << places::CREDITED_MEMBER;
 
-const CREDITED: u64 = CREDITED_MEMBER | CREDITED_TYPE | 1 << 9;
+const CREDITED_TYPE: u64 = 1 << places::CREDITED_TYPE;
 
-const QUANTITY: u64 = 1 << 10;
+const CREDITED: u64 = CREDITED_MEMBER | CREDITED_TYPE | 1 << places::CREDITED_SHAREHOLDER;
 
-const AMOUNT: u64 = 1 << 11;
+const QUANTITY: u64 = 1 << places::QUANTITY;
 
-const SETTLEMENT_DAY: u64 = 1 << 13;
+const AMOUNT: u64 = 1 << places::AMOUNT;
 
-const REFERENCE: u64 = 1 << 14;
-// A movement between two parties.
-const MOVEMENT: u64 = SECURITY | DEBITED | CREDITED | QUANTITY | SETTLEMENT_DAY;
+const DAYS: u64 = 1 << places::TRADE_DAY | 1 << places::SETTLEMENT_DAY;
 
-const FORM_AND_MINUTE: u64 = 1 | 1 << 1;
+const REFERENCE: u64 = 1 << places::REFERENCE;
 
-const ALL: u64 = MOVEMENT | CURRENCY | AMOUNT | 1 << 12 | REFERENCE;
+const TRANSFER: u64 = SECURITY | DEBITED | CREDITED | QUANTITY | 1 << places::SETTLEMENT_DAY;
+
+const ALL: u64 = SECURITY | CURRENCY | DEBITED | CREDITED | QUANTITY | AMOUNT | DAYS | REFERENCE;
 
 // The fields that forms 1 to 17 use, besides form and minute.
 const USED: [u64; 17] = [
@@ -47,11 +48,11 @@ const USED: [u64; 17] = [
     SECURITY | QUANTITY,
     SECURITY | CREDITED | QUANTITY,
     SECURITY | DEBITED | QUANTITY,
-    MOVEMENT,
-    MOVEMENT,
-    MOVEMENT,
-    MOVEMENT,
-    MOVEMENT,
+    TRANSFER,
+    TRANSFER,
+    TRANSFER,
+    TRANSFER,
+    TRANSFER,
     CURRENCY | CREDITED_MEMBER | AMOUNT,
     CURRENCY | DEBITED_MEMBER | AMOUNT,
     ALL ^ CREDITED_TYPE,
@@ -62,7 +63,7 @@ const USED: [u64; 17] = [
     0,
 ];
 
-// The most that each field can be.
+// The most that each field can be: that of its width, or less.
 const MOST: [u64; 16] = [
     (1 << 5) - 1,
     1439,
@@ -94,7 +95,7 @@ fn used_by(form: usize) -> u64
 fn least_of(place: usize) -> u64
     ensures { λ r. ⌜ r ≡ least place ⌝ }
 {
-    if place == 1 { 0 } else { 1 }
+    if place == places::MINUTE { 0 } else { 1 }
 }
 
 // The most that each field can be: form 1's quantity is the day kind.
@@ -103,7 +104,7 @@ fn most_of(form: usize) -> [u64; 16]
 {
     let mut most = MOST;
     if form == 1 {
-        most[10] = 2;
+        most[places::QUANTITY] = 2;
         return most;
     }
     most
@@ -160,7 +161,7 @@ fn fields_refusal(form: usize, fields: &[u64; 16]) -> u64
 pub fn refusal(fields: &[u64; 16]) -> u64
     ensures { λ r. ⌜ r ≡ fieldsRefusal (now (fields .entry)) ⌝ }
 {
-    let form = fields[0];
+    let form = fields[places::FORM];
     if form < 1 {
         return 3;
     }

@@ -20,27 +20,27 @@ returns : tie.Need-returns
 unfolding writtenOf areaWritten writeRefusal
 returns c = simp (lt-ltb _ _ (c .if1 .taken)) (refl, refl)
 
-returns-2 : tie.Need-returns-2
-returns-2 c = write-refused _ _ _ (c .before .before .before .before .if1 .left) (c .before .refusal .ensures ∙ ap fieldsRefusal (c .before .before .before .fields-of .ensures)) (c .if2 .taken)
-
 pack-bits-requires : tie.Need-pack-bits-requires
 unfolding widths
 pack-bits-requires c κs = (
   search needs,
   search needs,
   omega arith,
-  rw (c .before .before .before .before .before .before .fields-of .ensures) (write-fits _ (ap fieldsRefusal (sym (c .before .before .before .before .before .before .fields-of .ensures)) ∙ sym (c .before .before .before .before .refusal .ensures) ∙ c .before .before .before .if2 .left)),
+  rw (c .before .before .before .before .before .before .fields-of .ensures) (write-fits _ (ap fieldsRefusal (sym (c .before .before .before .before .before .before .fields-of .ensures)) ∙ sym (c .before .before .before .before .refusal .ensures) ∙ c .before .before .before .if2 .taken)),
 )
 
-returns-3 : tie.Need-returns-3
+returns-2 : tie.Need-returns-2
 unfolding recordOf widths
-returns-3 c =
+returns-2 c =
     let order : Order = c .before .before .before .before .before .before .before .before .before .before .before .before .args .order in
     let area : List ℕ = c .before .before .before .before .before .before .before .before .before .before .before .before .args .area .now in
-    let done = write-record order area _ (c .before .before .before .before .before .before .before .before .before .before .if1 .left) (c .before .before .before .before .before .before .before .refusal .ensures ∙ ap fieldsRefusal (c .before .before .before .before .before .before .before .before .before .fields-of .ensures)) (c .before .before .before .before .before .before .if2 .left) in
+    let done = write-record order area _ (c .before .before .before .before .before .before .before .before .before .before .if1 .left) (c .before .before .before .before .before .before .before .refusal .ensures ∙ ap fieldsRefusal (c .before .before .before .before .before .before .before .before .before .fields-of .ensures)) (c .before .before .before .before .before .before .if2 .taken) in
     let packed : put area 0 320 (pack 0 widths (c .before .before .before .before .before .before .before .before .before .fields-of .result)) ≡ recordOf order ++ drop 40 area =
     ap (λ (values : List ℕ). put area 0 320 (pack 0 widths values)) (c .before .before .before .before .before .before .before .before .before .fields-of .ensures) ∙ put-front area 40 (pack 0 widths (fieldsOf order)) (λ i. c .before .before .before .before .before .before .before .before .before .before .before .slice-known .given i .fits) in
     (done .0, c .before .before .pack-bits .ensures ∙ packed ∙ done .1)
+
+returns-3 : tie.Need-returns-3
+returns-3 c = write-refused _ _ _ (c .before .before .before .before .if1 .left) (c .before .refusal .ensures ∙ ap fieldsRefusal (c .before .before .before .fields-of .ensures)) (c .if2 .left)
 
 pub write-spec : {M : Type 1} → statement M
 write-spec =
@@ -49,9 +49,9 @@ write-spec =
     returns
     (λ c κs. search needs)
     (λ c κs. search needs)
-    returns-2
     (λ c. search needs)
     (λ c. search needs)
     pack-bits-requires
     (λ c. search needs)
+    returns-2
     returns-3)

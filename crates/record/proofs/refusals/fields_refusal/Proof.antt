@@ -5,7 +5,7 @@ use Prim.Native.Nat.{ℕ, _-_, _≤_, _<_}
 use borrow.Author.Needs.{needs}
 use lib.ListN.{getD}
 use Rattle.rulebook.specs.Record.{places, most, unusedNotZero, usedOutOfRange}
-use Rattle.record.proofs.Places.{below, below-more, field-is, at-place}
+use Rattle.record.proofs.FieldsBelow.{below, below-more, field-is, at-place}
 use Rattle.record.proofs.refusals.fields_refusal.Statement.{statement}
 use Rattle.record.proofs.refusals.fields_refusal.Tie as tie
 
