@@ -3,7 +3,7 @@
 use mathlib.Core.Path.{_≡_, refl, sym, ap, _∙_, subst}
 use mathlib.Core.List.{List, [], _∷_, _++_}
 use Prim.Native.Nat.{ℕ, zero, suc, _+_, _-_, _*_, _/_, _%_, _^_, _≤_, _<_}
-use native.Mathlib.Nat.{add-assoc, add-comm, add-zero, add-suc, zero-add, zero-mul, mul-assoc, add-mul, mul-one, div-one}
+use native.Mathlib.Nat.{add-assoc, add-comm, add-zero, add-suc, zero-add, zero-mul, mul-assoc, add-mul, mul-one, div-one, mod-lt}
 use native.Mathlib.Numerals.{add-one}
 use native.Mathlib.Omega.{arith}
 use mathlib.Core.Bool.{Bool, true, false, _&&_}
@@ -65,6 +65,22 @@ leading-shr xs n w l =
 pub leading-field : (xs : List ℕ) (n w : ℕ) → n + w ≤ 8 * length xs → leading xs n * 2 ^ w + field xs n w ≡ leading xs (n + w)
 unfolding field
 leading-field xs n w l = ap (λ (x : ℕ). x * 2 ^ w + leading xs (n + w) % 2 ^ w) (sym (leading-shr xs n w l)) ∙ split (leading xs (n + w)) w
+
+-- a field fits its width
+pub field-lt : (xs : List ℕ) (n w : ℕ) → field xs n w < 2 ^ w
+unfolding field
+field-lt xs n w = mod-lt (leading xs (n + w)) (pow-pos w)
+
+-- TWO FIELDS SIDE BY SIDE are one field
+pub field-field : (xs : List ℕ) (n w w′ : ℕ) → n + w + w′ ≤ 8 * length xs → field xs n w * 2 ^ w′ + field xs (n + w) w′ ≡ field xs n (w + w′)
+unfolding field
+field-field xs n w w′ l =
+    let x : ℕ = field xs n w in
+    let y : ℕ = field xs (n + w) w′ in
+    let e : leading xs (n + (w + w′)) ≡ leading xs n * 2 ^ (w + w′) + (x * 2 ^ w′ + y) =
+    ap (leading xs) (sym (add-assoc n w w′)) ∙ sym (leading-field xs (n + w) w′ l)
+    ∙ ap (λ (z : ℕ). z * 2 ^ w′ + y) (sym (leading-field xs n w (omega arith))) ∙ rw (pow-add 2 w w′) (simp (add-mul, mul-assoc, add-assoc)) in
+    sym (ap (λ (z : ℕ). z % 2 ^ (w + w′)) e ∙ low (leading xs n) (w + w′) (rw (pow-add 2 w w′) (digits-lt (field-lt xs n w) (field-lt xs (n + w) w′))))
 
 -- ---- a field that is put
 

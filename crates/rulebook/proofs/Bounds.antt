@@ -8,14 +8,12 @@ use native.Mathlib.Omega.{arith}
 use borrow.Author.Tests.{eqb-true, eq-eqb}
 use Rattle.rulebook.specs.declared.Security.{Security}
 use Rattle.rulebook.specs.Lists.{if_then_else_, _is_, some, total}
-use Rattle.rulebook.specs.AccountTypes.{free, pledgedOrBlocked}
 use Rattle.rulebook.specs.Ledger.{Holdings, Ledger, admitted, issuedOf, outsideOf, sumBelow, cashTotal, held}
 use Rattle.rulebook.specs.declared.Account.{Account}
-use Rattle.rulebook.specs.Premise.{Each, withCode, SecurityFits, accountType, AccountFits, CashFits, Premise}
+use Rattle.rulebook.specs.Premise.{Each, withCode, SecurityFits, AccountFits, CashFits, Premise}
 use Rattle.rulebook.proofs.Securities.{outs}
-use Rattle.rulebook.proofs.Types.{one-of, or-cases}
-use Rattle.rulebook.proofs.TypeFacts.{free-fits}
-use Rattle.rulebook.proofs.Items.{each-so, each-both}
+use Rattle.rulebook.proofs.Lists.{each-so, each-both}
+use Rattle.rulebook.proofs.Types.{type-fits}
 
 -- a part is at most the sum
 pub part-most : (n i : ℕ) (f : ℕ → ℕ) → i < n → f i ≤ sumBelow n f
@@ -36,12 +34,6 @@ first-parts-most n (suc k) f l = go (ℕ-discrete n (suc k)) (first-parts-most n
     go : Dec (n ≡ suc k) → (n ≤ k → sumBelow n f ≤ sumBelow k f) → sumBelow n f ≤ sumBelow k f + f k
     go (yes p) earlier = rw p (omega arith)
     go (no p) earlier = omega (arith, earlier (omega arith))
-
-type-fits : (t : ℕ) → accountType t ≡ true → t < 2 ^ 8
-unfolding accountType pledgedOrBlocked
-type-fits t e =
-    or-cases (t < 2 ^ 8) (free t) (pledgedOrBlocked t) e (free-fits t)
-    (λ p. one-of (λ k. k < 2 ^ 8) (11 ∷ 21 ∷ 121 ∷ 12 ∷ 22 ∷ 112 ∷ 122 ∷ []) t (omega arith) p)
 
 -- an account's balance is at most what is held of its security
 balance-held : (h : Holdings) (a : Account) → a.member < 2 ^ 10 → a.typ < 2 ^ 8 → a.shareholder < 2 ^ 30 → h.balance a ≤ held a.security h

@@ -1,5 +1,5 @@
 -- From the effect of each form to lists of calls: what a claim of demand 3 has to show is its step, one form at a time. Assumes nothing.
-use mathlib.Core.Path.{_≡_, refl, sym, ap, _∙_}
+use mathlib.Core.Path.{_≡_, refl}
 use mathlib.Core.Bool.{Bool, true, false}
 use mathlib.Core.List.{List, [], _∷_}
 use Prim.Native.Nat.{ℕ, zero, suc, _+_, _-_, _≤_}
@@ -12,7 +12,7 @@ use Rattle.rulebook.specs.declared.Order.{Order}
 use Rattle.rulebook.specs.declared.Counts.{Counts}
 use Rattle.rulebook.specs.declared.Answer.{Answer}
 use Rattle.rulebook.specs.declared.Read.{Read}
-use Rattle.rulebook.specs.Lists.{if_then_else_, _is_, _below_, total, first}
+use Rattle.rulebook.specs.Lists.{_is_, _below_, total, first}
 use Rattle.rulebook.specs.Ledger.{Ledger}
 use Rattle.rulebook.specs.Record.{readOf}
 use Rattle.rulebook.specs.Forms.{Outcome, silent, openDay, forms, effect}
@@ -160,14 +160,3 @@ pub none-in : (h : List Made) → inAll (λ o c. 0) h ≡ 0
 unfolding inAll
 none-in [] = refl
 none-in (m ∷ rest) = omega (arith, zero-of m.answer (recordIn m.made), none-in rest)
-
-sum-of : (f g : Order → ℕ) (a : Answer) (r : Read) → ofRecord (λ o. f o + g o) a r ≡ ofRecord f a r + ofRecord g a r
-unfolding ofRecord
-sum-of f g (Answer.Accepted c) (Read.Order o) = refl
-sum-of f g (Answer.Accepted c) (Read.Refused n) = refl
-sum-of f g (Answer.Refused n) r = refl
-
-pub records-sum : (f g : Order → ℕ) (h : List Made) → records (λ o. f o + g o) h ≡ records f h + records g h
-unfolding records
-records-sum f g [] = refl
-records-sum f g (m ∷ rest) = omega (arith, sum-of f g m.answer (recordIn m.made), records-sum f g rest)

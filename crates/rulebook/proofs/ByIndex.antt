@@ -1,10 +1,11 @@
 -- The premise at an index of the book's lists, as code reads them. Assumes nothing.
-use mathlib.Core.Path.{_≡_, refl, ap, _∙_}
+use mathlib.Core.Path.{_≡_, refl, sym, ap, _∙_}
 use mathlib.Core.Bool.{Bool, true, false}
 use mathlib.Core.List.{List, [], _∷_, _++_}
 use Prim.Native.Nat.{ℕ, zero, suc, _≤_, _<_}
 use native.Mathlib.Omega.{arith}
-use lib.ListN.{length, getD, take, drop, set}
+use lib.ListN.{length, getD, take, drop, set, take-append-drop}
+use lib.Seq.{drop-cons, set-split}
 use Rattle.rulebook.specs.declared.Item.{Item}
 use Rattle.rulebook.specs.declared.Security.{Security}
 use Rattle.rulebook.specs.Lists.{if_then_else_, _is_, total}
@@ -18,15 +19,8 @@ each-at P [] i d e l = absurd (omega arith)
 each-at P (x ∷ rest) zero d e l = e .0
 each-at P (x ∷ rest) (suc i) d e l = each-at P rest i d (e .1) (omega arith)
 
-pub split-at : {A : Type 0} (xs : List A) (i : ℕ) (d : A) → i < length xs → xs ≡ take i xs ++ (getD xs i d ∷ drop (suc i) xs)
-split-at [] i d l = absurd (omega arith)
-split-at (x ∷ rest) zero d l = refl
-split-at {A} (x ∷ rest) (suc i) d l = ap {B = List A} (λ r. x ∷ r) (split-at rest i d (omega arith))
-
-set-at : {A : Type 0} (xs : List A) (i : ℕ) (a : A) → i < length xs → take i xs ++ (a ∷ drop (suc i) xs) ≡ set xs i a
-set-at [] i a l = absurd (omega arith)
-set-at (x ∷ rest) zero a l = refl
-set-at {A} (x ∷ rest) (suc i) a l = ap {B = List A} (λ r. x ∷ r) (set-at rest i a (omega arith))
+split-at : (xs : List Item) (i : ℕ) (d : Item) → i < length xs → xs ≡ take i xs ++ (getD xs i d ∷ drop (suc i) xs)
+split-at xs i d l = sym (take-append-drop i xs) ∙ ap (λ (rest : List Item). take i xs ++ rest) (drop-cons xs i d l)
 
 -- where at most one passes a test, it stands at one index
 module _ {A : Type 0} (test : A → Bool) where
@@ -76,6 +70,6 @@ module _ (b : Ledger) (p : Premise b) where
       let ws = b.waiting in
       let item = getD ws i d in
       let f = split-at ws i d l in (
-        cancel-stays b p s r (take i ws) item (drop (suc i) ws) f e ∙ ap (λ (x : List Item). if bothMarked (marked s item .state) then take i ws ++ drop (suc i) ws else x) (set-at ws i (marked s item) l),
+        cancel-stays b p s r (take i ws) item (drop (suc i) ws) f e ∙ ap (λ (x : List Item). if bothMarked (marked s item .state) then take i ws ++ drop (suc i) ws else x) (sym (set-split ws i (marked s item) l)),
         cancel-leaves b p s r (take i ws) item (drop (suc i) ws) f e,
       )

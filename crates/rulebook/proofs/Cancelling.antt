@@ -9,7 +9,7 @@ use Rattle.rulebook.specs.Ledger.{Ledger}
 use Rattle.rulebook.specs.Waiting.{sentBy, marked, bothMarked, marking, cancelled, staying}
 use Rattle.rulebook.specs.Premise.{Each, sent, Premise}
 use Rattle.rulebook.proofs.Halves.{Half}
-use Rattle.rulebook.proofs.References.{marks-one}
+use Rattle.rulebook.proofs.EveryCall.References.{marks-one}
 
 keep-append : (test : Item → Bool) (xs ys : List Item) → keep test (xs ++ ys) ≡ keep test xs ++ keep test ys
 keep-append test [] ys = refl

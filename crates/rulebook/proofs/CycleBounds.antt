@@ -9,8 +9,7 @@ use Rattle.rulebook.specs.Lists.{if_then_else_, _is_, total}
 use Rattle.rulebook.specs.Ledger.{Ledger, sameAccount}
 use Rattle.rulebook.specs.declared.Account.{Account}
 use Rattle.rulebook.specs.Cycle.{Marked, seller, buyer, over, bringsShares, takesShares, bringsCash, takesCash, sharesBrought, sharesTaken, cashBrought, cashTaken}
-use Rattle.rulebook.specs.Premise.{Premise}
-use Rattle.rulebook.proofs.Fitting.{EachM}
+use Rattle.rulebook.specs.Premise.{Each, Premise}
 use Rattle.rulebook.proofs.Bounds.{balance-fits, cash-fits}
 
 -- an item's quantity and amount fit their widths
@@ -18,7 +17,7 @@ pub record Fits (i : Item) : Type 0 where
   pub quantity : i.quantity.0 < 2 ^ 40
   pub amount : i.amount.0 < 2 ^ 40
 
-over-most : (figure : Item → ℕ) → ((i : Item) → Fits i → figure i < 2 ^ 40) → (ms : List Marked) → EachM Fits ms → over figure ms ≤ 1_099_511_627_775 * length ms
+over-most : (figure : Item → ℕ) → ((i : Item) → Fits i → figure i < 2 ^ 40) → (ms : List Marked) → Each (λ m. Fits (m .1)) ms → over figure ms ≤ 1_099_511_627_775 * length ms
 unfolding over
 over-most figure f [] e = omega arith
 over-most figure f (m ∷ rest) e = go (m .0) (f (m .1) (e .0)) (over-most figure f rest (e .1))
@@ -34,7 +33,7 @@ only-if true n l = l
 only-if false n l = omega arith
 
 -- for at most 64 items, with what an account or a member has
-module _ (b : Ledger) (p : Premise b) (ms : List Marked) (l : length ms ≤ 64) (e : EachM Fits ms) where
+module _ (b : Ledger) (p : Premise b) (ms : List Marked) (l : length ms ≤ 64) (e : Each (λ m. Fits (m .1)) ms) where
   pub shares-bounded : (a : Account) → (b.holdings.balance a + sharesBrought a ms < 2 ^ 47) × (sharesTaken a ms < 2 ^ 47)
   unfolding sharesBrought sharesTaken bringsShares takesShares
   shares-bounded a =

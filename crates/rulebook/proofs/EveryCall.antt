@@ -1,4 +1,12 @@
 -- The premise: the fresh book meets it, and every call keeps it, accepted or refused. Assumes nothing.
+-- its parts: the number of accounts; who has a balance or cash; waiting items; their references; the day; what an order brings in; all forms
+pub mod Counting
+pub mod Owners
+pub mod Items
+pub mod References
+pub mod Days
+pub mod NewItems
+pub mod Keeping
 use mathlib.Core.Path.{_≡_, refl, subst}
 use mathlib.Core.Bool.{Bool, true, false}
 use mathlib.Core.List.{List, [], _∷_}
@@ -15,19 +23,17 @@ use Rattle.rulebook.specs.Forms.{effect}
 use Rattle.rulebook.specs.Refusals.{overCeiling, refusals}
 use Rattle.rulebook.specs.Call.{putMinute}
 use Rattle.rulebook.specs.Calls.{Call, resultOf, bookAfter, kept}
-use Rattle.rulebook.specs.Premise.{Sizes, accountCount, Premise, today}
+use Rattle.rulebook.specs.Premise.{Sizes, accountCount, Premise}
 use Rattle.rulebook.proofs.ByCall.{result-step}
-use Rattle.rulebook.proofs.Issued.{effect-keeps, none-issued}
-use Rattle.rulebook.proofs.CashSums.{cash-exact}
-use Rattle.rulebook.proofs.HeldSums.{none-held, held-exact}
-use Rattle.rulebook.proofs.Sound.{Sound, cashAt, Step}
-use Rattle.rulebook.proofs.Totals.{accepted, order-step, none-outside, none-paid}
+use Rattle.rulebook.proofs.Orders.{accepted}
+use Rattle.rulebook.proofs.Sums.{none-held, held-exact, none-paid, cash-exact}
+use Rattle.rulebook.proofs.Steps.OneCall.{cashAt, Step, step-codes, step-issued}
+use Rattle.rulebook.proofs.Steps.{order-step}
 use Rattle.rulebook.proofs.Sizes.{fresh-sizes, space-sizes}
-use Rattle.rulebook.proofs.Counting.{fresh-counted, step-counted}
-use Rattle.rulebook.proofs.Owners.{fresh-owned}
-use Rattle.rulebook.proofs.Items.{each-so, item-sound}
-use Rattle.rulebook.proofs.Days.{fresh-day}
-use Rattle.rulebook.proofs.Keeping.{effect-keeps as form-keeps}
+use Rattle.rulebook.proofs.EveryCall.Counting.{fresh-counted, step-counted}
+use Rattle.rulebook.proofs.EveryCall.Owners.{fresh-owned}
+use Rattle.rulebook.proofs.EveryCall.Days.{fresh-day}
+use Rattle.rulebook.proofs.EveryCall.Keeping.{effect-keeps as form-keeps}
 
 pub fresh-premise : Premise fresh
 unfolding fresh
@@ -36,7 +42,7 @@ fresh-premise = record {
   counted = fresh-counted;
   codes = λ c. omega arith;
   securities = tt;
-  issue = λ s. omega (arith, none-held s, none-outside s, none-issued s);
+  issue = λ s. unfold outsideOf issuedOf in omega (arith, none-held s);
   accounts = fresh-owned .accounts;
   ceiling = λ c. omega (arith, none-paid c);
   cash = fresh-owned .cash;
@@ -45,10 +51,6 @@ fresh-premise = record {
   halves = tt;
   day = fresh-day;
 }
-
--- what demand 3 keeps of a book follows from it
-pub premise-sound : (b : Ledger) → Premise b → Sound b
-premise-sound b p = record { codes = p.codes; items = each-so _ _ (item-sound b.day.number (today b.day) b.holdings) b.waiting p.items }
 
 -- held + outside = issued
 step-issue :
@@ -62,11 +64,11 @@ step-issue b o t s e =
       t .figures .held s,
       t .changes (type91 s),
       t .figures .outside s,
-      effect-keeps s b o,
+      step-issued o.form b o (effect b o) t s,
     )
 
 -- a pay-in that would pass the ceiling is refused, and nothing else raises a currency's total
-paid-in : (b : Ledger) (o : Order) → overCeiling b o ≡ false → (c : ℕ) → cashTotal c b.holdings ≤ 1_000_000_000_000_000 → cashTotal c b.holdings + cashAt 10 c o.form o ≤ 1_000_000_000_000_000
+paid-in : (b : Ledger) (o : Order) → overCeiling b.holdings o ≡ false → (c : ℕ) → cashTotal c b.holdings ≤ 1_000_000_000_000_000 → cashTotal c b.holdings + cashAt 10 c o.form o ≤ 1_000_000_000_000_000
 unfolding overCeiling
 paid-in b o w c l = go (o.form is 10) (o.currency is c) refl refl
   where
@@ -78,7 +80,7 @@ paid-in b o w c l = go (o.form is 10) (o.currency is c) refl refl
     go false y p q = simp p (omega arith)
 
 step-ceiling :
-    (b : Ledger) (o : Order) → Step o.form b o (effect b o) → overCeiling b o ≡ false → (c : ℕ) → cashTotal c b.holdings ≤ 1_000_000_000_000_000
+    (b : Ledger) (o : Order) → Step o.form b o (effect b o) → overCeiling b.holdings o ≡ false → (c : ℕ) → cashTotal c b.holdings ≤ 1_000_000_000_000_000
     → cashTotal c (effect b o .after .holdings) ≤ 1_000_000_000_000_000
 step-ceiling b o t w c l =
     omega (
@@ -99,12 +101,12 @@ pub order-premise :
 unfolding putMinute putDay
 order-premise b o bytes p e z =
     let a = accepted b o bytes e z in
-    let t = order-step b o bytes (premise-sound b p) e z in
+    let t = order-step b o bytes p e z in
     let k = form-keeps b o p a in
     record {
       sizes = unfold putMinute putDay in minute-sizes o.minute (effect b o .after) (space-sizes b o a.space);
       counted = step-counted o.form b o (effect b o) t p.counted;
-      codes = t .sound .codes;
+      codes = step-codes o.form b o (effect b o) t;
       securities = k.owned.securities;
       issue = λ s. step-issue b o t s (p.issue s);
       accounts = k.owned.accounts;

@@ -9,13 +9,13 @@ use Rattle.rulebook.specs.declared.State.the-variants.{Single, Pair, Tra
 use Rattle.rulebook.specs.Waiting.{withState, bothMarked, staying, unmarked}
 use Rattle.rulebook.specs.Matching.{pairOf, arrive}
 use Rattle.rulebook.specs.Premise.{Each}
-use Rattle.rulebook.proofs.Fitting.{arrive-fits}
+use Rattle.rulebook.proofs.EveryCall.Items.{arrive-each}
 
 abbrev pub Half : Item → Type 0
 Half i = bothMarked i.state ≡ false
 
 pub arrive-halves : (limit : ℕ) (new : Item) → Half new → (ws : List Item) → Each Half ws → Each Half (arrive limit new ws)
-arrive-halves limit new f ws e = arrive-fits Half (λ x y f g. unfold pairOf bothMarked in refl) limit new f ws e
+arrive-halves limit new f ws e = arrive-each Half (λ d r a f g. unfold pairOf bothMarked in refl) limit new f ws e
 
 pub kept-halves : (ws : List Item) → Each Half (staying ws)
 unfolding staying

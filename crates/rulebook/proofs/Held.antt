@@ -1,13 +1,12 @@
 -- One change of a balance changes what is held by the difference. Assumes nothing.
-use mathlib.Core.Path.{_≡_, refl, sym, ap, ap₂, subst, _∙_}
+use mathlib.Core.Path.{_≡_, refl, sym, ap, ap₂, _∙_}
 use mathlib.Core.Logic.{_≢_}
-use mathlib.Core.Bool.{Bool, true, false, _&&_, and-false}
-use Prim.Native.Nat.{ℕ, zero, suc, _+_, _-_, _≤_, _<_, _^_}
+use mathlib.Core.Bool.{true, false, and-false}
+use Prim.Native.Nat.{ℕ, zero, suc, _+_, _-_, _<_, _^_}
 use native.Mathlib.Nat.{not-suc-le-zero, add-comm}
 use native.Mathlib.Decide.{ℕ-discrete}
 use native.Mathlib.Omega.{arith}
 use borrow.Author.Tests.{eq-eqb, ne-eqb}
-use Rattle.rulebook.specs.Lists.{_is_, if_then_else_}
 use Rattle.rulebook.specs.Ledger.{Holdings, sameAccount, counted, putBalance, sumBelow, held}
 use Rattle.rulebook.specs.declared.Account.{Account}
 use Rattle.rulebook.specs.Premise.{accountCount}

@@ -1,19 +1,20 @@
 -- What movements do to each place that a book keeps: they add what they bring, then take what they take. Assumes nothing.
 use mathlib.Core.Path.{_≡_, refl, sym, ap, subst, _∙_}
-use mathlib.Core.Bool.{Bool, true, false, _&&_, _||_}
+use mathlib.Core.Bool.{Bool, true, false, _&&_}
 use mathlib.Core.List.{List, [], _∷_, map}
-use Prim.Native.Nat.{ℕ, zero, suc, _+_, _-_, _≤_, _<_}
+use Prim.Native.Nat.{ℕ, _+_, _-_, _≤_}
 use native.Mathlib.Omega.{arith}
 use borrow.Author.Tests.{eqb-true, eqb-false, ne-eqb}
-use lib.Dec.{eqb}
 use Rattle.rulebook.specs.declared.Security.{Security}
 use Rattle.rulebook.specs.Lists.{if_then_else_, _is_, total}
 use Rattle.rulebook.specs.Ledger.{Holdings, sameAccount, outsideOf, putBalance, putCash, putSecurities, putOutside}
 use Rattle.rulebook.specs.declared.Account.{Account}
 use Rattle.rulebook.specs.Movements.{Place, account, type91, type90, cashOf, member0, Movement, move, credit, debit, credits, debits, booked}
 use Rattle.rulebook.specs.Calls.{kept}
+use Rattle.rulebook.specs.Premise.{withCode}
+use Rattle.rulebook.proofs.Lists.{both}
 use Rattle.rulebook.proofs.Rounds.{same-eq}
-use Rattle.rulebook.proofs.Securities.{count, outs, changed, count-same, outs-one, outs-other}
+use Rattle.rulebook.proofs.Securities.{outs, changed, count-same, outs-one, outs-other}
 
 -- the place is an account, the outside count of a security, or a member's cash
 
@@ -57,7 +58,7 @@ taken p ms = total (λ m. if isAt p m.from then m.number else 0) ms
 
 abbrev pub Known : Holdings → Place → Type 0
 Known h (account b) = Unit {0}
-Known h (type91 security) = count security h.securities ≡ 1
+Known h (type91 security) = withCode security h.securities ≡ 1
 Known h (type90 security) = Unit {0}
 Known h (cashOf member currency) = Unit {0}
 Known h (member0 currency) = Unit {0}
@@ -67,7 +68,7 @@ AllKnown h [] = Unit {0}
 AllKnown h (m ∷ rest) = Known h m.from × Known h m.to × AllKnown h rest
 
 abbrev SameCodes : Holdings → Holdings → Type 0
-SameCodes h k = (c : ℕ) → count c k.securities ≡ count c h.securities
+SameCodes h k = (c : ℕ) → withCode c k.securities ≡ withCode c h.securities
 
 known-same : (h k : Holdings) → SameCodes h k → (q : Place) → Known h q → Known k q
 known-same h k e (account b) n = tt
@@ -83,7 +84,7 @@ all-known-same h k e (m ∷ rest) n = (known-same h k e m.from (n .0), known-sam
 credit-codes : (q : Place) (n : ℕ) (h : Holdings) → SameCodes h (credit q n h)
 unfolding credit putBalance putCash putSecurities putOutside
 credit-codes (account b) n h c = refl
-credit-codes (type91 security) n h c = count-same c security (outsideOf security h + n) h.securities
+credit-codes (type91 security) n h c = count-same c security _ h.securities
 credit-codes (type90 security) n h c = refl
 credit-codes (cashOf member currency) n h c = refl
 credit-codes (member0 currency) n h c = refl
@@ -91,7 +92,7 @@ credit-codes (member0 currency) n h c = refl
 debit-codes : (q : Place) (n : ℕ) (h : Holdings) → SameCodes h (debit q n h)
 unfolding debit putBalance putCash putSecurities putOutside
 debit-codes (account b) n h c = refl
-debit-codes (type91 security) n h c = count-same c security (outsideOf security h - n) h.securities
+debit-codes (type91 security) n h c = count-same c security _ h.securities
 debit-codes (type90 security) n h c = refl
 debit-codes (cashOf member currency) n h c = refl
 debit-codes (member0 currency) n h c = refl
@@ -107,7 +108,7 @@ debits-codes [] h c = refl
 debits-codes (m ∷ rest) h c = debits-codes rest (debit m.from m.number h) c ∙ debit-codes m.from m.number h c
 
 -- movements change no code
-pub booked-codes : (ms : List Movement) (h : Holdings) (c : ℕ) → count c (booked ms h .securities) ≡ count c h.securities
+pub booked-codes : (ms : List Movement) (h : Holdings) (c : ℕ) → withCode c (booked ms h .securities) ≡ withCode c h.securities
 unfolding booked
 booked-codes ms h c = debits-codes ms (credits ms h) c ∙ credits-codes ms h c
 
@@ -138,7 +139,7 @@ module _ (a : Account) where
   debit-balance (cashOf member currency) n h = omega arith
   debit-balance (member0 currency) n h = omega arith
 
-put-outs : (s c v : ℕ) (xs : List Security) → count c xs ≡ 1 → outs s (map (changed c v) xs) ≡ (if c is s then v else outs s xs)
+put-outs : (s c v : ℕ) (xs : List Security) → withCode c xs ≡ 1 → outs s (map (changed c v) xs) ≡ (if c is s then v else outs s xs)
 put-outs s c v xs k = go (c is s) refl
   where
     go : (t : Bool) → (c is s) ≡ t → outs s (map (changed c v) xs) ≡ (if c is s then v else outs s xs)
@@ -172,11 +173,6 @@ debit-outs s (type91 c) n h k = go (c is s) refl (put-outs s c (outs c h.securit
 debit-outs s (type90 c) n h k = omega arith
 debit-outs s (cashOf m c) n h k = omega arith
 debit-outs s (member0 c) n h k = omega arith
-
-both : (x y : Bool) → (x && y) ≡ true → (x ≡ true) × (y ≡ true)
-both true y e = (refl, e)
-both false true e = (cc, refl)
-both false false e = (cc, cc)
 
 pub is-sym : (m n : ℕ) → (m is n) ≡ (n is m)
 is-sym m n = go (n is m) refl

@@ -1,21 +1,21 @@
 -- Posting rows that are written are read back, and count for the places of their movements. Assumes nothing.
-use mathlib.Core.Path.{_≡_, refl, sym, ap, ap₂, subst, _∙_}
-use mathlib.Core.Bool.{Bool, true, false, not, _&&_, _||_}
+use mathlib.Core.Path.{_≡_, refl, ap, ap₂, _∙_}
+use mathlib.Core.Bool.{Bool, true, false, _&&_, _||_}
 use mathlib.Core.List.{List, [], _∷_, _++_, append-assoc, append-nil}
-use Prim.Native.Nat.{ℕ, zero, suc, _+_, _*_, _^_, _%_, _≤_, _<_}
+use Prim.Native.Nat.{ℕ, suc, _^_, _≤_, _<_}
 use native.Mathlib.Omega.{arith}
 use borrow.Author.Tests.{ne-eqb}
-use lib.Dec.{eqb, lit<}
-use lib.ListN.{length, take, drop}
+use lib.Dec.{lit<}
+use lib.ListN.{length}
 use lib.Seq.{take-at, drop-at}
-use Rattle.rulebook.specs.Lists.{if_then_else_, _is_, _isNot_, _oneOf_, total}
+use Rattle.rulebook.specs.Lists.{if_then_else_, _is_, _oneOf_, total}
 use Rattle.bits.specs.Layout.{pack, cut, Fit}
 use Rattle.bits.proofs.Laws.{length-bytes}
 use Rattle.bits.proofs.Packing.{values-back}
 use Rattle.rulebook.specs.Ledger.{sameAccount}
-use Rattle.rulebook.specs.declared.Account.{Account}
 use Rattle.rulebook.specs.Movements.{Place, account, type91, type90, cashOf, member0, Movement}
-use Rattle.rulebook.specs.Rows.{Posting, postingWidths, postingBytes, postingIn, postingOf, postingRows, rowBytes, rowsBytes}
+use Rattle.rulebook.specs.Rows.{postingWidths, postingBytes, postingIn, postingOf, postingRows, rowBytes, rowsBytes}
+use Rattle.rulebook.specs.declared.Posting.{Posting}
 use Rattle.rulebook.specs.Calls.{firstRows, names}
 use Rattle.rulebook.proofs.Places.{isAt, brought, taken}
 
@@ -123,28 +123,21 @@ names-at k n (member0 c′) (type90 s) f = refl
 names-at k n (member0 c′) (cashOf m c) f = refl
 names-at k n (member0 c′) (member0 c) f = refl
 
-number-of : (credit : ℕ) (q : Place) (n : ℕ) → postingOf credit q n .number ≡ n
+-- and says which side it is, and how much
+row-says : (credit : ℕ) (q : Place) (n : ℕ) → (postingOf credit q n .credit ≡ credit) × (postingOf credit q n .number ≡ n)
 unfolding postingOf
-number-of k (account a) n = refl
-number-of k (type91 s) n = refl
-number-of k (type90 s) n = refl
-number-of k (cashOf m c) n = refl
-number-of k (member0 c) n = refl
-
-credit-of : (credit : ℕ) (q : Place) (n : ℕ) → postingOf credit q n .credit ≡ credit
-unfolding postingOf
-credit-of k (account a) n = refl
-credit-of k (type91 s) n = refl
-credit-of k (type90 s) n = refl
-credit-of k (cashOf m c) n = refl
-credit-of k (member0 c) n = refl
+row-says k (account a) n = (refl, refl)
+row-says k (type91 s) n = (refl, refl)
+row-says k (type90 s) n = (refl, refl)
+row-says k (cashOf m c) n = (refl, refl)
+row-says k (member0 c) n = (refl, refl)
 
 -- what a row counts for a place
 abbrev pub counts : ℕ → Place → Posting → ℕ
 counts credit place p = if p.credit is credit && names p place then p.number else 0
 
 row-counts : (k j : ℕ) (q place : Place) (n : ℕ) → Proper q → counts k place (postingOf j q n) ≡ (if j is k && isAt place q then n else 0)
-row-counts k j q place n f = rw (names-at j n q place f, credit-of j q n, number-of j q n)
+row-counts k j q place n f = rw (names-at j n q place f, row-says j q n .0, row-says j q n .1)
 
 pub entries-brought : (place : Place) (ms : List Movement) → AllProper ms → total (counts 1 place) (entries ms) ≡ brought place ms
 entries-brought place [] f = refl

@@ -16,7 +16,8 @@ use Rattle.rulebook.specs.Close.{leaves}
 use Rattle.rulebook.specs.Forms.{outcome, moving, silent, openDay, admit, deposit, withdraw, transfer, payIn, payOut, instruct, trade, cancel, cycle, close, forms, effect}
 use Rattle.rulebook.specs.Premise.{Sizes}
 use Rattle.rulebook.proofs.ByCall.{Form, AllForms, by-form}
-use Rattle.rulebook.proofs.Lengths.{keep-length, cycle-length}
+use Rattle.rulebook.proofs.Lists.{_and_, keep-length}
+use Rattle.rulebook.proofs.Rounds.{cycle-length}
 
 pub posting-length : (ms : List Movement) → length (postingRows ms) ≡ 2 * length ms
 unfolding postingRows
@@ -57,40 +58,12 @@ close-rows b o s =
 
 forms-write : AllForms Writes 1 forms
 unfolding forms openDay admit deposit withdraw transfer payIn payOut instruct trade silent outcome
-forms-write = (
-  (λ b o s. omega arith),
-  (
-    (λ b o s. moving-rows _ (omega arith) _),
-    (
-      (λ b o s. moving-rows _ (omega arith) b),
-      (
-        (λ b o s. moving-rows _ (omega arith) b),
-        (
-          (λ b o s. moving-rows _ (omega arith) b),
-          (
-            (λ b o s. moving-rows _ (omega arith) b),
-            (
-              (λ b o s. moving-rows _ (omega arith) b),
-              (
-                (λ b o s. moving-rows _ (omega arith) b),
-                (
-                  (λ b o s. moving-rows _ (omega arith) b),
-                  (
-                    (λ b o s. moving-rows _ (omega arith) b),
-                    (
-                      (λ b o s. moving-rows _ (omega arith) b),
-                      ((λ b o s. omega arith), ((λ b o s. omega arith), ((λ b o s. omega arith), (cancel-rows, (cycle-rows, (close-rows, tt)))))),
-                    ),
-                  ),
-                ),
-              ),
-            ),
-          ),
-        ),
-      ),
-    ),
-  ),
-)
+forms-write =
+    (λ b o s. omega arith) and (λ b o s. moving-rows _ (omega arith) _) and (λ b o s. moving-rows _ (omega arith) b) and (λ b o s. moving-rows _ (omega arith) b)
+    and (λ b o s. moving-rows _ (omega arith) b) and (λ b o s. moving-rows _ (omega arith) b) and (λ b o s. moving-rows _ (omega arith) b)
+    and (λ b o s. moving-rows _ (omega arith) b) and (λ b o s. moving-rows _ (omega arith) b) and (λ b o s. moving-rows _ (omega arith) b)
+    and (λ b o s. moving-rows _ (omega arith) b) and (λ b o s. omega arith) and (λ b o s. omega arith) and (λ b o s. omega arith) and cancel-rows and cycle-rows
+    and close-rows and tt
 
 silent-writes : (m : ℕ) → 18 ≤ m → Writes m (λ b o. silent b)
 unfolding silent outcome

@@ -1,25 +1,26 @@
 -- Part 1 of the premise: how large a book is, and the forms that never lack space. Assumes nothing.
 use mathlib.Core.Path.{_≡_, refl, sym, subst, _∙_}
 use mathlib.Core.Bool.{Bool, true, false, not, _||_, false≢true}
-use mathlib.Core.List.{List, [], _∷_}
+use mathlib.Core.List.{List, [], _∷_, map}
 use Prim.Native.Nat.{ℕ, zero, suc, _+_, _-_, _≤_}
 use native.Mathlib.Omega.{arith}
 use borrow.Author.Tests.{ltb-false, le-ltb, ne-eqb}
 use lib.ListN.{length, length-map}
 use Rattle.rulebook.specs.declared.Item.{Item}
 use Rattle.rulebook.specs.declared.Order.{Order}
-use Rattle.rulebook.specs.Lists.{if_then_else_, _is_, _below_, _oneOf_, total}
+use Rattle.rulebook.specs.Lists.{if_then_else_, _is_, _below_, _oneOf_, total, keep}
 use Rattle.rulebook.specs.Ledger.{Ledger, Holdings, fresh, counted, putBalance, putCash, putSecurities, putOutside, putDay, putHoldings, putWaiting}
 use Rattle.rulebook.specs.Movements.{Place, account, type91, type90, cashOf, member0, Movement, credit, debit, credits, debits, booked}
-use Rattle.rulebook.specs.Waiting.{senderOf}
+use Rattle.rulebook.specs.Waiting.{senderOf, marking, staying, unmarked}
 use Rattle.rulebook.specs.Cycle.{settled, legs}
 use Rattle.rulebook.specs.Close.{leaves}
 use Rattle.rulebook.specs.Forms.{outcome, moving, silent, openDay, withdraw, payIn, payOut, cancel, cycle, close, forms, effect}
 use Rattle.rulebook.specs.Refusals.{noSpace}
 use Rattle.rulebook.specs.Premise.{Sizes}
 use Rattle.rulebook.proofs.ByCall.{Form, AllForms, by-form}
-use Rattle.rulebook.proofs.Booking.{booked-any}
-use Rattle.rulebook.proofs.Lengths.{cycle-length, cancel-length, close-length}
+use Rattle.rulebook.proofs.Booking.{booked-puts}
+use Rattle.rulebook.proofs.Lists.{_and_, keep-length}
+use Rattle.rulebook.proofs.Rounds.{cycle-length}
 
 pub fresh-sizes : Sizes fresh
 unfolding fresh
@@ -100,26 +101,10 @@ unfolding booked
 booked-accounts ms h = omega (arith, debits-accounts ms (credits ms h), credits-accounts ms h)
 
 -- and neither admits a security
-
-credit-listed : (p : Place) (n : ℕ) (h : Holdings) → length (credit p n h .securities) ≡ length h.securities
-unfolding credit putBalance putCash putSecurities putOutside
-credit-listed (account a) n h = refl
-credit-listed (type91 s) n h = length-map h.securities _
-credit-listed (type90 s) n h = refl
-credit-listed (cashOf m c) n h = refl
-credit-listed (member0 c) n h = refl
-
-debit-listed : (p : Place) (n : ℕ) (h : Holdings) → length (debit p n h .securities) ≡ length h.securities
-unfolding debit putBalance putCash putSecurities putOutside
-debit-listed (account a) n h = refl
-debit-listed (type91 s) n h = length-map h.securities _
-debit-listed (type90 s) n h = refl
-debit-listed (cashOf m c) n h = refl
-debit-listed (member0 c) n h = refl
-
 pub booked-listed : (ms : List Movement) (h : Holdings) → length (booked ms h .securities) ≡ length h.securities
+unfolding putBalance putCash putSecurities putOutside
 booked-listed ms h =
-    booked-any (λ k. length k.securities ≡ length h.securities) (λ q n k e. credit-listed q n k ∙ e) (λ q n k e. debit-listed q n k ∙ e) ms h refl
+    booked-puts (λ k. length k.securities ≡ length h.securities) (λ a v k e. e) (λ s v k e. length-map k.securities _ ∙ e) (λ m c v k e. e) ms h refl
 
 pub legs-opened : (ts : List Item) → opened (legs ts) ≡ length ts
 unfolding legs
@@ -141,6 +126,16 @@ moving-stays ms z b s = record {
   items = s.items;
   accounts = omega (arith, booked-accounts ms b.holdings, s.accounts);
 }
+
+cancel-length : (sender reference : ℕ) (ws : List Item) → length (staying (marking sender reference ws)) ≤ length ws
+unfolding staying marking
+cancel-length sender reference ws =
+    let l : length (marking sender reference ws) ≡ length ws = length-map ws _ in
+    let k : length (staying (marking sender reference ws)) ≤ length (marking sender reference ws) = keep-length _ (marking sender reference ws) in
+    omega (arith, l, k)
+
+close-length : (test : Item → Bool) (ws : List Item) → length (map unmarked (keep test ws)) ≤ length ws
+close-length test ws = omega (arith, length-map (keep test ws) unmarked, keep-length test ws)
 
 cancel-stays : (b : Ledger) (o : Order) → Sizes b → Sizes (cancel b o .after)
 unfolding cancel outcome putWaiting
@@ -177,40 +172,11 @@ grows e = absurd (false≢true e)
 
 forms-stay : AllForms Stays 1 forms
 unfolding forms openDay silent outcome putDay withdraw payIn payOut
-forms-stay = (
-  (λ _ b o s. same-stays b (openDay b o .after) refl refl s),
-  (
-    (λ e b o s. grows e),
-    (
-      (λ e b o s. grows e),
-      (
-        (λ _ b o s. moving-stays _ refl b s),
-        (
-          (λ e b o s. grows e),
-          (
-            (λ e b o s. grows e),
-            (
-              (λ e b o s. grows e),
-              (
-                (λ e b o s. grows e),
-                (
-                  (λ e b o s. grows e),
-                  (
-                    (λ _ b o s. moving-stays _ refl b s),
-                    (
-                      (λ _ b o s. moving-stays _ refl b s),
-                      ((λ e b o s. grows e), ((λ e b o s. grows e), ((λ e b o s. grows e), ((λ _ b o s. cancel-stays b o s), ((λ _ b o s. cycle-stays b o s), ((λ _ b o s. close-stays b o s), tt)))))),
-                    ),
-                  ),
-                ),
-              ),
-            ),
-          ),
-        ),
-      ),
-    ),
-  ),
-)
+forms-stay =
+    (λ _ b o s. same-stays b (openDay b o .after) refl refl s) and (λ e b o s. grows e) and (λ e b o s. grows e) and (λ _ b o s. moving-stays _ refl b s)
+    and (λ e b o s. grows e) and (λ e b o s. grows e) and (λ e b o s. grows e) and (λ e b o s. grows e) and (λ e b o s. grows e)
+    and (λ _ b o s. moving-stays _ refl b s) and (λ _ b o s. moving-stays _ refl b s) and (λ e b o s. grows e) and (λ e b o s. grows e) and (λ e b o s. grows e)
+    and (λ _ b o s. cancel-stays b o s) and (λ _ b o s. cycle-stays b o s) and (λ _ b o s. close-stays b o s) and tt
 
 silent-stays : (m : ℕ) → 18 ≤ m → Stays m (λ b o. silent b)
 unfolding silent outcome

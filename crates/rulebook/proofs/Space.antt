@@ -17,9 +17,12 @@ use Rattle.rulebook.specs.Movements.{account, type91, type90, move, cred
 use Rattle.rulebook.specs.Waiting.{itemOf}
 use Rattle.rulebook.specs.Matching.{tolerance, pairsWith, arrive}
 use Rattle.rulebook.specs.Forms.{Outcome, outcome, moving, silent, admit, deposit, transfer, instruct, trade, forms, effect}
-use Rattle.rulebook.specs.Refusals.{noSpace}
+use Rattle.rulebook.specs.Refusals.{noSpace, wrongPair, wrongParties}
 use Rattle.rulebook.specs.Premise.{Sizes}
 use Rattle.rulebook.proofs.Held.{put-other}
+use Rattle.rulebook.proofs.Places.{is-sym}
+use Rattle.rulebook.proofs.Types.{put-in-apart, pledge-types, release-types, block-types, unblock-types}
+use Rattle.rulebook.proofs.Orders.{right-types}
 use Rattle.rulebook.proofs.Sizes.{booked-listed}
 
 -- the test, on the counts that a book would have
@@ -216,3 +219,36 @@ module _ (b : Ledger) (o : Order) (z : Sizes b) where
       space-is (5 + (o.form - 5)) b o (sym n) (putHoldings (booked ms b.holdings) b)
       (ap (λ (x : Outcome). x .after) (shift-form (o.form - 5) (omega arith))) securities items _ (booked-listed ms b.holdings) refl r
       ∙ shift-by (has from is o.quantity.0) refl e
+
+-- ---- the two accounts of an accepted form 5 to 9 differ
+
+same-sym : (a b : Account) → sameAccount a b ≡ sameAccount b a
+unfolding sameAccount
+same-sym a b = simp (is-sym a.security b.security, is-sym a.member b.member, is-sym a.typ b.typ, is-sym a.shareholder b.shareholder)
+
+types-apart : (a b : Account) → (a.typ is b.typ) ≡ false → sameAccount a b ≡ false
+unfolding sameAccount
+types-apart a b e = simp (e, and-false)
+
+module _ (b : Ledger) (o : Order) where
+  abbrev debited : Account
+  debited = accountOf o.security o.debited
+
+  abbrev credited : Account
+  credited = accountOf o.security o.credited
+
+  shift-apart : (k : ℕ) → k ≤ 4 → o.form ≡ 5 + k → wrongPair o ≡ false → wrongParties o ≡ false → sameAccount credited debited ≡ false
+  unfolding accountOf wrongParties
+  shift-apart zero l e t w = same-sym credited debited ∙ go (o.debited.shareholder isNot o.credited.shareholder) (sameAccount debited credited) (simp e at w)
+    where
+      go : (x y : Bool) → (x || false || false || y) ≡ false → y ≡ false
+      go true y p = absurd (false≢true (sym p))
+      go false y p = p
+  shift-apart (suc zero) l e t w = types-apart credited debited (is-sym o.credited.typ o.debited.typ ∙ put-in-apart o.debited.typ o.credited.typ (pledge-types o.debited.typ o.credited.typ (right-types 6 b o e t)))
+  shift-apart (suc (suc zero)) l e t w = types-apart credited debited (put-in-apart o.credited.typ o.debited.typ (release-types o.debited.typ o.credited.typ (right-types 7 b o e t)))
+  shift-apart (suc (suc (suc zero))) l e t w = types-apart credited debited (is-sym o.credited.typ o.debited.typ ∙ put-in-apart o.debited.typ o.credited.typ (block-types o.debited.typ o.credited.typ (right-types 8 b o e t)))
+  shift-apart (suc (suc (suc (suc zero)))) l e t w = types-apart credited debited (put-in-apart o.credited.typ o.debited.typ (unblock-types o.debited.typ o.credited.typ (right-types 9 b o e t)))
+  shift-apart (suc (suc (suc (suc (suc k))))) l e t w = absurd (omega arith)
+
+  pub sides-apart : 5 ≤ o.form → o.form ≤ 9 → wrongPair o ≡ false → wrongParties o ≡ false → sameAccount credited debited ≡ false
+  sides-apart l u = shift-apart (o.form - 5) (omega arith) (omega arith)
