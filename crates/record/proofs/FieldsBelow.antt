@@ -8,7 +8,7 @@ use native.Mathlib.Omega.{arith}
 use native.Mathlib.Numerals.{add-one}
 use lib.ListN.{length, getD}
 use Rattle.rulebook.specs.Lists.{_isNot_, within, first}
-use Rattle.rulebook.specs.Record.{places, used, least, most, unusedNotZero, usedOutOfRange}
+use Rattle.rulebook.specs.Record.{places, used, least, most}
 use Rattle.record.specs.Fields.{earlierOf}
 use Rattle.record.proofs.Below.{any, any-more, none-passes}
 

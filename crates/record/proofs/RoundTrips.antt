@@ -1,9 +1,9 @@
 -- The reader reads what the writer wrote, and the writer writes what the reader read; P1 holds of what is written. Assumes nothing.
-use mathlib.Core.Path.{_≡_, refl, sym, ap, _∙_}
+use mathlib.Core.Path.{_≡_, refl, ap, _∙_}
 use mathlib.Core.Bool.{Bool, true, false}
 use mathlib.Core.List.{List, [], _∷_, _++_}
 use Prim.Native.Nat.{ℕ, _+_, _*_, _^_, _≤_}
-use borrow.Author.Tests.{eqb-true, eq-eqb, le-ltb}
+use borrow.Author.Tests.{eqb-true, eq-eqb}
 use lib.Dec.{lit≤}
 use lib.ListN.{length, take, drop, replicate}
 use lib.Seq.{take-at, take-append-le}

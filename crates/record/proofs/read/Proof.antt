@@ -1,5 +1,5 @@
 -- `record::read` meets its contract: each way out by the tests that led there. Assumes nothing.
-use mathlib.Core.Path.{sym, ap, _∙_}
+use mathlib.Core.Path.{ap, _∙_}
 use borrow.Author.Needs.{needs}
 use borrow.Author.Tests.{ne-eqb}
 use Rattle.rulebook.specs.Record.{orderOf, readRefusal, readOf}
