@@ -6,8 +6,8 @@ use mathlib.Core.Bool.{Bool, true, false}
 use mathlib.Core.List.{List, [], _∷_, _++_, append-assoc}
 use mathlib.Core.Path.{_≡_, refl, sym, ap, _∙_}
 use lib.Dec.{eqb, ltb}
-use lib.ListN.{length, getD, set, take, drop, length-append, length-take, length-drop, take-append-drop}
-use lib.Seq.{length-take-le, take-at, drop-at, drop-drop, take-append-le, drop-append-le, paste, paste-zero, paste-suc, drop-paste, getD-drop}
+use lib.ListN.{length, getD, set, take, drop, length-append, length-take, length-drop, take-append-drop, List·getD-append}
+use lib.Seq.{length-take-le, take-at, drop-at, drop-drop, take-append-le, drop-append-le, paste, paste-zero, paste-suc, drop-paste, getD-take, getD-drop}
 use borrow.Author.Tests.{eqb-true, eqb-false, ltb-true, ltb-false}
 use borrow.Rule.Slice.PartMut.{putMid, take-put, same-len-mid}
 use Rattle.rulebook.specs.Lists.{if_then_else_, _is_}
@@ -28,6 +28,10 @@ module _ (xs ys : List ℕ) (a k : ℕ) (fits : a + k ≤ length xs) (wide : len
       let in-m : m ≤ length (drop b (take a xs)) = rw length-drop (omega arith) in
       let old : take m (drop b xs) ≡ take m (drop b (take a xs)) = ap (λ (l : List ℕ). take m (drop b l)) (sym (take-append-drop a xs)) ∙ ap (take m) (drop-append-le b (take a xs) (drop a xs) in-b) ∙ take-append-le m (drop b (take a xs)) (drop a xs) in-m in
       ap (take m) (drop-append-le b (take a xs) (ys ++ drop k (drop a xs)) in-b) ∙ take-append-le m (drop b (take a xs)) (ys ++ drop k (drop a xs)) in-m ∙ sym old
+
+  -- a word before it
+  pub word-before : (b : ℕ) → b < a → getD (putMid a k xs ys) b 0 ≡ getD xs b 0
+  word-before b h = let long : length (take a xs) ≡ a = length-take-le a xs (omega arith) in List·getD-append (take a xs) (ys ++ drop k (drop a xs)) 0 b (omega arith) ∙ getD-take a xs b 0 h
 
   -- one that starts behind it
   pub part-behind : (b m : ℕ) → a + k ≤ b → take m (drop b (putMid a k xs ys)) ≡ take m (drop b xs)
