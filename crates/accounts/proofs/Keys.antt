@@ -8,12 +8,8 @@ use borrow.Author.Tests.{lt-ltb, ltb-true, eq-eqb, eqb-true, eqb-false}
 use Rattle.rulebook.specs.Lists.{_is_, _below_}
 use Rattle.rulebook.specs.Ledger.{sameAccount}
 use Rattle.rulebook.specs.declared.Account.{Account}
+use Rattle.words.proofs.Tests.{both}
 use Rattle.accounts.specs.Keys.{keyOf, securityOf, InRange, inRange}
-
-both : (a b : Bool) → (a && b) ≡ true → (a ≡ true) × (b ≡ true)
-both true true e = (refl, refl)
-both true false e = (refl, e)
-both false b e = let z : _≡_ {A = ℕ} 0 1 = cc in absurd (omega arith)
 
 pub range-true : (a : Account) → InRange a → inRange a ≡ true
 unfolding inRange

@@ -1,4 +1,5 @@
--- Sums, lists by places, tables and regions of words.
+-- Tests, sums, lists by places, tables and regions of words.
+pub mod Tests
 pub mod Sums
 pub mod Places
 pub mod Tables
