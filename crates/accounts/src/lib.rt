@@ -38,11 +38,8 @@ pub fn balance(accounts: &[u64], account: Account) -> Shares
     requires { ⌜ Kept (now accounts) × InRange account ⌝ }
     ensures { λ r. ⌜ r .0 ≡ balanceOf (now (accounts .entry)) account ⌝ }
 {
-    let found = find(accounts, account);
-    match found {
-        Found::At(i) => Shares(accounts[i + BALANCES]),
-        Found::Nothing => Shares(0),
-    }
+    let key = key_of(account);
+    Shares(words::value(accounts, key, BALANCES))
 }
 
 // An account goes last.

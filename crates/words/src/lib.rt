@@ -3,7 +3,7 @@ ghost use mathlib.Core.Path.{_≡_};
 ghost use Prim.Native.Nat.{_+_, _≤_, _<_};
 ghost use lib.ListN.{length, take, drop};
 ghost use borrow.Rule.Slice.PartMut.{putMid};
-ghost use Rattle.words.specs.Tables.{rows, placeOf};
+ghost use Rattle.words.specs.Tables.{rows, placeOf, valueOf, KeysOnce};
 
 // What a search for a place finds.
 pub enum Found {
@@ -25,6 +25,18 @@ pub fn find(table: &[u64], key: u64) -> Found
         i += 1;
     }
     Found::Nothing
+}
+
+// What the row of `key` has in the column that starts at `column`: 0 where there is none.
+pub fn value(table: &[u64], key: u64, column: usize) -> u64
+    requires { ⌜ KeysOnce (now table) × (1 ≤ column) × (rows (now table) + column ≤ length (now table)) ⌝ }
+    ensures { λ r. ⌜ r ≡ valueOf column (now (table .entry)) key ⌝ }
+{
+    let found = find(table, key);
+    match found {
+        Found::At(i) => table[i + column],
+        Found::Nothing => 0,
+    }
 }
 
 // The words of `s` go over those from `at` on.
