@@ -71,7 +71,7 @@ fn remove_account(accounts: &mut [u64], i: usize)
 
 // More in the account, which is opened where there is none.
 pub fn credit(accounts: &mut [u64], account: Account, quantity: Shares)
-    requires { ⌜ Kept (now accounts) × CreditFits (now accounts) account (quantity .0) ⌝ }
+    requires { ⌜ Kept (now accounts) × CreditFits account (balanceOf (now accounts) account) (rows (now accounts)) (quantity .0) ⌝ }
     ensures { λ u. ⌜ Kept (now (accounts .exit)) × ((h : Holdings) → withAccounts (now (accounts .exit)) h ≡ movements.credit (movements.account account) (quantity .0) (withAccounts (now (accounts .entry)) h)) ⌝ }
 {
     let found = find(accounts, account);

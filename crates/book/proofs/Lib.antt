@@ -1,0 +1,2 @@
+-- The laws of a book's parts.
+pub mod Laws

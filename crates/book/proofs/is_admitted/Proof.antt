@@ -1,0 +1,12 @@
+-- `book::is_admitted` meets its contract. Assumes nothing.
+use borrow.Author.Needs.{needs}
+use Rattle.book.specs.Meaning.{holdingsOf}
+use Rattle.book.proofs.is_admitted.Statement.{statement}
+use Rattle.book.proofs.is_admitted.Tie as tie
+
+returns : tie.Need-returns
+unfolding holdingsOf
+returns c = c .is-admitted .ensures (holdingsOf (c .before .before .before .args .book .now))
+
+pub is-admitted-spec : {M : Type 1} → statement M
+is-admitted-spec = tie.close (tie.spec (λ c. search needs) (λ c. search needs) (λ c. search needs) (λ c κs. search needs) returns)

@@ -1,0 +1,3 @@
+-- What a book of words means, and what is kept true of it.
+pub mod Meaning
+pub mod Stored
