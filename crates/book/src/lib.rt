@@ -12,6 +12,7 @@ ghost use Rattle.accounts.specs.Keys.{InRange};
 ghost use Rattle.accounts.specs.Map.{CreditFits};
 ghost use Rattle.book.specs.Meaning.{dayIn, ledgerOf};
 ghost use Rattle.book.specs.Stored.{Stored, Means};
+ghost use Rattle.book.specs.Zeros.{Freshened};
 use rulebook::Account;
 use rulebook::Cents;
 use rulebook::Day;
@@ -202,11 +203,11 @@ pub fn security_at(book: &[u64], i: usize) -> Security
 }
 
 // Whether the security is admitted.
-pub fn is_admitted(book: &[u64], security: u64) -> bool
+pub fn admitted(book: &[u64], security: u64) -> bool
     requires { ⌜ Stored (now book) ⌝ }
     ensures { λ r. ⌜ r ≡ admitted security (ledgerOf (now (book .entry)) .holdings) ⌝ }
 {
-    securities::is_admitted(&book[SECURITIES..ACCOUNTS], security)
+    securities::admitted(&book[SECURITIES..ACCOUNTS], security)
 }
 
 // The security's issued count.
@@ -247,4 +248,21 @@ pub fn debit_outside(book: &mut [u64], security: u64, quantity: Shares)
     ensures { λ u. ⌜ Means (now (book .exit)) (putHoldings (movements.debit (movements.type91 security) (quantity .0) (ledgerOf (now (book .entry)) .holdings)) (ledgerOf (now (book .entry)))) ⌝ }
 {
     securities::debit_outside(&mut book[SECURITIES..ACCOUNTS], security, quantity);
+}
+
+// ---- the fresh book
+
+// The fresh book, in a buffer of 1771 words. Another one is left as it is.
+pub fn fresh(book: &mut [u64]) -> bool
+    ensures { λ r. ⌜ Freshened (now (book .entry)) r (now (book .exit)) ⌝ }
+{
+    if book.len() != END {
+        return false;
+    }
+    let mut i: usize = 0;
+    while i < END {
+        book[i] = 0;
+        i += 1;
+    }
+    true
 }

@@ -17,7 +17,7 @@ const ISSUED: usize = 33;
 const OUTSIDE: usize = 65;
 
 // Whether the security is admitted.
-pub fn is_admitted(securities: &[u64], code: u64) -> bool
+pub fn admitted(securities: &[u64], code: u64) -> bool
     requires { ⌜ Kept (now securities) ⌝ }
     ensures { λ r. ⌜ ((h : Holdings) → r ≡ admitted code (withSecurities (now (securities .entry)) h)) ⌝ }
 {
