@@ -11,7 +11,8 @@ use Rattle.rulebook.specs.Record.{readOf}
 use Rattle.rulebook.specs.Ledger.{Holdings, Ledger, fresh, accountOf, sameAccount, issuedOf, outsideOf, cashTotal, held}
 use Rattle.rulebook.specs.declared.Account.{Account}
 use Rattle.rulebook.specs.Movements.{Place, account, type91, type90, cashOf, member0}
-use Rattle.rulebook.specs.Rows.{Posting, postingIn}
+use Rattle.rulebook.specs.Rows.{postingIn}
+use Rattle.rulebook.specs.declared.Posting.{Posting}
 use Rattle.rulebook.specs.Waiting.{sides}
 use Rattle.rulebook.specs.Call.{Result, callOf}
 use Rattle.rulebook.specs.declared.Order.{Order}

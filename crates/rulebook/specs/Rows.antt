@@ -7,21 +7,14 @@ use Rattle.bits.specs.Bits.{bytes}
 use Rattle.bits.specs.Layout.{pack, cut}
 use Rattle.rulebook.specs.Movements.{Place, account, type91, type90, cashOf, member0, Movement}
 use Rattle.rulebook.specs.declared.Item.{Item}
+use Rattle.rulebook.specs.declared.Posting.{Posting}
+use Rattle.rulebook.specs.declared.Notice.{Notice}
 use Rattle.rulebook.specs.declared.State.{State}
 use Rattle.rulebook.specs.declared.State.the-variants.{Single, Pair, Trade}
 
 -- Posting row: credit 1 bit, cash 1 bit, security or currency 14, member 10, type 8, shareholder 30, quantity or amount 64.
 unfoldable pub postingWidths : List ℕ
 postingWidths = 1 ∷ 1 ∷ 14 ∷ 10 ∷ 8 ∷ 30 ∷ 64 ∷ []
-
-pub record Posting : Type 0 where
-  pub credit : ℕ
-  pub cash : ℕ
-  pub what : ℕ
-  pub member : ℕ
-  pub typ : ℕ
-  pub shareholder : ℕ
-  pub number : ℕ
 
 unfoldable pub postingBytes : Posting → List ℕ
 postingBytes p = bytes 16 (pack 0 postingWidths (p.credit ∷ p.cash ∷ p.what ∷ p.member ∷ p.typ ∷ p.shareholder ∷ p.number ∷ []))
@@ -54,18 +47,11 @@ postingOf credit (member0 currency) number =
     record { credit = credit; cash = 1; what = currency; member = 0; typ = 0; shareholder = 0; number = number }
 
 -- Notice row: kind 4 bits (1 single, 2 aged pair, 3 suspended, 4 cancelled), deliverer 10, receiver 10, their references 32 and 32, 40 zero bits.
-pub record Notice : Type 0 where
-  pub kind : ℕ
-  pub deliverer : ℕ
-  pub receiver : ℕ
-  pub deliver : ℕ
-  pub receive : ℕ
-
 unfoldable pub noticeWidths : List ℕ
 noticeWidths = 4 ∷ 10 ∷ 10 ∷ 32 ∷ 32 ∷ 40 ∷ []
 
 unfoldable pub noticeBytes : Notice → List ℕ
-noticeBytes n = bytes 16 (pack 0 noticeWidths (n.kind ∷ n.deliverer ∷ n.receiver ∷ n.deliver ∷ n.receive ∷ 0 ∷ []))
+noticeBytes n = bytes 16 (pack 0 noticeWidths (n.kind ∷ n.deliverer ∷ n.receiver ∷ n.«deliver_reference» ∷ n.«receive_reference» ∷ 0 ∷ []))
 
 -- references (0 if absent; an exchange trade's own in both)
 unfoldable pub deliverReference : State → ℕ
@@ -83,8 +69,8 @@ noticeOf kind item = record {
   kind = kind;
   deliverer = item.debited.member;
   receiver = item.credited.member;
-  deliver = deliverReference item.state;
-  receive = receiveReference item.state;
+  «deliver_reference» = deliverReference item.state;
+  «receive_reference» = receiveReference item.state;
 }
 
 pub data Row : Type 0 where

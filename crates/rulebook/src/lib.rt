@@ -109,3 +109,23 @@ pub struct Item {
     pub settlement_day: u64,
     pub state: State,
 }
+
+// A posting row. `what` is the security or the currency, and `number` the quantity or the amount.
+pub struct Posting {
+    pub credit: u64,
+    pub cash: u64,
+    pub what: u64,
+    pub member: u64,
+    pub typ: u64,
+    pub shareholder: u64,
+    pub number: u64,
+}
+
+// A notice row: why an item left, its members and their references.
+pub struct Notice {
+    pub kind: u64,
+    pub deliverer: u64,
+    pub receiver: u64,
+    pub deliver_reference: u64,
+    pub receive_reference: u64,
+}

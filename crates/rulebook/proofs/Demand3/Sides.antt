@@ -1,0 +1,239 @@
+-- Sides taken in are sides settled, cancelled, deleted, suspended or waiting, over any list of calls. Assumes nothing.
+use mathlib.Core.Path.{_≡_, refl, ap}
+use mathlib.Core.Bool.{Bool, true, false, not, _&&_, _||_, false≢true}
+use mathlib.Core.List.{List, [], _∷_, map}
+use Prim.Native.Nat.{ℕ, zero, suc, _+_, _≤_, zero-le}
+use borrow.Author.Tests.{ne-eqb}
+use Rattle.rulebook.specs.Calls.{Call, Made, callsOn, bookAfter, ofAnswer, answers, takesIn, sidesTaken}
+use Rattle.rulebook.proofs.Lists.{_and_, keep-split, total-append, total-map}
+use Rattle.rulebook.proofs.Rounds.{cycle-total}
+use Rattle.rulebook.proofs.ByCall.{Form, AllForms, by-form, inAll, by-call, records-are, answers-are}
+use Rattle.rulebook.specs.Call.{putMinute}
+use Rattle.rulebook.specs.declared.Answer.{Answer}
+use native.Mathlib.Omega.{arith}
+use Rattle.rulebook.specs.declared.Item.{Item}
+use Rattle.rulebook.specs.declared.Order.{Order}
+use Rattle.rulebook.specs.declared.State.{State}
+use Rattle.rulebook.specs.declared.State.the-variants.{Single, Pair, Trade}
+use Rattle.rulebook.specs.Lists.{if_then_else_, _is_, _atMost_, _oneOf_, keep}
+use Rattle.rulebook.specs.Ledger.{Ledger, fresh, putDay, putHoldings, putWaiting}
+use Rattle.rulebook.specs.Waiting.{sidesOf, sides, isDeliver, isReceive, itemOf, senderOf, withState, marked, marking, cancelled, staying, unmarked, sentBy}
+use Rattle.rulebook.specs.Matching.{tolerance, pairsWith, pairOf, arrive}
+use Rattle.rulebook.specs.Close.{closeKind, leaves, deletedAtClose, suspendedAtClose}
+use Rattle.rulebook.specs.Forms.{counts, outcome, moving, silent, openDay, admit, deposit, withdraw, transfer, payIn, payOut, instruct, trade, cancel, cycle, close, forms, effect}
+use Rattle.rulebook.specs.declared.Counts.{Counts}
+use Rattle.rulebook.specs.Cycle.{settled, notSettled}
+
+-- matching
+
+single-pairs : (s : State) (x y x′ y′ : Bool) → ((isDeliver s && x && y) || (isReceive s && x′ && y′)) ≡ true → sidesOf s ≡ 1
+unfolding isDeliver isReceive sidesOf
+single-pairs (Single d r) x y x′ y′ e = refl
+single-pairs (Pair d r dm rm) x y x′ y′ e = absurd (false≢true e)
+single-pairs (Trade r) x y x′ y′ e = absurd (false≢true e)
+
+pair-sides : (b : Bool) (x y : Item) → sidesOf ((if b then pairOf x y else pairOf y x) .state) ≡ 2
+unfolding pairOf sidesOf
+pair-sides true x y = refl
+pair-sides false x y = refl
+
+waits-single : (limit : ℕ) (new w : Item) → pairsWith limit new w ≡ true → sidesOf w.state ≡ 1
+unfolding pairsWith
+waits-single limit new w e = single-pairs w.state _ _ _ _ e
+
+arrive-sides : (limit : ℕ) (new : Item) → sidesOf new.state ≡ 1 → (ws : List Item) → sides (arrive limit new ws) ≡ sides ws + 1
+unfolding arrive sides
+arrive-sides limit new n [] = simp n
+arrive-sides limit new n (w ∷ rest) = go (pairsWith limit new w) refl (arrive-sides limit new n rest)
+  where
+    go : (b : Bool) → pairsWith limit new w ≡ b → sides (arrive limit new rest) ≡ sides rest + 1 → sides (arrive limit new (w ∷ rest)) ≡ sides (w ∷ rest) + 1
+    go true e ih =
+        let w₁ = waits-single limit new w e in
+        let w₂ = pair-sides (isDeliver w.state) w new in
+        simp (e, total-append) (omega (arith, w₁, w₂))
+    go false e ih = simp e (omega (arith, ih))
+
+-- cancel
+
+mark-sides : (sender : ℕ) (item : Item) (s : State) → sidesOf (marked sender (withState s item) .state) ≡ sidesOf s
+unfolding marked withState sidesOf
+mark-sides sender item (Single d r) = refl
+mark-sides sender item (Pair d r dm rm) = go (sender is item.debited.member)
+  where
+    go : (b : Bool) → sidesOf (if b then Pair d r true rm else Pair d r dm true) ≡ 2
+    go true = refl
+    go false = refl
+mark-sides sender item (Trade r) = refl
+
+marking-sides : (sender reference : ℕ) (ws : List Item) → sides (marking sender reference ws) ≡ sides ws
+unfolding marking sides withState
+marking-sides sender reference ws = total-map _ _ _ (λ x. go x (sentBy sender reference x)) ws
+  where
+    go : (x : Item) (b : Bool) → sidesOf ((if b then marked sender x else x) .state) ≡ sidesOf x.state
+    go x true = mark-sides sender x x.state
+    go x false = refl
+
+cancel-sides : (ws : List Item) → sides (cancelled ws) + sides (staying ws) ≡ sides ws
+unfolding cancelled staying sides
+cancel-sides ws = keep-split _ _ ws
+
+-- cycle
+
+abbrev sidesAt : Item → ℕ
+sidesAt i = sidesOf i.state
+
+cycle-sides : (book : Ledger) → sides (settled book) + sides (notSettled book) ≡ sides book.waiting
+unfolding sides
+cycle-sides book = cycle-total sidesAt book
+
+-- close
+
+unmark-sides : (item : Item) (s : State) → sidesOf (unmarked (withState s item) .state) ≡ sidesOf s
+unfolding unmarked withState sidesOf
+unmark-sides item (Single d r) = refl
+unmark-sides item (Pair d r dm rm) = refl
+unmark-sides item (Trade r) = refl
+
+unmarked-sides : (ws : List Item) → sides (map unmarked ws) ≡ sides ws
+unfolding sides withState
+unmarked-sides ws = total-map sidesAt sidesAt unmarked (λ x. unmark-sides x x.state) ws
+
+at-most : (b : Bool) (n : ℕ) → n ≤ 3 → (if b then n else 0) ≤ 3
+at-most true n h = h
+at-most false n h = zero-le
+
+kind-most : (day : ℕ) (item : Item) (s : State) → closeKind day (withState s item) ≤ 3
+unfolding closeKind withState
+kind-most day item (Single d r) = at-most (item.«settlement_day» is day) 1 (omega arith)
+kind-most day item (Pair d r dm rm) = at-most (day is (item.«settlement_day» + 10)) 2 (omega arith)
+kind-most day item (Trade r) = at-most (item.«settlement_day» atMost day) 3 (omega arith)
+
+gone-sides :
+    (day : ℕ) (ws : List Item) → sides (keep (deletedAtClose day) (keep (leaves day) ws)) + sides (keep (suspendedAtClose day) (keep (leaves day) ws)) ≡ sides (keep (leaves day) ws)
+unfolding leaves deletedAtClose suspendedAtClose sides withState
+gone-sides day [] = refl
+gone-sides day (w ∷ rest) = go (closeKind day w) refl (kind-most day w w.state) (gone-sides day rest)
+  where
+    go :
+        (k : ℕ) → closeKind day w ≡ k → closeKind day w ≤ 3
+        → sides (keep (deletedAtClose day) (keep (leaves day) rest)) + sides (keep (suspendedAtClose day) (keep (leaves day) rest)) ≡ sides (keep (leaves day) rest)
+        → sides (keep (deletedAtClose day) (keep (leaves day) (w ∷ rest))) + sides (keep (suspendedAtClose day) (keep (leaves day) (w ∷ rest)))
+        ≡ sides (keep (leaves day) (w ∷ rest))
+    go zero e h ih = simp e ih
+    go (suc zero) e h ih = simp e (omega arith)
+    go (suc (suc zero)) e h ih = simp e (omega arith)
+    go (suc (suc (suc zero))) e h ih = simp e (omega arith)
+    go (suc (suc (suc (suc k)))) e h ih = absurd (omega arith)
+
+close-sides :
+    (day : ℕ) (ws : List Item)
+    → sides (keep (deletedAtClose day) (keep (leaves day) ws)) + sides (keep (suspendedAtClose day) (keep (leaves day) ws)) + sides (map unmarked (keep (λ w. not (leaves day w)) ws))
+    ≡ sides ws
+close-sides day ws =
+    let a = gone-sides day ws in
+    let b = unmarked-sides (keep (λ w. not (leaves day w)) ws) in
+    let c : sides (keep (leaves day) ws) + sides (keep (λ w. not (leaves day w)) ws) ≡ sides ws = unfold sides in keep-split sidesAt (leaves day) ws in
+    omega (arith, a, b, c)
+
+-- forms
+
+-- the sides that a form takes in, and those that an answer says are gone
+abbrev takesAt : ℕ → ℕ
+takesAt form = if form oneOf (12 ∷ 13 ∷ []) then 1 else if form is 14 then 2 else 0
+
+abbrev gone : Counts → ℕ
+gone c = c.settled + c.cancelled + c.deleted + c.suspended
+
+-- a form keeps the sides: those taken in and those waiting are those gone and those waiting after it
+abbrev Keeps : ℕ → Form → Type 0
+Keeps n f = (b : Ledger) (o : Order) → takesAt n + sides b.waiting ≡ gone (f b o .counts) + sides (f b o .after .waiting)
+
+-- a form that leaves the waiting list as it was, and one that writes no rows
+quiet : (n : ℕ) (f : Form) → takesAt n ≡ 0 → ((b : Ledger) (o : Order) → (gone (f b o .counts) ≡ 0) × (f b o .after .waiting ≡ b.waiting)) → Keeps n f
+quiet n f z h b o =
+    let h₁ = h b o .0 in
+    let h₂ : sides (f b o .after .waiting) ≡ sides b.waiting = ap sides (h b o .1) in
+    omega (arith, z, h₁, h₂)
+
+instruct-keeps : (b : Ledger) (o : Order) → 1 + sides b.waiting ≡ gone (instruct b o .counts) + sides (instruct b o .after .waiting)
+unfolding instruct silent outcome counts putWaiting itemOf sidesOf
+instruct-keeps b o = omega (arith, arrive-sides (tolerance o.currency) (itemOf (Single (o.form is 12) o.reference) o) refl b.waiting)
+
+trade-keeps : Keeps 14 trade
+unfolding trade silent outcome counts putWaiting sides itemOf sidesOf
+trade-keeps b o = simp total-append (omega arith)
+
+cancel-keeps : Keeps 15 cancel
+unfolding cancel outcome counts putWaiting
+cancel-keeps b o =
+    let now = marking (senderOf o) o.reference b.waiting in
+    omega (arith, cancel-sides now, marking-sides (senderOf o) o.reference b.waiting)
+
+cycle-keeps : Keeps 16 cycle
+unfolding cycle outcome counts
+cycle-keeps b o = omega (arith, cycle-sides b)
+
+close-keeps : Keeps 17 close
+unfolding close outcome counts
+close-keeps b o = omega (arith, close-sides b.day.number b.waiting)
+
+forms-keep : AllForms Keeps 1 forms
+unfolding forms openDay admit deposit withdraw transfer payIn payOut moving silent outcome counts putDay putHoldings
+forms-keep =
+    quiet 1 openDay refl (λ b o. (refl, refl)) and quiet 2 admit refl (λ b o. (refl, refl)) and quiet 3 deposit refl (λ b o. (refl, refl))
+    and quiet 4 withdraw refl (λ b o. (refl, refl)) and quiet 5 transfer refl (λ b o. (refl, refl)) and quiet 6 transfer refl (λ b o. (refl, refl))
+    and quiet 7 transfer refl (λ b o. (refl, refl)) and quiet 8 transfer refl (λ b o. (refl, refl)) and quiet 9 transfer refl (λ b o. (refl, refl))
+    and quiet 10 payIn refl (λ b o. (refl, refl)) and quiet 11 payOut refl (λ b o. (refl, refl)) and instruct-keeps and instruct-keeps and trade-keeps
+    and cancel-keeps and cycle-keeps and close-keeps and tt
+
+takes-most : (m : ℕ) → 18 ≤ m → takesAt m ≡ 0
+takes-most m h = simp (ne-eqb m 12 (λ e. omega arith), ne-eqb m 13 (λ e. omega arith), ne-eqb m 14 (λ e. omega arith))
+
+silent-keeps : (m : ℕ) → 18 ≤ m → Keeps m (λ b o. silent b)
+unfolding silent outcome counts
+silent-keeps m h = quiet m (λ b o. silent b) (takes-most m h) (λ b o. (refl, refl))
+
+zero-keeps : Keeps 0 openDay
+unfolding openDay silent outcome counts putDay
+zero-keeps = quiet 0 openDay refl (λ b o. (refl, refl))
+
+effect-keeps : (b : Ledger) (o : Order) → takesIn o + sides b.waiting ≡ gone (effect b o .counts) + sides (effect b o .after .waiting)
+unfolding effect takesIn
+effect-keeps b o = by-form Keeps forms-keep silent-keeps zero-keeps o.form b o
+
+-- calls: nothing has to be known of the book
+
+list-keeps :
+    (calls : List Call)
+    → inAll (λ o c. takesIn o) (callsOn fresh calls) + sides (fresh .waiting) ≡ inAll (λ o c. gone c) (callsOn fresh calls) + sides (bookAfter fresh calls .waiting)
+unfolding putMinute putDay
+list-keeps calls =
+    by-call (λ b. Unit {0}) (λ b. sides b.waiting) (λ o c. takesIn o) (λ o c. gone c) (λ b o bytes i e f. (tt, effect-keeps b o)) fresh tt calls
+
+-- in the words of demand 3
+
+gone-of : (a : Answer) → ofAnswer gone a ≡ ofAnswer (λ c. c.settled) a + ofAnswer (λ c. c.cancelled) a + ofAnswer (λ c. c.deleted) a + ofAnswer (λ c. c.suspended) a
+unfolding ofAnswer
+gone-of (Answer.Accepted c) = refl
+gone-of (Answer.Refused n) = refl
+
+gone-in : (h : List Made) → answers gone h ≡ answers (λ c. c.settled) h + answers (λ c. c.cancelled) h + answers (λ c. c.deleted) h + answers (λ c. c.suspended) h
+unfolding answers
+gone-in [] = refl
+gone-in (m ∷ rest) = omega (arith, gone-of m.answer, gone-in rest)
+
+none-waiting : sides (fresh .waiting) ≡ 0
+unfolding fresh sides
+none-waiting = refl
+
+-- the last part of demand 3
+pub sided :
+    (calls : List Call)
+    → sidesTaken (callsOn fresh calls)
+    ≡ answers (λ c. c.settled) (callsOn fresh calls) + answers (λ c. c.cancelled) (callsOn fresh calls) + answers (λ c. c.deleted) (callsOn fresh calls)
+    + answers (λ c. c.suspended) (callsOn fresh calls)
+    + sides (bookAfter fresh calls .waiting)
+unfolding sidesTaken
+sided calls =
+    let h = callsOn fresh calls in
+    omega (arith, list-keeps calls, gone-in h, none-waiting, records-are takesIn h, answers-are gone fresh calls)

@@ -1,0 +1,42 @@
+-- WHAT IS PROMISED OF THE DEFINITIONS
+
+-- both round trips of a record: `write-read` and `read-write`
+pub mod RoundTrips
+-- demand 3, over every list of calls: `demand3`
+pub mod Demand3
+-- the premise: the fresh book meets it (`fresh-premise`) and every call keeps it (`call-premise`), so the number of accounts that a book carries is
+-- the number of those with a balance (`accounts-counted`)
+pub mod EveryCall
+-- WHAT THE CODE'S PROOFS CITE
+
+-- movements: what they do to each place (`booked-exact`), and what each credit and each debit keeps (`booked-any`)
+pub mod Places
+pub mod Booking
+-- the cycle: nothing is short once its rounds end (`settling-done`), so no debit of a settlement is cut off at 0 (`Steps.Settling.cycle-exact`)
+pub mod Rounds
+-- and what its trades bring and take fits a word
+pub mod CycleBounds
+-- refusal 18: forms that never get it (`never-grows`), a cycle among them (`cycle-space`); for the others a test on the book before the call
+pub mod Sizes
+pub mod Space
+-- no call writes more than 256 rows
+pub mod RowCounts
+-- the premise as code reads it: how large each number is, the lists at an index, no pair with both halves marked, what a cancel does
+pub mod Bounds
+pub mod ByIndex
+pub mod Halves
+pub mod Cancelling
+-- WHAT THESE REST ON
+
+-- lists, account types, sums over accounts, securities, rows that are read back, what movements do to sums
+pub mod Lists
+pub mod Types
+pub mod Held
+pub mod Securities
+pub mod Reading
+pub mod Sums
+-- an order that was read, and one that no test refuses
+pub mod Orders
+-- from forms to calls and lists of calls, and the step that each form makes
+pub mod ByCall
+pub mod Steps

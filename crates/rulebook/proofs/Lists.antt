@@ -1,0 +1,83 @@
+-- Laws of lists and of tests: totals, what holds of each element, both and either. Assumes nothing.
+use mathlib.Core.Path.{_≡_, refl}
+use mathlib.Core.Bool.{Bool, true, false, not, _&&_, _||_, false≢true}
+use mathlib.Core.List.{List, [], _∷_, _++_, map}
+use Prim.Native.Nat.{ℕ, _+_, _≤_}
+use native.Mathlib.Omega.{arith}
+use lib.ListN.{length}
+use Rattle.rulebook.specs.Lists.{keep, total}
+use Rattle.rulebook.specs.Premise.{Each}
+
+-- ---- tests
+
+pub both : (x y : Bool) → (x && y) ≡ true → (x ≡ true) × (y ≡ true)
+both true y e = (refl, e)
+both false y e = absurd (false≢true e)
+
+pub or-cases : (A : Type 0) (x y : Bool) → (x || y) ≡ true → (x ≡ true → A) → (y ≡ true → A) → A
+or-cases A true y e f g = f refl
+or-cases A false y e f g = g e
+
+-- ---- totals of a figure
+
+module _ {A : Type 0} where
+  -- a part that passes a test and the rest are the whole
+  pub keep-split : (figure : A → ℕ) (test : A → Bool) (xs : List A) → total figure (keep test xs) + total figure (keep (λ x. not (test x)) xs) ≡ total figure xs
+  keep-split figure test [] = refl
+  keep-split figure test (x ∷ rest) = go (test x) refl (keep-split figure test rest)
+    where
+      go :
+          (b : Bool) → test x ≡ b → total figure (keep test rest) + total figure (keep (λ x. not (test x)) rest) ≡ total figure rest
+          → total figure (keep test (x ∷ rest)) + total figure (keep (λ x. not (test x)) (x ∷ rest)) ≡ total figure (x ∷ rest)
+      go true e ih = simp e (omega arith)
+      go false e ih = simp e (omega arith)
+
+  pub keep-most : (figure : A → ℕ) (test : A → Bool) (xs : List A) → total figure (keep test xs) ≤ total figure xs
+  keep-most figure test xs = omega (arith, keep-split figure test xs)
+
+  pub length-total : (xs : List A) → length xs ≡ total (λ x. 1) xs
+  length-total [] = refl
+  length-total (x ∷ rest) = omega (arith, length-total rest)
+
+  pub keep-length : (test : A → Bool) (xs : List A) → length (keep test xs) ≤ length xs
+  keep-length test xs = omega (arith, keep-most (λ x. 1) test xs, length-total (keep test xs), length-total xs)
+
+  pub total-append : (figure : A → ℕ) (xs ys : List A) → total figure (xs ++ ys) ≡ total figure xs + total figure ys
+  total-append figure [] ys = omega arith
+  total-append figure (x ∷ rest) ys = simp (total-append figure rest ys) (omega arith)
+
+-- a change that keeps each figure keeps the total
+pub total-map : {A B : Type 0} (figure : B → ℕ) (same : A → ℕ) (f : A → B) → ((x : A) → figure (f x) ≡ same x) → (xs : List A) → total figure (map f xs) ≡ total same xs
+total-map figure same f e [] = refl
+total-map figure same f e (x ∷ rest) = simp (e x, total-map figure same f e rest)
+
+-- ---- each element
+
+-- facts in a row, as `Each` has them
+infixr 10 _and_
+pub _and_ : {A B : Type 0} → A → B → A × B
+_and_ a b = (a, b)
+
+pub each-so : {A : Type 0} (P Q : A → Type 0) → ((x : A) → P x → Q x) → (xs : List A) → Each P xs → Each Q xs
+each-so P Q f [] e = tt
+each-so P Q f (x ∷ rest) e = (f x (e .0), each-so P Q f rest (e .1))
+
+pub each-both : {A : Type 0} (P Q : A → Type 0) (xs : List A) → Each P xs → Each Q xs → Each (λ x. P x × Q x) xs
+each-both P Q [] e f = tt
+each-both P Q (x ∷ rest) e f = ((e .0, f .0), each-both P Q rest (e .1) (f .1))
+
+pub each-append : {A : Type 0} (P : A → Type 0) (xs ys : List A) → Each P xs → Each P ys → Each P (xs ++ ys)
+each-append P [] ys e f = f
+each-append P (x ∷ rest) ys e f = (e .0, each-append P rest ys (e .1) f)
+
+pub each-map : {A B : Type 0} (P : A → Type 0) (Q : B → Type 0) (f : A → B) → ((x : A) → P x → Q (f x)) → (xs : List A) → Each P xs → Each Q (map f xs)
+each-map P Q f h [] e = tt
+each-map P Q f h (x ∷ rest) e = (h x (e .0), each-map P Q f h rest (e .1))
+
+pub each-kept : {A : Type 0} (P Q : A → Type 0) (test : A → Bool) → ((x : A) → test x ≡ true → P x → Q x) → (xs : List A) → Each P xs → Each Q (keep test xs)
+each-kept P Q test f [] e = tt
+each-kept P Q test f (x ∷ rest) e = go (test x) refl (each-kept P Q test f rest (e .1))
+  where
+    go : (t : Bool) → test x ≡ t → Each Q (keep test rest) → Each Q (keep test (x ∷ rest))
+    go true p ih = simp p (f x p (e .0), ih)
+    go false p ih = simp p ih

@@ -1,0 +1,362 @@
+-- What is known of an order that was read, and of one that no test refuses. Assumes nothing.
+use mathlib.Core.Path.{_≡_, refl, sym, ap, subst}
+use mathlib.Core.Bool.{Bool, true, false, not, _&&_, _||_, false≢true}
+use mathlib.Core.List.{List, [], _∷_}
+use Prim.Native.Nat.{ℕ, zero, suc, _+_, _≤_, _<_, _^_}
+use native.Mathlib.Nat.{mod-lt}
+use native.Mathlib.Omega.{arith}
+use lib.Pow.{pow-pos}
+use lib.Dec.{leb}
+use lib.ListN.{length, getD}
+use borrow.Author.Tests.{eqb-true, leb-true, leb-false, ltb-false, not-false}
+use Rattle.bits.specs.Bits.{leading, field}
+use Rattle.rulebook.specs.declared.Order.{Order}
+use Rattle.rulebook.specs.declared.Party.{Party}
+use Rattle.rulebook.specs.declared.Read.{Read}
+use Rattle.rulebook.specs.Lists.{if_then_else_, _is_, _isNot_, _below_, _atMost_, _oneOf_, within, some, first}
+use Rattle.rulebook.specs.AccountTypes.{wrongTypes}
+use Rattle.rulebook.specs.Record.{widths, places, orderOf, fieldsIn, used, least, most, noForm, unusedNotZero, usedOutOfRange, readRefusal, readOf}
+use Rattle.rulebook.specs.Ledger.{Ledger, accountOf, sameAccount, admitted, outsideOf}
+use Rattle.rulebook.specs.Windows.{cycleMinutes, windowOf}
+use Rattle.rulebook.specs.Waiting.{senderOf, sentBy}
+use Rattle.rulebook.specs.Refusals.{wrongDay, wrongCycle, goesBack, outsideWindow, wrongSecurity, wrongPair, wrongParties, wrongDays, wrongReference, wrongCancel, tooLittle, overCeiling, noSpace, refusals}
+
+-- ---- an order that was read
+
+-- a party, and an account, that a record's fields can name
+pub record PartyFits (p : Party) : Type 0 where
+  pub member : p.member < 2 ^ 10
+  pub typ : p.typ < 2 ^ 8
+  pub shareholder : p.shareholder < 2 ^ 30
+
+pub record OrderFits (o : Order) : Type 0 where
+  pub security : o.security < 2 ^ 14
+  pub currency : o.currency < 2 ^ 2
+  pub debited : PartyFits o.debited
+  pub credited : PartyFits o.credited
+  pub quantity : o.quantity.0 < 2 ^ 40
+  pub amount : o.amount.0 < 2 ^ 40
+  pub «trade_day» : o.«trade_day» < 2 ^ 16
+  pub «settlement_day» : o.«settlement_day» < 2 ^ 16
+  pub reference : o.reference < 2 ^ 32
+
+field-fits : (octets : List ℕ) (at width : ℕ) → field octets at width < 2 ^ width
+unfolding field
+field-fits octets at width = mod-lt (leading octets (at + width)) (pow-pos width)
+
+fields-fit : (octets : List ℕ) → OrderFits (orderOf (fieldsIn octets))
+unfolding orderOf fieldsIn widths
+fields-fit octets = record {
+  security = field-fits octets _ 14;
+  currency = field-fits octets _ 2;
+  debited = record { member = field-fits octets _ 10; typ = field-fits octets _ 8; shareholder = field-fits octets _ 30 };
+  credited = record { member = field-fits octets _ 10; typ = field-fits octets _ 8; shareholder = field-fits octets _ 30 };
+  quantity = field-fits octets _ 40;
+  amount = field-fits octets _ 40;
+  «trade_day» = field-fits octets _ 16;
+  «settlement_day» = field-fits octets _ 16;
+  reference = field-fits octets _ 32;
+}
+
+pub read-is : (bytes : List ℕ) (o : Order) → readOf bytes ≡ Read.Order o → orderOf (fieldsIn bytes) ≡ o
+unfolding readOf
+read-is bytes o e = go (readRefusal bytes is 0) (readRefusal bytes) e
+  where
+    go : (t : Bool) (r : ℕ) → (if t then Read.Order (orderOf (fieldsIn bytes)) else Read.Refused r) ≡ Read.Order o → orderOf (fieldsIn bytes) ≡ o
+    go true r p = cc
+    go false r p = cc
+
+-- the fields of an order that was read fit their widths
+pub read-fits : (bytes : List ℕ) (o : Order) → readOf bytes ≡ Read.Order o → OrderFits o
+read-fits bytes o e = subst OrderFits (read-is bytes o e) (fields-fit bytes)
+
+-- where no number is given, no test applies
+
+abbrev Numbered : List (ℕ × Bool) → Type 0
+Numbered [] = Unit {0}
+Numbered (check ∷ rest) = (1 ≤ check .0) × Numbered rest
+
+abbrev pub NoneApplies : List (ℕ × Bool) → Type 0
+NoneApplies [] = Unit {0}
+NoneApplies (check ∷ rest) = (check .1 ≡ false) × NoneApplies rest
+
+pub none-applies : (checks : List (ℕ × Bool)) → Numbered checks → first checks ≡ 0 → NoneApplies checks
+none-applies [] n e = tt
+none-applies (check ∷ rest) n e = go (check .1) refl (none-applies rest (n .1))
+  where
+    go : (t : Bool) → check .1 ≡ t → (first rest ≡ 0 → NoneApplies rest) → NoneApplies (check ∷ rest)
+    go true p later = absurd (omega (arith, n .0, simp p at e))
+    go false p later = (p, later (simp p at e))
+
+-- the members of an order that was read are 1 to 64 where its form uses them, and a type is 0 where its form does not use it
+
+pub record Ranges (o : Order) : Type 0 where
+  pub debited : used o.form 4 ≡ true → (1 ≤ o.debited.member) × (o.debited.member ≤ 64)
+  pub credited : used o.form 6 ≡ true → (1 ≤ o.credited.member) × (o.credited.member ≤ 64)
+  pub no-debited-type : used o.form 5 ≡ false → o.debited.typ ≡ 0
+  pub no-credited-type : used o.form 7 ≡ false → o.credited.typ ≡ 0
+  -- the form is 1 to 17, the minute at most 1439, the day kind at most 2, and what a form uses is at least 1
+  pub form : (1 ≤ o.form) × (o.form ≤ 17)
+  pub minute : o.minute ≤ 1439
+  pub security : used o.form 2 ≡ true → 1 ≤ o.security
+  pub currency : used o.form 3 ≡ true → (1 ≤ o.currency) × (o.currency ≤ 2)
+  pub debited-holder : used o.form 8 ≡ true → 1 ≤ o.debited.shareholder
+  pub credited-holder : used o.form 9 ≡ true → 1 ≤ o.credited.shareholder
+  pub quantity : used o.form 10 ≡ true → (1 ≤ o.quantity.0) × (o.quantity.0 ≤ most o.form 10)
+  pub amount : used o.form 11 ≡ true → 1 ≤ o.amount.0
+  pub «trade_day» : used o.form 12 ≡ true → 1 ≤ o.«trade_day»
+  pub «settlement_day» : used o.form 13 ≡ true → 1 ≤ o.«settlement_day»
+  pub reference : used o.form 14 ≡ true → 1 ≤ o.reference
+
+pub none-at : (test : ℕ → Bool) (xs : List ℕ) (i : ℕ) → i < length xs → some test xs ≡ false → test (getD xs i 0) ≡ false
+none-at test [] i l e = absurd (omega arith)
+none-at test (x ∷ xs) zero l e = go (test x) (some test xs) e
+  where
+    go : (a b : Bool) → (a || b) ≡ false → a ≡ false
+    go true b p = p
+    go false b p = refl
+none-at test (x ∷ xs) (suc i) l e = none-at test xs i (omega arith) (go (test x) (some test xs) e)
+  where
+    go : (a b : Bool) → (a || b) ≡ false → b ≡ false
+    go true b p = cc
+    go false b p = p
+
+pub in-range : (u : Bool) (a b n : ℕ) → (u && not (within a b n)) ≡ false → u ≡ true → (a ≤ n) × (n ≤ b)
+in-range true a b n e t = go (leb a n) (leb n b) refl refl (not-false _ e)
+  where
+    go : (x y : Bool) → leb a n ≡ x → leb n b ≡ y → (x && y) ≡ true → (a ≤ n) × (n ≤ b)
+    go true true p q r = (leb-true a n p, leb-true n b q)
+    go true false p q r = absurd (false≢true r)
+    go false y p q r = absurd (false≢true r)
+in-range false a b n e t = absurd (false≢true t)
+
+pub is-zero : (u : Bool) (n : ℕ) → (not u && n isNot 0) ≡ false → u ≡ false → n ≡ 0
+is-zero false n e t = eqb-true n 0 (not-false _ e)
+is-zero true n e t = absurd (false≢true (sym t))
+
+fields-range : (fields : List ℕ) → noForm fields ≡ false → unusedNotZero fields ≡ false → usedOutOfRange fields ≡ false → Ranges (orderOf fields)
+unfolding noForm unusedNotZero usedOutOfRange orderOf places least most used
+fields-range fields nf u r = record {
+  debited = in-range (used f 4) 1 64 (getD fields 4 0) (none-at wide places 4 (omega arith) r);
+  credited = in-range (used f 6) 1 64 (getD fields 6 0) (none-at wide places 6 (omega arith) r);
+  no-debited-type = is-zero (used f 5) (getD fields 5 0) (none-at idle places 5 (omega arith) u);
+  no-credited-type = is-zero (used f 7) (getD fields 7 0) (none-at idle places 7 (omega arith) u);
+  form = in-range true 1 17 (getD fields 0 0) nf refl;
+  minute = in-range true 0 1439 (getD fields 1 0) (none-at wide places 1 (omega arith) r) refl .1;
+  security = λ t. in-range (used f 2) 1 _ (getD fields 2 0) (none-at wide places 2 (omega arith) r) t .0;
+  currency = in-range (used f 3) 1 2 (getD fields 3 0) (none-at wide places 3 (omega arith) r);
+  debited-holder = λ t. in-range (used f 8) 1 _ (getD fields 8 0) (none-at wide places 8 (omega arith) r) t .0;
+  credited-holder = λ t. in-range (used f 9) 1 _ (getD fields 9 0) (none-at wide places 9 (omega arith) r) t .0;
+  quantity = in-range (used f 10) 1 (most f 10) (getD fields 10 0) (none-at wide places 10 (omega arith) r);
+  amount = λ t. in-range (used f 11) 1 _ (getD fields 11 0) (none-at wide places 11 (omega arith) r) t .0;
+  «trade_day» = λ t. in-range (used f 12) 1 _ (getD fields 12 0) (none-at wide places 12 (omega arith) r) t .0;
+  «settlement_day» = λ t. in-range (used f 13) 1 _ (getD fields 13 0) (none-at wide places 13 (omega arith) r) t .0;
+  reference = λ t. in-range (used f 14) 1 _ (getD fields 14 0) (none-at wide places 14 (omega arith) r) t .0;
+}
+  where
+    f : ℕ
+    f = getD fields 0 0
+
+    -- the tests 5 and 4, by place
+    wide : ℕ → Bool
+    wide place = used f place && not (within (least place) (most f place) (getD fields place 0))
+
+    idle : ℕ → Bool
+    idle place = not (used f place) && getD fields place 0 isNot 0
+
+read-passes : (bytes : List ℕ) (o : Order) → readOf bytes ≡ Read.Order o → readRefusal bytes ≡ 0
+unfolding readOf
+read-passes bytes o e = go (readRefusal bytes is 0) refl e
+  where
+    go :
+        (t : Bool) → (readRefusal bytes is 0) ≡ t → (if readRefusal bytes is 0 then Read.Order (orderOf (fieldsIn bytes)) else Read.Refused (readRefusal bytes)) ≡ Read.Order o
+        → readRefusal bytes ≡ 0
+    go true p q = eqb-true _ 0 p
+    go false p q = let z : Read.Refused (readRefusal bytes) ≡ Read.Order o = simp p at q in cc
+
+-- where no test refuses a record's fields
+pub record Passed (fields : List ℕ) : Type 0 where
+  pub form : noForm fields ≡ false
+  pub unused : unusedNotZero fields ≡ false
+  pub ranges : usedOutOfRange fields ≡ false
+
+pub read-tests : (bytes : List ℕ) (o : Order) → readOf bytes ≡ Read.Order o → (length bytes ≡ 40) × Passed (fieldsIn bytes)
+unfolding readRefusal
+read-tests bytes o e =
+    let fields = fieldsIn bytes in
+    let n = none-applies ((2, length bytes isNot 40) ∷ (3, noForm fields) ∷ (4, unusedNotZero fields) ∷ (5, usedOutOfRange fields) ∷ []) (omega arith) (read-passes bytes o e) in
+    (eqb-true (length bytes) 40 (not-false _ (n .0)), record { form = n .1 .0; unused = n .1 .1 .0; ranges = n .1 .1 .1 .0 })
+
+pub read-ranges : (bytes : List ℕ) (o : Order) → readOf bytes ≡ Read.Order o → Ranges o
+read-ranges bytes o e = let p = read-tests bytes o e .1 in subst Ranges (read-is bytes o e) (fields-range (fieldsIn bytes) (p .form) (p .unused) (p .ranges))
+
+-- ---- an order that no test refuses
+
+-- an accepted order passes each of the tests 6 to 18
+passed : (b : Ledger) (o : Order) → first (refusals b o) ≡ 0 → NoneApplies (refusals b o)
+unfolding refusals
+passed b o e = none-applies (refusals b o) (omega arith) e
+
+-- what is known of an order that was read and accepted
+pub record Accepted (b : Ledger) (o : Order) : Type 0 where
+  pub fits : OrderFits o
+  pub ranges : Ranges o
+  pub right-day : wrongDay b.day o ≡ false
+  pub cycle : wrongCycle b.day o ≡ false
+  pub back : goesBack b.day o ≡ false
+  pub window : outsideWindow b.day o ≡ false
+  pub security : wrongSecurity b.holdings o ≡ false
+  pub types : wrongPair o ≡ false
+  pub parties : wrongParties o ≡ false
+  pub days : wrongDays b.day.number o ≡ false
+  pub reference : wrongReference b.waiting o ≡ false
+  pub cancel : wrongCancel b.waiting o ≡ false
+  pub little : tooLittle b.holdings o ≡ false
+  pub ceiling : overCeiling b.holdings o ≡ false
+  pub space : noSpace b o ≡ false
+
+pub accepted : (b : Ledger) (o : Order) (bytes : List ℕ) → readOf bytes ≡ Read.Order o → first (refusals b o) ≡ 0 → Accepted b o
+unfolding refusals
+accepted b o bytes e z =
+    let p = passed b o z in
+    record {
+      fits = read-fits bytes o e;
+      ranges = read-ranges bytes o e;
+      right-day = p .0;
+      cycle = p .1 .0;
+      back = p .1 .1 .0;
+      window = p .1 .1 .1 .0;
+      security = p .1 .1 .1 .1 .0;
+      types = p .1 .1 .1 .1 .1 .0;
+      parties = p .1 .1 .1 .1 .1 .1 .0;
+      days = p .1 .1 .1 .1 .1 .1 .1 .0;
+      reference = p .1 .1 .1 .1 .1 .1 .1 .1 .0;
+      cancel = p .1 .1 .1 .1 .1 .1 .1 .1 .1 .0;
+      little = p .1 .1 .1 .1 .1 .1 .1 .1 .1 .1 .0;
+      ceiling = p .1 .1 .1 .1 .1 .1 .1 .1 .1 .1 .1 .0;
+      space = p .1 .1 .1 .1 .1 .1 .1 .1 .1 .1 .1 .1 .0;
+    }
+
+-- the fields that a form uses
+pub uses : (form place : ℕ) (o : Order) → o.form ≡ form → (t : Bool) → used form place ≡ t → used o.form place ≡ t
+uses form place o e t u = subst (λ (k : ℕ). used k place ≡ t) (sym e) u
+
+-- ---- what each test says, by form
+
+module _ (b : Ledger) (o : Order) where
+  -- 6
+  pub is-open : (n : ℕ) → o.form ≡ n → (n is 1) ≡ false → wrongDay b.day o ≡ false → b.day.opened ≡ true
+  unfolding wrongDay
+  is-open n e t w = not-false _ (simp (e, t) at w)
+
+  pub opens-next : o.form ≡ 1 → wrongDay b.day o ≡ false → (b.day.opened ≡ false) × ((b.day.number is 60_000) ≡ false)
+  unfolding wrongDay
+  opens-next e w = go (b.day.opened) (b.day.number is 60_000) (simp e at w)
+    where
+      go : (x y : Bool) → (x || y) ≡ false → (x ≡ false) × (y ≡ false)
+      go true y p = absurd (false≢true (sym p))
+      go false y p = (refl, p)
+
+  -- 7
+  pub cycles-left : o.form ≡ 16 → wrongCycle b.day o ≡ false → b.day.cycles < length (cycleMinutes b.day.kind)
+  unfolding wrongCycle
+  cycles-left e w = leb-false _ _ (go (length (cycleMinutes b.day.kind) atMost b.day.cycles) (simp e at w))
+    where
+      go : (x : Bool) → (x || false) ≡ false → x ≡ false
+      go true p = p
+      go false p = refl
+
+  -- 9
+  pub in-window : outsideWindow b.day o ≡ false → o.minute ≤ windowOf b.day o .1
+  unfolding outsideWindow
+  in-window w = in-range true (windowOf b.day o .0) (windowOf b.day o .1) o.minute w refl .1
+
+  first-not : (x y : Bool) → (not x || false || y || false) ≡ false → (x ≡ true) × (y ≡ false)
+  first-not true true p = absurd (false≢true (sym p))
+  first-not true false p = (refl, refl)
+  first-not false y p = absurd (false≢true (sym p))
+
+  -- 12, 13 and 14 of forms 12 and 13
+
+  pub instruct-parties :
+      (n : ℕ) → o.form ≡ n → within 5 9 n ≡ false → within 12 13 n ≡ true → within 6 9 n ≡ false → (n oneOf (5 ∷ 14 ∷ [])) ≡ false → wrongParties o ≡ false
+      → (o.debited.shareholder ≡ o.credited.shareholder) × ((o.debited.member is o.credited.member) ≡ false)
+  unfolding wrongParties
+  instruct-parties n e t₁ t₂ t₃ t₄ w =
+      let p = first-not (o.debited.shareholder is o.credited.shareholder) (o.debited.member is o.credited.member) (simp (e, t₁, t₂, t₃, t₄) at w) in
+      (eqb-true _ _ (p .0), p .1)
+
+  pub instruct-days :
+      (n : ℕ) → o.form ≡ n → within 5 9 n ≡ false → within 12 13 n ≡ true → (n is 14) ≡ false → wrongDays b.day.number o ≡ false
+      → (b.day.number ≤ o.«settlement_day») × (o.«settlement_day» ≤ b.day.number + 20) × (o.«trade_day» ≤ b.day.number)
+  unfolding wrongDays
+  instruct-days n e t₁ t₂ t₃ w =
+      let p = first-not (within b.day.number (b.day.number + 20) o.«settlement_day») (b.day.number below o.«trade_day») (simp (e, t₁, t₂, t₃) at w) in
+      let q = in-range true b.day.number (b.day.number + 20) o.«settlement_day» (ap not (p .0)) refl in
+      (q .0, q .1, ltb-false _ _ (p .1))
+
+  pub none-waits : (n : ℕ) → o.form ≡ n → within 12 14 n ≡ true → (n is 15) ≡ false → wrongReference b.waiting o ≡ false → some (sentBy (senderOf o) o.reference) b.waiting ≡ false
+  unfolding wrongReference
+  none-waits n e t₁ t₂ w = go (some (sentBy (senderOf o) o.reference) b.waiting) (simp (e, t₁, t₂) at w)
+    where
+      go : (x : Bool) → (x || false) ≡ false → x ≡ false
+      go true p = p
+      go false p = refl
+
+  -- 12 and 13 of form 14
+
+  pub trade-parties : o.form ≡ 14 → wrongParties o ≡ false → sameAccount (accountOf o.security o.debited) (accountOf o.security o.credited) ≡ false
+  unfolding wrongParties
+  trade-parties e w = simp e at w
+
+  pub trade-days : o.form ≡ 14 → wrongDays b.day.number o ≡ false → (o.«settlement_day» ≡ o.«trade_day» + 3) × (o.«trade_day» ≡ b.day.number)
+  unfolding wrongDays
+  trade-days e w =
+      let p = go (o.«settlement_day» is (o.«trade_day» + 3)) (o.«trade_day» is b.day.number) (simp e at w) in
+      (eqb-true _ _ (p .0), eqb-true _ _ (p .1))
+    where
+      go : (x y : Bool) → (not x || false || not y) ≡ false → (x ≡ true) × (y ≡ true)
+      go true true p = (refl, refl)
+      go true false p = absurd (false≢true (sym p))
+      go false y p = absurd (false≢true (sym p))
+
+-- 10
+pub is-admitted :
+    (n : ℕ) (b : Ledger) (o : Order) → o.form ≡ n → (within 3 9 n || within 12 14 n) ≡ true → (n is 2) ≡ false → wrongSecurity b.holdings o ≡ false
+    → some (λ x. x.code is o.security) b.holdings.securities ≡ true
+unfolding wrongSecurity admitted
+is-admitted n b o e t t₂ w = go (some (λ x. x.code is o.security) b.holdings.securities) (simp (e, t, t₂) at w)
+  where
+    go : (x : Bool) → (not x || false) ≡ false → x ≡ true
+    go true p = refl
+    go false p = cc
+
+pub not-admitted : (b : Ledger) (o : Order) → o.form ≡ 2 → wrongSecurity b.holdings o ≡ false → some (λ x. x.code is o.security) b.holdings.securities ≡ false
+unfolding wrongSecurity admitted
+not-admitted b o e w = simp e at w
+
+-- 11 and 16
+none-of : (x y z : Bool) → (x || y || z) ≡ false → (x ≡ false) × (y ≡ false) × (z ≡ false)
+none-of true y z e = (cc, cc, cc)
+none-of false true z e = (refl, cc, cc)
+none-of false false z e = (refl, refl, e)
+
+-- test 16, its three parts
+pub little-parts :
+    (b : Ledger) (o : Order) → tooLittle b.holdings o ≡ false
+    → ((o.form is 3 && outsideOf o.security b.holdings below o.quantity.0) ≡ false)
+    × ((within 4 9 o.form && b.holdings.balance (accountOf o.security o.debited) below o.quantity.0) ≡ false)
+    × ((o.form is 11 && b.holdings.cash o.debited.member o.currency below o.amount.0) ≡ false)
+unfolding tooLittle
+little-parts b o e =
+    none-of (o.form is 3 && outsideOf o.security b.holdings below o.quantity.0)
+    (within 4 9 o.form && b.holdings.balance (accountOf o.security o.debited) below o.quantity.0)
+    (o.form is 11 && b.holdings.cash o.debited.member o.currency below o.amount.0)
+    e
+
+pub debit-enough : (b : Ledger) (o : Order) → tooLittle b.holdings o ≡ false → within 4 9 o.form ≡ true → o.quantity.0 ≤ b.holdings.balance (accountOf o.security o.debited)
+debit-enough b o e w = ltb-false _ _ (simp w at (little-parts b o e .1))
+
+pub right-types : (n : ℕ) (b : Ledger) (o : Order) → o.form ≡ n → wrongPair o ≡ false → wrongTypes n o.debited.typ o.credited.typ ≡ false
+unfolding wrongPair
+right-types n b o e w = subst (λ (k : ℕ). wrongTypes k o.debited.typ o.credited.typ ≡ false) e w

@@ -1,0 +1,254 @@
+-- Refusal 18 as a test on the book before the call, for the forms that can lack space. Assumes nothing.
+use mathlib.Core.Path.{_≡_, refl, sym, ap, _∙_}
+use mathlib.Core.Bool.{Bool, true, false, not, _&&_, _||_, false≢true, and-true, and-false}
+use mathlib.Core.List.{List, [], _∷_, _++_}
+use Prim.Native.Nat.{ℕ, zero, suc, _+_, _-_, _≤_, _<_}
+use native.Mathlib.Omega.{arith}
+use borrow.Author.Tests.{ltb-true, ltb-false, lt-ltb, le-ltb, ne-eqb, eqb-true, eqb-false}
+use lib.ListN.{length, getD, length-append}
+use Rattle.rulebook.specs.declared.Item.{Item}
+use Rattle.rulebook.specs.declared.Order.{Order}
+use Rattle.rulebook.specs.declared.Security.{Security}
+use Rattle.rulebook.specs.declared.State.the-variants.{Single, Trade}
+use Rattle.rulebook.specs.Lists.{if_then_else_, _is_, _isNot_, _below_, _oneOf_, some}
+use Rattle.rulebook.specs.Ledger.{Ledger, accountOf, sameAccount, counted, putBalance, putSecurities, putOutside, putHoldings, putWaiting}
+use Rattle.rulebook.specs.declared.Account.{Account}
+use Rattle.rulebook.specs.Movements.{account, type91, type90, move, credit, debit, credits, debits, booked}
+use Rattle.rulebook.specs.Waiting.{itemOf}
+use Rattle.rulebook.specs.Matching.{tolerance, pairsWith, arrive}
+use Rattle.rulebook.specs.Forms.{Outcome, outcome, moving, silent, admit, deposit, transfer, instruct, trade, forms, effect}
+use Rattle.rulebook.specs.Refusals.{noSpace, wrongPair, wrongParties}
+use Rattle.rulebook.specs.Premise.{Sizes}
+use Rattle.rulebook.proofs.Held.{put-other}
+use Rattle.rulebook.proofs.Places.{is-sym}
+use Rattle.rulebook.proofs.Types.{put-in-apart, pledge-types, release-types, block-types, unblock-types}
+use Rattle.rulebook.proofs.Orders.{right-types}
+use Rattle.rulebook.proofs.Sizes.{booked-listed}
+
+-- the test, on the counts that a book would have
+abbrev full : (securities items accounts : ℕ) → Bool
+full s i a = 32 below s || 64 below i || 256 below (a + i)
+
+space-is :
+    (n : ℕ) (b : Ledger) (o : Order) → o.form ≡ n → (after : Ledger) → getD forms (n - 1) (λ b o. silent b) b o .after ≡ after → (s i a : ℕ) → length after.holdings.securities ≡ s
+    → length after.waiting ≡ i → after.holdings.accounts ≡ a → noSpace b o ≡ full s i a
+unfolding noSpace effect
+space-is n b o e after f s i a p q r = simp e (rw f (rw (p, q, r)))
+
+-- two comparisons that are the same
+below-same : (a b c d : ℕ) → (a < b → c < d) → (c < d → a < b) → (a below b) ≡ (c below d)
+below-same a b c d f g = go (a below b) refl
+  where
+    go : (t : Bool) → (a below b) ≡ t → (a below b) ≡ (c below d)
+    go true p = p ∙ sym (lt-ltb c d (f (ltb-true a b p)))
+    go false p = p ∙ sym (le-ltb c d (not-less (c below d) refl))
+      where
+        not-less : (u : Bool) → (c below d) ≡ u → d ≤ c
+        not-less true q = let l = g (ltb-true c d q) in let m = ltb-false a b p in absurd (omega arith)
+        not-less false q = ltb-false c d q
+
+counted-some : (n : ℕ) → 1 ≤ n → counted n ≡ 1
+unfolding counted
+counted-some n l = simp (ne-eqb n 0 (λ p. omega arith))
+
+counted-none : counted 0 ≡ 0
+unfolding counted
+counted-none = refl
+
+module _ (b : Ledger) (o : Order) (z : Sizes b) where
+  abbrev securities : ℕ
+  securities = length b.holdings.securities
+
+  abbrev items : ℕ
+  items = length b.waiting
+
+  abbrev accounts : ℕ
+  accounts = b.holdings.accounts
+
+  -- 2. a security more
+  pub admit-space : o.form ≡ 2 → noSpace b o ≡ (31 below securities)
+  unfolding forms admit moving outcome putHoldings
+  admit-space e =
+      let new : Security = record { code = o.security; issued = o.quantity; outside = record { 0 = 0 } } in
+      let h = putSecurities (b.holdings.securities ++ (new ∷ [])) b.holdings in
+      let ms = move (type90 o.security) (type91 o.security) o.quantity.0 ∷ [] in
+      let l : length (booked ms h .securities) ≡ securities + 1 = booked-listed ms h ∙ (unfold putSecurities in length-append b.holdings.securities (new ∷ [])) in
+      let a : booked ms h .accounts ≡ accounts = unfold booked credits debits credit debit putOutside putSecurities in refl in
+      let s = space-is 2 b o e (putHoldings (booked ms h) b) refl (securities + 1) items accounts l refl a in
+      s ∙ simp (le-ltb 64 items z.items, le-ltb 256 (accounts + items) z.accounts) (or-no (32 below (securities + 1)) ∙ below-same 32 (securities + 1) 31 securities (λ l. omega arith) (λ l. omega arith))
+    where
+      or-no : (x : Bool) → (x || false || false) ≡ x
+      or-no true = refl
+      or-no false = refl
+
+  -- 14. an item more
+  pub trade-space : o.form ≡ 14 → noSpace b o ≡ (63 below items || 255 below (accounts + items))
+  unfolding forms trade silent outcome putWaiting
+  trade-space e =
+      let new = itemOf (Trade o.reference) o in
+      let l : length (b.waiting ++ (new ∷ [])) ≡ items + 1 = length-append b.waiting (new ∷ []) in
+      let s = space-is 14 b o e (putWaiting (b.waiting ++ (new ∷ [])) b) refl securities (items + 1) accounts refl l refl in
+      s ∙ simp (le-ltb 32 securities z.securities, below-same 64 (items + 1) 63 items (λ l. omega arith) (λ l. omega arith), below-same 256 (accounts + (items + 1)) 255 (accounts + items) (λ l. omega arith) (λ l. omega arith))
+
+  -- 12 and 13. an item more, where none pairs with it
+
+  arrive-length : (limit : ℕ) (new : Item) (ws : List Item) → length (arrive limit new ws) ≡ length ws + (if some (pairsWith limit new) ws then 0 else 1)
+  unfolding arrive
+  arrive-length limit new [] = refl
+  arrive-length limit new (w ∷ rest) = go (pairsWith limit new w) refl (arrive-length limit new rest)
+    where
+      go :
+          (t : Bool) → pairsWith limit new w ≡ t → length (arrive limit new rest) ≡ length rest + (if some (pairsWith limit new) rest then 0 else 1)
+          → length (arrive limit new (w ∷ rest)) ≡ length (w ∷ rest) + (if some (pairsWith limit new) (w ∷ rest) then 0 else 1)
+      go true p ih = simp (p, length-append) (omega arith)
+      go false p ih = simp p (omega (arith, ih))
+
+  abbrev arriving : Item
+  arriving = itemOf (Single (o.form is 12) o.reference) o
+
+  pub instruct-space :
+      (o.form oneOf (12 ∷ 13 ∷ [])) ≡ true
+      → noSpace b o ≡ (not (some (pairsWith (tolerance o.currency) arriving) b.waiting) && (63 below items || 255 below (accounts + items)))
+  unfolding forms instruct silent outcome putWaiting
+  instruct-space t = go (o.form is 12) refl t
+    where
+      limit : ℕ
+      limit = tolerance o.currency
+
+      matched : Bool
+      matched = some (pairsWith limit arriving) b.waiting
+
+      by : (m : Bool) → full securities (items + (if m then 0 else 1)) accounts ≡ (not m && (63 below items || 255 below (accounts + items)))
+      by true =
+          let p : items + 0 ≡ items = omega arith in
+          rw p (simp (le-ltb 32 securities z.securities, le-ltb 64 items z.items, le-ltb 256 (accounts + items) z.accounts))
+      by false =
+          simp (le-ltb 32 securities z.securities, below-same 64 (items + 1) 63 items (λ l. omega arith) (λ l. omega arith), below-same 256 (accounts + (items + 1)) 255 (accounts + items) (λ l. omega arith) (λ l. omega arith))
+
+      at : (n : ℕ) → o.form ≡ n → getD forms (n - 1) (λ b o. silent b) b o .after ≡ putWaiting (arrive limit arriving b.waiting) b
+          → noSpace b o ≡ (not matched && (63 below items || 255 below (accounts + items)))
+      at n e f =
+          space-is n b o e (putWaiting (arrive limit arriving b.waiting) b) f securities (items + (if matched then 0 else 1)) accounts refl (arrive-length limit arriving b.waiting) refl
+          ∙ by matched
+
+      go : (x : Bool) → (o.form is 12) ≡ x → (o.form is 12 || (o.form is 13 || false)) ≡ true → noSpace b o ≡ (not matched && (63 below items || 255 below (accounts + items)))
+      go true p q = at 12 (eqb-true o.form 12 p) refl
+      go false p q = at 13 (eqb-true o.form 13 (last (o.form is 13) (simp p at q))) refl
+        where
+          last : (y : Bool) → (y || false) ≡ true → y ≡ true
+          last true r = refl
+          last false r = absurd (false≢true r)
+
+  -- 3. an account more, where the credited one has no balance
+
+  abbrev from : Account
+  from = accountOf o.security o.debited
+
+  abbrev to : Account
+  to = accountOf o.security o.credited
+
+  abbrev has : Account → ℕ
+  has a = b.holdings.balance a
+
+  opens-by : (t : Bool) → (has to is 0) ≡ t → full securities items (accounts + 1 - counted (has to)) ≡ (t && 255 below (accounts + items))
+  opens-by true p =
+      let c : counted (has to) ≡ 0 = ap counted (eqb-true (has to) 0 p) ∙ counted-none in
+      let q : accounts + 1 - counted (has to) ≡ accounts + 1 = omega (arith, c) in
+      rw q (simp (le-ltb 32 securities z.securities, le-ltb 64 items z.items, below-same 256 (accounts + 1 + items) 255 (accounts + items) (λ l. omega arith) (λ l. omega arith)))
+  opens-by false p =
+      let n = eqb-false (has to) 0 p in
+      let c = counted-some (has to) (omega (arith, n)) in
+      let q : accounts + 1 - counted (has to) ≡ accounts = omega (arith, c) in
+      rw q (simp (le-ltb 32 securities z.securities, le-ltb 64 items z.items, le-ltb 256 (accounts + items) z.accounts))
+
+  pub deposit-space : o.form ≡ 3 → 1 ≤ o.quantity.0 → noSpace b o ≡ (has to is 0 && 255 below (accounts + items))
+  unfolding forms deposit moving outcome putHoldings
+  deposit-space e l =
+      let ms = move (type91 o.security) (account to) o.quantity.0 ∷ [] in
+      let a : booked ms b.holdings .accounts ≡ accounts + counted (has to + o.quantity.0) - counted (has to) =
+      unfold booked credits debits credit debit putOutside putSecurities putBalance in refl
+      in
+      let c = counted-some (has to + o.quantity.0) (omega arith) in
+      space-is 3 b o e (putHoldings (booked ms b.holdings) b) refl securities items (accounts + 1 - counted (has to)) (booked-listed ms b.holdings) refl (a ∙ ap (λ (k : ℕ). accounts + k - counted (has to)) c)
+      ∙ opens-by (has to is 0) refl
+
+  -- 5 to 9. the same, where the debited one keeps a balance
+
+  shift-by :
+      (t : Bool) → (has from is o.quantity.0) ≡ t → o.quantity.0 ≤ has from
+      → full securities items (accounts + 1 - counted (has to) + counted (has from - o.quantity.0) - 1) ≡ (has to is 0 && not t && 255 below (accounts + items))
+  shift-by true p l =
+      let m = eqb-true (has from) o.quantity.0 p in
+      let d : has from - o.quantity.0 ≡ 0 = omega (arith, m) in
+      let c : counted (has from - o.quantity.0) ≡ 0 = ap counted d ∙ counted-none in
+      let k : accounts + 1 - counted (has to) + counted (has from - o.quantity.0) - 1 ≤ accounts = omega (arith, c) in
+      simp (le-ltb 32 securities z.securities, le-ltb 64 items z.items, le-ltb 256 (accounts + 1 - counted (has to) + counted (has from - o.quantity.0) - 1 + items) (omega (arith, k, z.accounts)), and-false)
+  shift-by false p l =
+      let m = eqb-false (has from) o.quantity.0 p in
+      let c = counted-some (has from - o.quantity.0) (omega (arith, m)) in
+      let k : accounts + 1 - counted (has to) + counted (has from - o.quantity.0) - 1 ≡ accounts + 1 - counted (has to) = omega (arith, c) in
+      rw k (simp and-true (opens-by (has to is 0) refl))
+
+  shift-form : (k : ℕ) → k ≤ 4 → getD forms (5 + k - 1) (λ b o. silent b) b o ≡ transfer b o
+  unfolding forms
+  shift-form zero l = refl
+  shift-form (suc zero) l = refl
+  shift-form (suc (suc zero)) l = refl
+  shift-form (suc (suc (suc zero))) l = refl
+  shift-form (suc (suc (suc (suc zero)))) l = refl
+  shift-form (suc (suc (suc (suc (suc k))))) l = absurd (omega arith)
+
+  pub transfer-space :
+      5 ≤ o.form → o.form ≤ 9 → 1 ≤ o.quantity.0 → o.quantity.0 ≤ has from → sameAccount to from ≡ false
+      → noSpace b o ≡ (has to is 0 && has from isNot o.quantity.0 && 255 below (accounts + items))
+  unfolding transfer moving outcome putHoldings
+  transfer-space l u q e d =
+      let ms = move (account from) (account to) o.quantity.0 ∷ [] in
+      let h = putBalance to (has to + o.quantity.0) b.holdings in
+      let f : h .balance from ≡ has from = put-other b.holdings to (has to + o.quantity.0) from d in
+      let g : h .accounts ≡ accounts + counted (has to + o.quantity.0) - counted (has to) = unfold putBalance in refl in
+      let a : booked ms b.holdings .accounts ≡ h .accounts + counted (h .balance from - o.quantity.0) - counted (h .balance from) =
+      unfold booked credits debits credit debit putBalance in refl
+      in
+      let c = counted-some (has to + o.quantity.0) (omega arith) in
+      let c₂ = counted-some (has from) (omega arith) in
+      let r : booked ms b.holdings .accounts ≡ accounts + 1 - counted (has to) + counted (has from - o.quantity.0) - 1 =
+      omega (arith, a, g, c, c₂, ap (λ (x : ℕ). counted (x - o.quantity.0)) f, ap counted f)
+      in
+      let n : 5 + (o.form - 5) ≡ o.form = omega arith in
+      space-is (5 + (o.form - 5)) b o (sym n) (putHoldings (booked ms b.holdings) b)
+      (ap (λ (x : Outcome). x .after) (shift-form (o.form - 5) (omega arith))) securities items _ (booked-listed ms b.holdings) refl r
+      ∙ shift-by (has from is o.quantity.0) refl e
+
+-- ---- the two accounts of an accepted form 5 to 9 differ
+
+same-sym : (a b : Account) → sameAccount a b ≡ sameAccount b a
+unfolding sameAccount
+same-sym a b = simp (is-sym a.security b.security, is-sym a.member b.member, is-sym a.typ b.typ, is-sym a.shareholder b.shareholder)
+
+types-apart : (a b : Account) → (a.typ is b.typ) ≡ false → sameAccount a b ≡ false
+unfolding sameAccount
+types-apart a b e = simp (e, and-false)
+
+module _ (b : Ledger) (o : Order) where
+  abbrev debited : Account
+  debited = accountOf o.security o.debited
+
+  abbrev credited : Account
+  credited = accountOf o.security o.credited
+
+  shift-apart : (k : ℕ) → k ≤ 4 → o.form ≡ 5 + k → wrongPair o ≡ false → wrongParties o ≡ false → sameAccount credited debited ≡ false
+  unfolding accountOf wrongParties
+  shift-apart zero l e t w = same-sym credited debited ∙ go (o.debited.shareholder isNot o.credited.shareholder) (sameAccount debited credited) (simp e at w)
+    where
+      go : (x y : Bool) → (x || false || false || y) ≡ false → y ≡ false
+      go true y p = absurd (false≢true (sym p))
+      go false y p = p
+  shift-apart (suc zero) l e t w = types-apart credited debited (is-sym o.credited.typ o.debited.typ ∙ put-in-apart o.debited.typ o.credited.typ (pledge-types o.debited.typ o.credited.typ (right-types 6 b o e t)))
+  shift-apart (suc (suc zero)) l e t w = types-apart credited debited (put-in-apart o.credited.typ o.debited.typ (release-types o.debited.typ o.credited.typ (right-types 7 b o e t)))
+  shift-apart (suc (suc (suc zero))) l e t w = types-apart credited debited (is-sym o.credited.typ o.debited.typ ∙ put-in-apart o.debited.typ o.credited.typ (block-types o.debited.typ o.credited.typ (right-types 8 b o e t)))
+  shift-apart (suc (suc (suc (suc zero)))) l e t w = types-apart credited debited (put-in-apart o.credited.typ o.debited.typ (unblock-types o.debited.typ o.credited.typ (right-types 9 b o e t)))
+  shift-apart (suc (suc (suc (suc (suc k))))) l e t w = absurd (omega arith)
+
+  pub sides-apart : 5 ≤ o.form → o.form ≤ 9 → wrongPair o ≡ false → wrongParties o ≡ false → sameAccount credited debited ≡ false
+  sides-apart l u = shift-apart (o.form - 5) (omega arith) (omega arith)

@@ -1,0 +1,93 @@
+-- Every form makes a step: movements that its order says, that its rows show, and that nothing cuts off. Assumes nothing.
+-- what a step is; the forms that make one movement; the cycle
+pub mod OneCall
+pub mod Moving
+pub mod Settling
+use mathlib.Core.Path.{_≡_, refl, ap, sym}
+use mathlib.Core.Bool.{Bool, true, false, false≢true}
+use mathlib.Core.List.{List, [], _∷_}
+use Prim.Native.Nat.{ℕ, _+_}
+use native.Mathlib.Omega.{arith}
+use lib.ListN.{length}
+use Rattle.rulebook.specs.declared.Order.{Order}
+use Rattle.rulebook.specs.declared.Read.{Read}
+use Rattle.rulebook.specs.Lists.{_is_, _oneOf_, first}
+use Rattle.rulebook.specs.Record.{readOf}
+use Rattle.rulebook.specs.Ledger.{Ledger, Holdings, putDay, putWaiting, putSecurities}
+use Rattle.rulebook.specs.Movements.{booked, credits, debits}
+use Rattle.rulebook.specs.Rows.{postingRows}
+use Rattle.rulebook.specs.Forms.{Outcome, outcome, counts, silent, openDay, instruct, trade, cancel, close, forms, effect}
+use Rattle.rulebook.specs.Refusals.{refusals}
+use Rattle.rulebook.specs.Calls.{kept}
+use Rattle.rulebook.specs.Premise.{Each, Premise}
+use Rattle.rulebook.proofs.Lists.{_and_}
+use Rattle.rulebook.proofs.ByCall.{AllForms, by-form}
+use Rattle.rulebook.proofs.Orders.{accepted}
+use Rattle.rulebook.proofs.Steps.OneCall.{writesAt, Figures, admits-none, Step, Steps}
+use Rattle.rulebook.proofs.Steps.Moving.{admit-steps, deposit-steps, withdraw-steps, transfer-steps, pledge-steps, release-steps, block-steps, unblock-steps, payIn-steps, payOut-steps}
+use Rattle.rulebook.proofs.Steps.Settling.{cycle-steps}
+
+-- ---- a form that moves nothing: 1, 12 to 15 and 17
+
+each-off : (n : ℕ) (ks : List ℕ) → (n oneOf ks) ≡ false → Each (λ k. (n is k) ≡ false) ks
+each-off n [] e = tt
+each-off n (k ∷ rest) e = go (n is k) refl (each-off n rest)
+  where
+    go : (t : Bool) → (n is k) ≡ t → ((n oneOf rest) ≡ false → Each (λ k. (n is k) ≡ false) rest) → Each (λ k. (n is k) ≡ false) (k ∷ rest)
+    go true p later = absurd (false≢true (sym (simp p at e)))
+    go false p later = (p, later (simp p at e))
+
+-- the forms that move shares or cash of their own
+abbrev movers : List ℕ
+movers = 2 ∷ 3 ∷ 4 ∷ 6 ∷ 7 ∷ 8 ∷ 9 ∷ 10 ∷ 11 ∷ []
+
+no-figures : (n : ℕ) (o : Order) → (n oneOf movers) ≡ false → Figures n o []
+no-figures n o e =
+    let t = each-off n movers e in
+    record {
+      held = λ s. simp (t .1 .0, t .1 .1 .0);
+      outside = λ s. simp (t .0, t .1 .0, t .1 .1 .0);
+      cash = λ c. simp (t .1 .1 .1 .1 .1 .1 .1 .0, t .1 .1 .1 .1 .1 .1 .1 .1 .0);
+      pledged = λ a q. (simp (t .1 .1 .1 .1 .0, t .1 .1 .1 .1 .1 .1 .0), simp (t .1 .1 .1 .0, t .1 .1 .1 .1 .1 .0));
+    }
+
+still :
+    (n : ℕ) (b : Ledger) (o : Order) (x : Outcome) → Premise b → (n oneOf movers) ≡ false → x.after.holdings ≡ b.holdings → (writesAt n ≡ 1 → x.rows ≡ [])
+    → x.counts.rows ≡ length x.rows → Step n b o x
+unfolding postingRows booked credits debits putSecurities
+still n b o x p t e r l = record {
+  listed = b.holdings.securities;
+  admits = unfold putSecurities in admits-none n o b.holdings (each-off n movers t .0) p.codes;
+  moves = [];
+  holds = e;
+  changes = λ p. ap (λ (h : Holdings). kept p h + 0) e;
+  proper = tt;
+  rows = r;
+  notices = λ _. refl;
+  counted = l;
+  figures = no-figures n o t;
+}
+
+-- ---- all seventeen
+
+all-steps : AllForms Steps 1 forms
+unfolding forms openDay instruct trade cancel close silent outcome counts putDay putWaiting
+all-steps =
+    (λ b o e p a. still 1 b o (openDay b o) p refl refl (λ _. refl) refl)
+    and admit-steps and deposit-steps and withdraw-steps and transfer-steps and pledge-steps and release-steps and block-steps and unblock-steps
+    and payIn-steps and payOut-steps
+    and (λ b o e p a. still 12 b o (instruct b o) p refl refl (λ _. refl) refl)
+    and (λ b o e p a. still 13 b o (instruct b o) p refl refl (λ _. refl) refl)
+    and (λ b o e p a. still 14 b o (trade b o) p refl refl (λ _. refl) refl)
+    -- the rows of 15 and 17 are notices
+    and (λ b o e p a. still 15 b o (cancel b o) p refl refl (λ z. absurd (omega (arith, z))) refl)
+    and cycle-steps
+    and (λ b o e p a. still 17 b o (close b o) p refl refl (λ z. absurd (omega (arith, z))) refl)
+    and tt
+
+-- an order that was read and that no test refuses makes a step; no order that was read has another form
+pub order-step : (b : Ledger) (o : Order) (bytes : List ℕ) → Premise b → readOf bytes ≡ Read.Order o → first (refusals b o) ≡ 0 → Step o.form b o (effect b o)
+unfolding effect
+order-step b o bytes p e z =
+    let a = accepted b o bytes e z in
+    by-form Steps all-steps (λ m l b o e p a. absurd (omega (arith, a.ranges.form .1))) (λ b o e p a. absurd (omega (arith, a.ranges.form .0))) o.form b o refl p a

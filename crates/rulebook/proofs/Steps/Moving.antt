@@ -1,0 +1,224 @@
+-- Forms 2 to 11: each makes one movement. Assumes nothing.
+use mathlib.Core.Path.{_≡_, refl, sym, ap, _∙_}
+use mathlib.Core.Bool.{Bool, true, false, _||_, false≢true}
+use mathlib.Core.List.{List, [], _∷_, _++_}
+use Prim.Native.Nat.{ℕ, _+_, _<_, _^_}
+use native.Mathlib.Omega.{arith}
+use borrow.Author.Tests.{ltb-false, eq-eqb}
+use Rattle.rulebook.specs.declared.Party.{Party}
+use Rattle.rulebook.specs.declared.Order.{Order}
+use Rattle.rulebook.specs.declared.Security.{Security}
+use Rattle.rulebook.specs.Lists.{if_then_else_, _is_, within}
+use Rattle.rulebook.specs.AccountTypes.{pledgedOrBlocked, wrongTypes}
+use Rattle.rulebook.specs.Record.{usedFields, used}
+use Rattle.rulebook.specs.Ledger.{Ledger, Holdings, accountOf, sameAccount, outsideOf, putHoldings, putSecurities}
+use Rattle.rulebook.specs.declared.Account.{Account}
+use Rattle.rulebook.specs.Movements.{Place, account, type91, type90, cashOf, member0, move}
+use Rattle.rulebook.specs.Forms.{outcome, counts, moving, admit, deposit, withdraw, transfer, payIn, payOut}
+use Rattle.rulebook.specs.Refusals.{wrongSecurity}
+use Rattle.rulebook.specs.Calls.{kept}
+use Rattle.rulebook.specs.Premise.{Each, withCode, Premise}
+use Rattle.rulebook.proofs.Lists.{_and_, total-append}
+use Rattle.rulebook.proofs.Rounds.{same-eq}
+use Rattle.rulebook.proofs.Orders.{PartyFits, is-admitted, not-admitted, little-parts, debit-enough, right-types, uses}
+use Rattle.rulebook.proofs.Securities.{outs, known, unknown, new-count, new-issued}
+use Rattle.rulebook.proofs.Places.{brought, Known, Bears, booked-exact, one-enough}
+use Rattle.rulebook.proofs.Reading.{Proper}
+use Rattle.rulebook.proofs.Types.{Account·type, Quiet, PutIn, free-quiet, pledged-account, deposit-free, withdraw-free, transfer-free, pledge-types, release-types, block-types, unblock-types}
+use Rattle.rulebook.proofs.Steps.OneCall.{putInAt, releasedAt, writesAt, Figures, Admits, admits-none, Step, Steps}
+
+-- a form that makes one movement, after it admits a security or none
+moved :
+    (n : ℕ) (b : Ledger) (o : Order) (xs : List Security) (from to : Place) (k : ℕ) → Admits n o b.holdings xs → writesAt n ≡ 1 → Known (putSecurities xs b.holdings) from
+    → Known (putSecurities xs b.holdings) to → Bears (putSecurities xs b.holdings) from k → Proper from → Proper to → k < 2 ^ 40 → Figures n o (move from to k ∷ [])
+    → Step n b o (moving (move from to k ∷ []) (putHoldings (putSecurities xs b.holdings) b))
+unfolding moving outcome counts putHoldings
+moved n b o xs from to k a w kf kt l pf pt u f =
+    let ms = move from to k ∷ [] in
+    let h = putSecurities xs b.holdings in
+    record {
+      listed = xs;
+      admits = a;
+      moves = ms;
+      holds = refl;
+      changes = λ p. booked-exact ms h (kf, kt, tt) (one-enough h from to k l) p ∙ ap (λ (n : ℕ). n + brought p ms) (a .keeps p);
+      proper = (pf, pt, omega arith, tt);
+      rows = λ _. refl;
+      notices = λ z. absurd (omega (arith, z, w));
+      counted = refl;
+      figures = f;
+    }
+
+-- and none but form 2 admits one
+moves-one :
+    (n : ℕ) (b : Ledger) (o : Order) (from to : Place) (k : ℕ) → (n is 2) ≡ false → Premise b → writesAt n ≡ 1 → Known b.holdings from → Known b.holdings to
+    → Bears b.holdings from k → Proper from → Proper to → k < 2 ^ 40 → Figures n o (move from to k ∷ []) → Step n b o (moving (move from to k ∷ []) b)
+unfolding putHoldings putSecurities
+moves-one n b o from to k e p = moved n b o b.holdings.securities from to k (admits-none n o b.holdings e p.codes)
+
+one-code :
+    (n : ℕ) (b : Ledger) (o : Order) → o.form ≡ n → (within 3 9 n || within 12 14 n) ≡ true → (n is 2) ≡ false → Premise b → wrongSecurity b.holdings o ≡ false
+    → withCode o.security b.holdings.securities ≡ 1
+one-code n b o e t t₂ p w = omega (arith, known o.security b.holdings.securities (is-admitted n b o e t t₂ w), p.codes o.security)
+
+-- a party's account, as rows name it
+account-proper : (security : ℕ) (p : Party) → security < 2 ^ 14 → PartyFits p → Account·type p.typ → Proper (account (accountOf security p))
+unfolding accountOf
+account-proper security p s f t = (s, f.member, f.typ, f.shareholder, t)
+
+-- an account is not another whose type is of the other kind
+apart : (a b : Account) → pledgedOrBlocked a.typ ≡ true → pledgedOrBlocked b.typ ≡ false → sameAccount b a ≡ false
+apart a b p q = go (sameAccount b a) refl
+  where
+    go : (t : Bool) → sameAccount b a ≡ t → sameAccount b a ≡ false
+    go true e = absurd (false≢true (sym q ∙ ap (λ (x : Account). pledgedOrBlocked x.typ) (same-eq b a e) ∙ p))
+    go false e = e
+
+pub party-apart :
+    (security : ℕ) (p : Party) → Quiet p.typ → (k : ℕ) (a : Account) → pledgedOrBlocked a.typ ≡ true → (if sameAccount (accountOf security p) a then k else 0) ≡ 0
+party-apart security p t k a q = simp (apart a (accountOf security p) q (unfold accountOf in t .0))
+
+-- form 2: a security that is admitted changes nothing that is kept, as its outside count is still 0
+
+kept-new : (new : Security) → new.outside.0 ≡ 0 → (h : Holdings) (p : Place) → kept p (putSecurities (h.securities ++ (new ∷ [])) h) ≡ kept p h
+unfolding kept putSecurities outsideOf
+kept-new new z h (account a) = refl
+kept-new new z h (type91 s) = simp (total-append, z) (go (new.code is s) (outs s h.securities))
+  where
+    go : (t : Bool) (n : ℕ) → n + ((if t then 0 else 0) + 0) ≡ n
+    go true n = omega arith
+    go false n = omega arith
+kept-new new z h (type90 s) = refl
+kept-new new z h (cashOf m c) = refl
+kept-new new z h (member0 c) = refl
+
+pub admit-steps : Steps 2 admit
+unfolding admit putSecurities
+admit-steps b o e p a =
+    let xs = b.holdings.securities in
+    let new : Security = record { code = o.security; issued = o.quantity; outside = record { 0 = 0 } } in
+    let z = unknown o.security xs (not-admitted b o e a.security) in
+    let k : withCode o.security (xs ++ (new ∷ [])) ≡ 1 = simp (total-append, eq-eqb o.security o.security refl) (omega (arith, z)) in
+    moved 2 b o (xs ++ (new ∷ [])) (type90 o.security) (type91 o.security) o.quantity.0
+    (record {
+      keeps = kept-new new refl b.holdings;
+      codes = λ c. new-count o.security c xs new refl z p.codes;
+      issued = λ s. omega (arith, new-issued s b.holdings new);
+    })
+    refl tt k tt a.fits.security a.fits.security a.fits.quantity
+    (record { held = λ c. refl; outside = λ c. omega arith; cash = λ c. refl; pledged = λ x q. (refl, refl) })
+
+-- forms 3 and 4
+
+pub deposit-steps : Steps 3 deposit
+unfolding deposit accountOf
+deposit-steps b o e p a =
+    let t = free-quiet o.credited.typ (deposit-free o.debited.typ o.credited.typ (right-types 3 b o e a.types)) in
+    moves-one 3 b o (type91 o.security) (account (accountOf o.security o.credited)) o.quantity.0 refl p refl (one-code 3 b o e refl refl p a.security) tt
+    (ltb-false _ _ (simp e at (little-parts b o a.little .0))) a.fits.security
+    (account-proper o.security o.credited a.fits.security a.fits.credited (t .1)) a.fits.quantity
+    (record {
+      held = λ c. omega arith;
+      outside = λ c. omega arith;
+      cash = λ c. refl;
+      pledged = λ x q. (refl, omega (arith, party-apart o.security o.credited t o.quantity.0 x q));
+    })
+
+pub withdraw-steps : Steps 4 withdraw
+unfolding withdraw accountOf
+withdraw-steps b o e p a =
+    let t = free-quiet o.debited.typ (withdraw-free o.debited.typ o.credited.typ (right-types 4 b o e a.types)) in
+    moves-one 4 b o (account (accountOf o.security o.debited)) (type91 o.security) o.quantity.0 refl p refl tt (one-code 4 b o e refl refl p a.security)
+    (debit-enough b o a.little (simp e)) (account-proper o.security o.debited a.fits.security a.fits.debited (t .1)) a.fits.security a.fits.quantity
+    (record {
+      held = λ c. omega arith;
+      outside = λ c. omega arith;
+      cash = λ c. refl;
+      pledged = λ x q. (omega (arith, party-apart o.security o.debited t o.quantity.0 x q), refl);
+    })
+
+-- forms 5 to 9: which types each moves between, and what of it is put in or released
+
+abbrev debitsOf : Account → Order → ℕ
+debitsOf a o = if sameAccount (accountOf o.security o.debited) a then o.quantity.0 else 0
+
+abbrev creditsOf : Account → Order → ℕ
+creditsOf a o = if sameAccount (accountOf o.security o.credited) a then o.quantity.0 else 0
+
+-- what test 11 says of such a form: both types are accounts', and of a pledged or blocked account what it puts in or releases
+record Shifts (n : ℕ) (o : Order) : Type 0 where
+  from : Account·type o.debited.typ
+  to : Account·type o.credited.typ
+  out : (a : Account) → pledgedOrBlocked a.typ ≡ true → debitsOf a o ≡ releasedAt a n o
+  into : (a : Account) → pledgedOrBlocked a.typ ≡ true → creditsOf a o ≡ putInAt a n o
+
+shifts :
+    (n : ℕ) → within 4 9 n ≡ true → writesAt n ≡ 1 → Each (λ k. (n is k) ≡ false) (2 ∷ 3 ∷ 4 ∷ 10 ∷ 11 ∷ [])
+    → ((o : Order) → wrongTypes n o.debited.typ o.credited.typ ≡ false → Shifts n o) → Steps n transfer
+unfolding transfer accountOf
+shifts n t w off types b o e p a =
+    let y = types o (right-types n b o e a.types) in
+    moves-one n b o (account (accountOf o.security o.debited)) (account (accountOf o.security o.credited)) o.quantity.0 (off .0) p w tt tt
+    (debit-enough b o a.little (simp (e, t))) (account-proper o.security o.debited a.fits.security a.fits.debited (y .from))
+    (account-proper o.security o.credited a.fits.security a.fits.credited (y .to)) a.fits.quantity
+    (record {
+      held = λ c. simp (off .1 .0, off .1 .1 .0);
+      outside = λ c. simp (off .0, off .1 .0, off .1 .1 .0);
+      cash = λ c. simp (off .1 .1 .1 .0, off .1 .1 .1 .1 .0);
+      pledged = λ x q. (omega (arith, y .out x q), omega (arith, y .into x q));
+    })
+
+-- a party whose type is quiet is no such account
+debited-apart : (o : Order) → Quiet o.debited.typ → (a : Account) → pledgedOrBlocked a.typ ≡ true → debitsOf a o ≡ 0
+debited-apart o t a q = party-apart o.security o.debited t o.quantity.0 a q
+
+credited-apart : (o : Order) → Quiet o.credited.typ → (a : Account) → pledgedOrBlocked a.typ ≡ true → creditsOf a o ≡ 0
+credited-apart o t a q = party-apart o.security o.credited t o.quantity.0 a q
+
+pub transfer-steps : Steps 5 transfer
+transfer-steps = shifts 5 refl refl (refl and refl and refl and refl and refl and tt) λ o w.
+    let f = transfer-free o.debited.typ o.credited.typ w in
+    let d = free-quiet o.debited.typ (f .0) in
+    let c = free-quiet o.credited.typ (f .1) in
+    record { from = d .1; to = c .1; out = debited-apart o d; into = credited-apart o c }
+
+-- in and out again
+puts-in : (n : ℕ) (o : Order) → PutIn o.debited.typ o.credited.typ → ((a : Account) → releasedAt a n o ≡ 0) → ((a : Account) → creditsOf a o ≡ putInAt a n o) → Shifts n o
+puts-in n o t none all =
+    let d = free-quiet o.debited.typ (t .0) in
+    record { from = d .1; to = pledged-account o.credited.typ (t .1); out = λ a q. debited-apart o d a q ∙ sym (none a); into = λ a q. all a }
+
+takes-out : (n : ℕ) (o : Order) → PutIn o.credited.typ o.debited.typ → ((a : Account) → debitsOf a o ≡ releasedAt a n o) → ((a : Account) → putInAt a n o ≡ 0) → Shifts n o
+takes-out n o t all none =
+    let c = free-quiet o.credited.typ (t .0) in
+    record { from = pledged-account o.debited.typ (t .1); to = c .1; out = λ a q. all a; into = λ a q. credited-apart o c a q ∙ sym (none a) }
+
+pub pledge-steps : Steps 6 transfer
+pledge-steps = shifts 6 refl refl (refl and refl and refl and refl and refl and tt) (λ o w. puts-in 6 o (pledge-types o.debited.typ o.credited.typ w) (λ a. refl) (λ a. refl))
+
+pub release-steps : Steps 7 transfer
+release-steps = shifts 7 refl refl (refl and refl and refl and refl and refl and tt) (λ o w. takes-out 7 o (release-types o.debited.typ o.credited.typ w) (λ a. refl) (λ a. refl))
+
+pub block-steps : Steps 8 transfer
+block-steps = shifts 8 refl refl (refl and refl and refl and refl and refl and tt) (λ o w. puts-in 8 o (block-types o.debited.typ o.credited.typ w) (λ a. refl) (λ a. refl))
+
+pub unblock-steps : Steps 9 transfer
+unblock-steps = shifts 9 refl refl (refl and refl and refl and refl and refl and tt) (λ o w. takes-out 9 o (unblock-types o.debited.typ o.credited.typ w) (λ a. refl) (λ a. refl))
+
+-- forms 10 and 11
+
+pub payIn-steps : Steps 10 payIn
+unfolding payIn used usedFields
+payIn-steps b o e p a =
+    let m = a.ranges.credited (uses 10 6 o e true refl) in
+    moves-one 10 b o (member0 o.currency) (cashOf o.credited.member o.currency) o.amount.0 refl p refl tt tt tt (omega (arith, a.fits.currency))
+    (m .0, m .1, omega (arith, a.fits.currency)) a.fits.amount
+    (record { held = λ c. refl; outside = λ c. refl; cash = λ c. omega arith; pledged = λ x q. (refl, refl) })
+
+pub payOut-steps : Steps 11 payOut
+unfolding payOut used usedFields
+payOut-steps b o e p a =
+    let m = a.ranges.debited (uses 11 4 o e true refl) in
+    moves-one 11 b o (cashOf o.debited.member o.currency) (member0 o.currency) o.amount.0 refl p refl tt tt (ltb-false _ _ (simp e at (little-parts b o a.little .2)))
+    (m .0, m .1, omega (arith, a.fits.currency)) (omega (arith, a.fits.currency)) a.fits.amount
+    (record { held = λ c. refl; outside = λ c. refl; cash = λ c. omega arith; pledged = λ x q. (refl, refl) })

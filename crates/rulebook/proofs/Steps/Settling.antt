@@ -1,0 +1,144 @@
+-- Form 16: a cycle's movements are its settled trades' legs, and no debit of them is cut off at 0. Assumes nothing.
+use mathlib.Core.Path.{_≡_, refl}
+use mathlib.Core.Bool.{Bool, true, false}
+use mathlib.Core.List.{List, [], _∷_}
+use Prim.Native.Nat.{ℕ, _+_, _<_, _^_}
+use native.Mathlib.Omega.{arith}
+use Rattle.rulebook.specs.declared.Party.{Party}
+use Rattle.rulebook.specs.declared.Item.{Item}
+use Rattle.rulebook.specs.AccountTypes.{pledgedOrBlocked}
+use Rattle.rulebook.specs.Ledger.{Ledger, Holdings, accountOf, putSecurities}
+use Rattle.rulebook.specs.declared.Account.{Account}
+use Rattle.rulebook.specs.Movements.{Place, account, type91, type90, cashOf, member0, Movement, booked}
+use Rattle.rulebook.specs.Cycle.{Marked, seller, buyer, over, bringsShares, takesShares, bringsCash, takesCash, sharesTaken, sharesBrought, cashTaken, cashBrought, settling, withMark, settled, legs}
+use Rattle.rulebook.specs.Forms.{outcome, counts, cycle}
+use Rattle.rulebook.specs.Calls.{kept}
+use Rattle.rulebook.proofs.Rounds.{settling-done, enough-shares, enough-cash, settled-fits}
+use Rattle.rulebook.specs.Premise.{Each, ItemFits, today}
+use Rattle.rulebook.proofs.Lists.{each-so}
+use Rattle.rulebook.proofs.Places.{isAt, brought, taken, AllKnown, Enough, booked-exact}
+use Rattle.rulebook.proofs.Reading.{Proper, AllProper}
+use Rattle.rulebook.proofs.Sums.{heldInto, heldOut, cashInto, cashOut}
+use Rattle.rulebook.proofs.EveryCall.Items.{PartyPosts, ItemPosts, item-posts}
+use Rattle.rulebook.proofs.Steps.OneCall.{admits-none, Steps}
+use Rattle.rulebook.proofs.Steps.Moving.{party-apart}
+
+legs-known : (h : Holdings) (ts : List Item) → AllKnown h (legs ts)
+unfolding legs
+legs-known h [] = tt
+legs-known h (t ∷ rest) = (tt, tt, (tt, tt, legs-known h rest))
+
+side-proper : (security : ℕ) (p : Party) → security < 2 ^ 14 → PartyPosts p → Proper (account (accountOf security p))
+unfolding accountOf
+side-proper security p s f = (s, omega (arith, f.most), f.typ, f.shareholder, f.quiet .1)
+
+legs-proper : (ts : List Item) → Each ItemPosts ts → AllProper (legs ts)
+unfolding legs seller buyer
+legs-proper [] e = tt
+legs-proper (t ∷ rest) e =
+    let i = e .0 in (
+      side-proper t.security t.debited i.security i.debited,
+      side-proper t.security t.credited i.security i.credited,
+      omega (arith, i.quantity),
+      (
+        (i.credited.least, i.credited.most, omega (arith, i.currency)),
+        (i.debited.least, i.debited.most, omega (arith, i.currency)),
+        omega (arith, i.amount),
+        legs-proper rest (e .1),
+      ),
+    )
+
+legs-pledged : (a : Account) → pledgedOrBlocked a.typ ≡ true → (ts : List Item) → Each ItemPosts ts → (taken (account a) (legs ts) ≡ 0) × (brought (account a) (legs ts) ≡ 0)
+unfolding legs seller buyer
+legs-pledged a q [] e = (refl, refl)
+legs-pledged a q (t ∷ rest) e =
+    let l = legs-pledged a q rest (e .1) in (
+      omega (arith, l .0, party-apart t.security t.debited (e .0 .debited .quiet) t.quantity.0 a q),
+      omega (arith, l .1, party-apart t.security t.credited (e .0 .credited .quiet) t.quantity.0 a q),
+    )
+
+-- what the legs bring and take is what the cycle counts
+module _
+    (p : Place)
+    (out into : Item → ℕ)
+    (takes : (t : Item) → taken p (legs (t ∷ [])) ≡ out t)
+    (brings : (t : Item) → brought p (legs (t ∷ [])) ≡ into t)
+  where
+    abbrev Counts : List Marked → Type 0
+    Counts ms = (taken p (legs (withMark ms)) ≡ over out ms) × (brought p (legs (withMark ms)) ≡ over into ms)
+
+    legs-step : (b : Bool) (i : Item) (rest : List Marked) → Counts rest → Counts ((b, i) ∷ rest)
+    unfolding legs withMark over
+    legs-step true i rest ih = (omega (arith, takes i), omega (arith, brings i))
+    legs-step false i rest ih = (omega arith, omega arith)
+
+    legs-count : (ms : List Marked) → Counts ms
+    unfolding legs withMark over
+    legs-count [] = (refl, refl)
+    legs-count (m ∷ rest) = legs-step (m .0) (m .1) rest (legs-count rest)
+
+shares-legs :
+    (a : Account) (ms : List Marked) → (taken (account a) (legs (withMark ms)) ≡ sharesTaken a ms) × (brought (account a) (legs (withMark ms)) ≡ sharesBrought a ms)
+unfolding legs sharesTaken sharesBrought takesShares bringsShares
+shares-legs a ms = legs-count (account a) (takesShares a) (bringsShares a) (λ t. omega arith) (λ t. omega arith) ms
+
+cash-legs :
+    (m c : ℕ) (ms : List Marked) → (taken (cashOf m c) (legs (withMark ms)) ≡ cashTaken m c ms) × (brought (cashOf m c) (legs (withMark ms)) ≡ cashBrought m c ms)
+unfolding legs cashTaken cashBrought takesCash bringsCash
+cash-legs m c ms = legs-count (cashOf m c) (takesCash m c) (bringsCash m c) (λ t. omega arith) (λ t. omega arith) ms
+
+abbrev SameSums : List Movement → Type 0
+SameSums ms =
+    ((s : ℕ) → heldOut s ms ≡ heldInto s ms) × ((s : ℕ) → (taken (type91 s) ms ≡ 0) × (brought (type91 s) ms ≡ 0)) × ((c : ℕ) → cashOut c ms ≡ cashInto c ms)
+
+-- legs move shares from account to account of a security and cash from member to member in a currency
+legs-sums : (ts : List Item) → SameSums (legs ts)
+unfolding legs seller buyer accountOf
+legs-sums [] = ((λ s. refl), (λ s. (refl, refl)), (λ c. refl))
+legs-sums (t ∷ rest) =
+    let l = legs-sums rest in
+    ((λ s. omega (arith, l .0 s)), (λ s. (omega (arith, l .1 s .0), omega (arith, l .1 s .1))), (λ c. omega (arith, l .2 c)))
+
+none-taken : (p : Place) → ((q : Place) → isAt p q ≡ false) → (ms : List Movement) → taken p ms ≡ 0
+none-taken p f [] = refl
+none-taken p f (m ∷ rest) = simp (f m.from) (omega (arith, none-taken p f rest))
+
+cycle-enough : (b : Ledger) → Enough b.holdings (legs (settled b))
+unfolding kept settled settling
+cycle-enough b (account a) =
+    omega (arith, enough-shares b.holdings (settling b) (settling-done b.day.number b.holdings b.waiting) a, shares-legs a (settling b) .0, shares-legs a (settling b) .1)
+cycle-enough b (type91 s) = omega (arith, legs-sums (settled b) .1 s .0)
+cycle-enough b (type90 s) = omega (arith, none-taken (type90 s) (λ q. refl) (legs (settled b)))
+cycle-enough b (cashOf m c) =
+    omega (arith, enough-cash b.holdings (settling b) (settling-done b.day.number b.holdings b.waiting) m c, cash-legs m c (settling b) .0, cash-legs m c (settling b) .1)
+cycle-enough b (member0 c) = omega (arith, none-taken (member0 c) (λ q. refl) (legs (settled b)))
+
+-- so no debit of a settlement is cut off at 0: each account and each member's cash changes by exactly what the settled trades bring and take
+pub cycle-exact :
+    (b : Ledger) (p : Place)
+    → kept p (booked (legs (settled b)) b.holdings) + taken p (legs (settled b)) ≡ kept p b.holdings + brought p (legs (settled b))
+cycle-exact b = booked-exact (legs (settled b)) b.holdings (legs-known b.holdings (settled b)) (cycle-enough b)
+
+pub cycle-steps : Steps 16 cycle
+unfolding cycle outcome counts putSecurities
+cycle-steps b o e p a =
+    let ts = settled b in
+    let P : Item → Type 0 = ItemFits b.day.number (today b.day) b.holdings in
+    let i = each-so P ItemPosts (item-posts b.day.number (today b.day) b.holdings) ts (settled-fits P b p.items) in
+    record {
+      listed = b.holdings.securities;
+      admits = unfold putSecurities in admits-none 16 o b.holdings refl p.codes;
+      moves = legs ts;
+      holds = refl;
+      changes = cycle-exact b;
+      proper = legs-proper ts i;
+      rows = λ _. refl;
+      notices = λ z. absurd (omega (arith, z));
+      counted = refl;
+      figures = record {
+        held = λ c. omega (arith, legs-sums ts .0 c);
+        outside = λ c. omega (arith, legs-sums ts .1 c .0, legs-sums ts .1 c .1);
+        cash = λ c. omega (arith, legs-sums ts .2 c);
+        pledged = λ x q. legs-pledged x q ts i;
+      };
+    }
