@@ -20,11 +20,19 @@ pub fn partner(book: &Book, order: &Order) -> Option<usize> {
     })
 }
 
-/// "equal in security, shareholder, days, quantity, currency, both members
-/// naming each other, both types book entry or both physical, and receive
-/// amount less deliver amount between 0 and" the tolerance. The shareholder
-/// of an instruction is the same on both of its sides.
 fn fit(deliver: &Item, receive: &Item) -> bool {
+    same_terms(deliver, receive) && amounts_agree(deliver, receive)
+}
+
+/// "receive amount less deliver amount between 0 and" the tolerance
+fn amounts_agree(deliver: &Item, receive: &Item) -> bool {
+    receive.amount >= deliver.amount && receive.amount - deliver.amount <= tolerance(deliver.currency)
+}
+
+/// "equal in security, shareholder, days, quantity, currency, both members
+/// naming each other, both types book entry or both physical"; the
+/// shareholder of an instruction is the same on both of its sides.
+pub fn same_terms(deliver: &Item, receive: &Item) -> bool {
     deliver.security == receive.security
         && deliver.deliverer.shareholder == receive.receiver.shareholder
         && deliver.trade_day == receive.trade_day
@@ -34,8 +42,6 @@ fn fit(deliver: &Item, receive: &Item) -> bool {
         && deliver.deliverer.member == receive.deliverer.member
         && deliver.receiver.member == receive.receiver.member
         && same_nature(deliver.deliverer.account_type, receive.receiver.account_type)
-        && receive.amount >= deliver.amount
-        && receive.amount - deliver.amount <= tolerance(deliver.currency)
 }
 
 /// "The pair takes the receiver's amount; the earlier single is removed and
@@ -75,7 +81,7 @@ fn half(single: &Item) -> Half {
 }
 
 /// The item that an order of form 12, 13 or 14 would be by itself.
-fn waiting_item(order: &Order) -> Item {
+pub fn waiting_item(order: &Order) -> Item {
     let reference = order.reference;
     Item {
         security: order.security,
