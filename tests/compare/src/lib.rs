@@ -11,4 +11,5 @@ pub mod proved;
 pub mod random;
 pub mod record_alone;
 pub mod run;
+pub mod sweeps;
 pub mod totals;

@@ -30,11 +30,8 @@ pub struct List {
 /// Where and how the two sides differ.
 pub struct Difference {
     list: List,
-    call: u64,
-    record: Vec<u8>,
-    area_bytes: usize,
-    expected: Answer,
-    found: Result<Answer, String>,
+    number: u64,
+    call: Call,
     what: String,
 }
 
@@ -60,34 +57,21 @@ pub fn list_to_last_day(seed: u64, number: usize) -> List {
 /// Runs a list; the number of calls made.
 pub fn run_list<D: Depository>(list: &List, coverage: &mut Coverage) -> Result<u64, Box<Difference>> {
     let mut generator = Generator::new(list.profile.clone(), list.seed);
-    let mut book = Book::fresh();
-    let mut under_test = D::fresh();
-    let mut totals = Totals::default();
+    let mut sides = Sides::<D>::fresh();
     let mut after_last_day = 0;
     for number in 1..=list.calls {
-        let call = generator.next_call(&book);
-        after_last_day += u64::from(book.day.number == LAST_DAY && !book.day.open);
+        let call = generator.next_call(&sides.book);
+        let day = &sides.book.day;
+        after_last_day += u64::from(day.number == LAST_DAY && !day.open);
         let last = number == list.calls || after_last_day == CALLS_AFTER_LAST_DAY;
-        coverage.before_call(&book, &call.record, call.area.len());
-        let mut expected_area = call.area.clone();
-        let mut found_area = call.area.clone();
-        let expected = book.call(&call.record, &mut expected_area);
-        let found = under_test.call(&call.record, &mut found_area);
-        coverage.after_call(&book);
-        let sides = Sides { book: &book, expected: &expected, expected_area: &expected_area };
-        let totals_now = last || number % CALLS_BETWEEN_TOTALS == 0;
-        let compared = sides.compare(&call, &found, &found_area, &under_test, &mut totals, totals_now);
+        coverage.before_call(&sides.book, &call.record, call.area.len());
+        let mut compared = sides.call(&call).map(|_| ());
+        coverage.after_call(&sides.book);
+        if compared.is_ok() && (last || number % CALLS_BETWEEN_TOTALS == 0) {
+            compared = sides.check_totals();
+        }
         if let Err(what) = compared {
-            let (record, area_bytes) = (call.record, call.area.len());
-            return Err(Box::new(Difference {
-                list: list.clone(),
-                call: number,
-                record,
-                area_bytes,
-                expected,
-                found,
-                what,
-            }));
+            return Err(Box::new(Difference { list: list.clone(), number, call, what }));
         }
         if last {
             return Ok(number);
@@ -96,48 +80,53 @@ pub fn run_list<D: Depository>(list: &List, coverage: &mut Coverage) -> Result<u
     Ok(list.calls)
 }
 
-/// What the reference gave for a call.
-struct Sides<'a> {
-    book: &'a Book,
-    expected: &'a Answer,
-    expected_area: &'a [u8],
+/// The reference and the depository under test after the same calls, and the
+/// totals of those calls.
+#[derive(Clone)]
+pub struct Sides<D> {
+    pub book: Book,
+    under_test: D,
+    totals: Totals,
 }
 
-impl Sides<'_> {
-    fn compare<D: Depository>(
-        &self,
-        call: &Call,
-        found: &Result<Answer, String>,
-        area: &[u8],
-        under_test: &D,
-        totals: &mut Totals,
-        totals_now: bool,
-    ) -> Result<(), String> {
-        let found = found.as_ref().map_err(|text| text.clone())?;
-        if found != self.expected {
-            return Err("the answers differ".to_string());
+impl<D: Depository> Sides<D> {
+    pub fn fresh() -> Sides<D> {
+        Sides { book: Book::fresh(), under_test: D::fresh(), totals: Totals::default() }
+    }
+
+    /// One call on both sides: the answer, or what differs.
+    pub fn call(&mut self, call: &Call) -> Result<Answer, String> {
+        let mut expected_area = call.area.clone();
+        let mut area = call.area.clone();
+        let expected = self.book.call(&call.record, &mut expected_area);
+        let found = self.under_test.call(&call.record, &mut area)?;
+        if found != expected {
+            return Err(format!("reference:  {expected:?}\n  under test: {found:?}"));
         }
-        kept_after_rows(call, found, area)?;
-        if let Some(byte) = (0..area.len()).find(|byte| area[*byte] != self.expected_area[*byte]) {
-            return Err(format!("the areas differ from byte {byte} on (row {})", byte / 16 + 1));
+        let after = |text: String| format!("both sides: {found:?}\n  {text}");
+        kept_after_rows(call, &found, &area).map_err(after)?;
+        if let Some(byte) = (0..area.len()).find(|byte| area[*byte] != expected_area[*byte]) {
+            return Err(after(format!("the areas differ from byte {byte} on (row {})", byte / 16 + 1)));
         }
-        let book = under_test.book()?;
-        if let Some(text) = first_difference(self.book, &book) {
-            return Err(text);
+        let book = self.under_test.book().map_err(after)?;
+        if let Some(text) = first_difference(&self.book, &book) {
+            return Err(after(text));
         }
-        totals.take(&call.record, found, area);
-        if totals_now {
-            totals.check(&book, |security| under_test.held(security))?;
-            self.held_of_others(under_test)?;
-        }
-        Ok(())
+        self.totals.take(&call.record, &found, &area);
+        Ok(found)
+    }
+
+    /// Holds the totals against the book under test.
+    pub fn check_totals(&self) -> Result<(), String> {
+        self.totals.check(&*self.under_test.book()?, |security| self.under_test.held(security))?;
+        self.held_of_others()
     }
 
     /// Nothing is held of a security that is not admitted.
-    fn held_of_others<D: Depository>(&self, under_test: &D) -> Result<(), String> {
+    fn held_of_others(&self) -> Result<(), String> {
         let unknown = [0, 1, 16_383, 1 << 14, u64::MAX].into_iter().filter(|code| self.book.security(*code).is_none());
         for code in unknown {
-            if under_test.held(code) != 0 {
+            if self.under_test.held(code) != 0 {
                 return Err(format!("security {code} is not admitted, but held"));
             }
         }
@@ -160,17 +149,13 @@ fn kept_after_rows(call: &Call, answer: &Answer, area: &[u8]) -> Result<(), Stri
 
 impl fmt::Display for Difference {
     fn fmt(&self, out: &mut fmt::Formatter) -> fmt::Result {
-        let List { number, profile, seed, .. } = &self.list;
-        writeln!(out, "DIFFERENCE in list {number} ({}), seed {seed}, call {}", profile.name, self.call)?;
+        let List { number: list, profile, seed, .. } = &self.list;
+        let Call { record, area } = &self.call;
+        writeln!(out, "DIFFERENCE in list {list} ({}), seed {seed}, call {}", profile.name, self.number)?;
         write!(out, "  record ")?;
-        self.record.iter().try_for_each(|byte| write!(out, "{byte:02X}"))?;
-        writeln!(out, " ({} bytes), area of {} bytes", self.record.len(), self.area_bytes)?;
-        writeln!(out, "  reference:  {:?}", self.expected)?;
-        match &self.found {
-            Ok(answer) => writeln!(out, "  under test: {answer:?}")?,
-            Err(text) => writeln!(out, "  under test: {text}")?,
-        }
+        record.iter().try_for_each(|byte| write!(out, "{byte:02X}"))?;
+        writeln!(out, " ({} bytes), area of {} bytes", record.len(), area.len())?;
         writeln!(out, "  {}", self.what)?;
-        write!(out, "  run it again: compare --replay '{}' {seed} {}", profile.name, self.call)
+        write!(out, "  run it again: compare --replay '{}' {seed} {}", profile.name, self.number)
     }
 }

@@ -11,7 +11,7 @@ use reference::record::{Order, unpack};
 /// "Pledged or blocked accounts have type 11, 21, 121, 12, 22, 112 or 122".
 const PLEDGED_OR_BLOCKED: [u64; 7] = [11, 21, 121, 12, 22, 112, 122];
 
-#[derive(Default)]
+#[derive(Clone, Default)]
 pub struct Totals {
     deposits: BTreeMap<u64, i128>,
     withdrawals: BTreeMap<u64, i128>,

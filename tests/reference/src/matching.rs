@@ -25,7 +25,7 @@ fn fit(deliver: &Item, receive: &Item) -> bool {
 }
 
 /// "receive amount less deliver amount between 0 and" the tolerance
-fn amounts_agree(deliver: &Item, receive: &Item) -> bool {
+pub fn amounts_agree(deliver: &Item, receive: &Item) -> bool {
     receive.amount >= deliver.amount && receive.amount - deliver.amount <= tolerance(deliver.currency)
 }
 

@@ -54,10 +54,11 @@ pub unsafe extern "C" fn depository_call(
     let counts = unsafe { unique(counts, counts_words) };
     assert_eq!(counts.len(), COUNT_WORDS);
     let mut book = decode(words).expect("a book of this library");
-    match book.call(record, area) {
+    let answer = book.call(record, area);
+    encode(&book, words);
+    match answer {
         Answer::Refused(number) => number,
         Answer::Accepted(answer) => {
-            encode(&book, words);
             counts.copy_from_slice(&count_words(&answer));
             0
         }

@@ -16,6 +16,7 @@ use compare::depository::Depository;
 use compare::generator::profile::{fast_days, profiles};
 use compare::record_alone;
 use compare::run::{List, list_to_last_day, lists, run_list};
+use compare::sweeps;
 use reference::book::Book;
 
 const FIXED_SEED: u64 = 1;
@@ -103,6 +104,7 @@ fn run<D: Depository>(options: &Options) -> Tally {
     }
     D::boundary_checks().into_iter().for_each(|(name, holds)| tally.check(holds, || name.to_string()));
     record_checks::<D>(options.seed, &mut tally);
+    sweep_checks::<D>(&mut tally);
     let mut all = lists(FIXED_SEED, FIXED_ROUNDS, 1);
     all.push(list_to_last_day(FIXED_SEED, all.len() + 1));
     all.extend(lists(options.seed, FRESH_ROUNDS, all.len() + 1));
@@ -138,6 +140,21 @@ fn record_checks<D: Depository>(fresh: u64, tally: &mut Tally) {
             }),
             Err(text) => tally.check(false, || format!("{text}, seed {seed}")),
         }
+    }
+}
+
+fn sweep_checks<D: Depository>(tally: &mut Tally) {
+    match sweeps::types::<D>() {
+        Ok(forms) => forms.into_iter().for_each(|(form, holds)| {
+            tally.check(holds, || format!("the types that form {form} allows are not as many as the paper's"));
+        }),
+        Err(text) => tally.check(false, || text),
+    }
+    match sweeps::minutes::<D>() {
+        Ok(count) => tally.check(count == sweeps::minutes_allowed(), || {
+            format!("{count} minutes accepted, {} allowed by the paper's windows", sweeps::minutes_allowed())
+        }),
+        Err(text) => tally.check(false, || text),
     }
 }
 

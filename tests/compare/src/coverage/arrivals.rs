@@ -1,9 +1,9 @@
 //! Movements in full tables, arrivals that match or do not, and both ends of
 //! the tolerance.
 
-use reference::account_types::FREE;
+use reference::account_types::{FREE, same_nature};
 use reference::book::{Book, Item, MOST_ACCOUNTS_AND_ITEMS, MOST_ITEMS, State};
-use reference::matching::{partner, same_terms, tolerance, waiting_item};
+use reference::matching::{amounts_agree, partner, same_terms, tolerance, waiting_item};
 use reference::record::Order;
 use reference::refusals::{credited_account, debited_account};
 
@@ -18,6 +18,32 @@ pub enum Step {
     Tolerance,
     ToleranceAndOne,
 }
+
+/// What an arrival and a single must have in common.
+#[derive(Clone, Copy, Debug, PartialEq, Eq, PartialOrd, Ord)]
+pub enum Term {
+    Security,
+    Shareholder,
+    TradeDay,
+    SettlementDay,
+    Quantity,
+    Currency,
+    Deliverer,
+    Receiver,
+    Nature,
+}
+
+const TERMS: [Term; 9] = [
+    Term::Security,
+    Term::Shareholder,
+    Term::TradeDay,
+    Term::SettlementDay,
+    Term::Quantity,
+    Term::Currency,
+    Term::Deliverer,
+    Term::Receiver,
+    Term::Nature,
+];
 
 pub const EVENTS: &[&str] = &[
     "form 5 empties one account and opens another in a full book",
@@ -45,6 +71,9 @@ pub fn wanted() -> Vec<Cell> {
     let mut cells = Vec::new();
     for (currency, arriving) in [(1, 12), (1, 13), (2, 12), (2, 13)] {
         cells.extend(steps.map(|step| Cell::Difference { currency, arriving, step }));
+    }
+    for arriving in [12, 13] {
+        cells.extend(TERMS.map(|term| Cell::NearMiss { term, arriving }));
     }
     cells
 }
@@ -75,7 +104,9 @@ impl Coverage {
         let arrival = waiting_item(order);
         let others: Vec<&Item> = book.waiting.iter().filter(|item| is_other_form(item, &arrival)).collect();
         for other in &others {
-            self.difference(order, other, &arrival);
+            let (deliver, receive) = if order.form == 12 { (&arrival, *other) } else { (*other, &arrival) };
+            self.difference(order, deliver, receive);
+            self.near_miss(order, deliver, receive);
         }
         let Some(place) = partner(book, order) else {
             return self.event("arrival does not match");
@@ -113,8 +144,15 @@ impl Coverage {
         }
     }
 
-    fn difference(&mut self, order: &Order, other: &Item, arrival: &Item) {
-        let (deliver, receive) = if order.form == 12 { (arrival, other) } else { (other, arrival) };
+    fn near_miss(&mut self, order: &Order, deliver: &Item, receive: &Item) {
+        if let [term] = other_terms(deliver, receive)[..]
+            && amounts_agree(deliver, receive)
+        {
+            self.reach(Cell::NearMiss { term, arriving: order.form });
+        }
+    }
+
+    fn difference(&mut self, order: &Order, deliver: &Item, receive: &Item) {
         if !same_terms(deliver, receive) {
             return;
         }
@@ -142,6 +180,23 @@ impl Coverage {
             self.event(of_form(order.form, &names[3..]));
         }
     }
+}
+
+/// The terms in which a deliver and a receive differ.
+fn other_terms(deliver: &Item, receive: &Item) -> Vec<Term> {
+    let (own, named) = (&deliver.deliverer, &deliver.receiver);
+    let differs = |term: &Term| match term {
+        Term::Security => deliver.security != receive.security,
+        Term::Shareholder => own.shareholder != receive.receiver.shareholder,
+        Term::TradeDay => deliver.trade_day != receive.trade_day,
+        Term::SettlementDay => deliver.settlement_day != receive.settlement_day,
+        Term::Quantity => deliver.quantity != receive.quantity,
+        Term::Currency => deliver.currency != receive.currency,
+        Term::Deliverer => own.member != receive.deliverer.member,
+        Term::Receiver => named.member != receive.receiver.member,
+        Term::Nature => !same_nature(own.account_type, receive.receiver.account_type),
+    };
+    TERMS.into_iter().filter(differs).collect()
 }
 
 fn is_other_form(waiting: &Item, arrival: &Item) -> bool {

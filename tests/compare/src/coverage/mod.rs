@@ -48,6 +48,11 @@ pub enum Cell {
         arriving: u64,
         step: arrivals::Step,
     },
+    /// A single that fits but for one term.
+    NearMiss {
+        term: arrivals::Term,
+        arriving: u64,
+    },
     Damage(Damage),
     Event(&'static str),
 }

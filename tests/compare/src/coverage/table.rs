@@ -5,10 +5,11 @@ use std::fmt::Write;
 use super::{Cell, Coverage, couples, wanted};
 
 /// Groups of cells, by the kind of cell.
-const GROUPS: [(&str, fn(&Cell) -> bool); 4] = [
+const GROUPS: [(&str, fn(&Cell) -> bool); 5] = [
     ("two faults in one call", |cell| matches!(cell, Cell::Both { .. })),
     ("ends of windows", |cell| matches!(cell, Cell::Edge { .. })),
     ("ends of the tolerances", |cell| matches!(cell, Cell::Difference { .. })),
+    ("terms by which a single misses", |cell| matches!(cell, Cell::NearMiss { .. })),
     ("kinds of damage to a record", |cell| matches!(cell, Cell::Damage(_))),
 ];
 

@@ -1,8 +1,7 @@
 //! Orders that the book is likely to accept. The minute is set later.
 
 use reference::account_types::{BLOCK, FREE, PLEDGE, same_nature};
-use reference::book::{Account, Book, CASH_CEILING, Item, Purse, Side, State};
-use reference::matching::tolerance;
+use reference::book::{Account, Book, CASH_CEILING, Item, Purse, State};
 use reference::record::Order;
 
 use super::profile::Profile;
@@ -79,7 +78,7 @@ impl Desk<'_> {
         self.random.pick(&self.world.shareholders)
     }
 
-    fn admitted_code(&mut self) -> Option<u64> {
+    pub fn admitted_code(&mut self) -> Option<u64> {
         let codes: Vec<u64> = self.book.securities.iter().map(|security| security.code).collect();
         self.random.maybe_pick(&codes)
     }
@@ -226,28 +225,6 @@ impl Desk<'_> {
         self.new_instruction(form)
     }
 
-    /// The other instruction of a waiting single, its amount often at an end
-    /// of the tolerance or just past it.
-    pub fn counterpart(&mut self, form: u64, single: &Item) -> Order {
-        let most = tolerance(single.currency);
-        let difference = match self.random.below(20) {
-            0..=7 => 0,
-            8..=10 => most as i64,
-            11 => most as i64 + 1,
-            12 => -1,
-            _ => self.random.between(0, most) as i64,
-        };
-        let sign = if form == 13 { 1 } else { -1 };
-        let amount = (single.amount as i64 + sign * difference).clamp(1, MOST as i64) as u64;
-        let mut order = instruction_of(single, form);
-        if form == 12 {
-            order.debited_type = self.like(single.receiver.account_type);
-        } else {
-            order.credited_type = self.like(single.deliverer.account_type);
-        }
-        Order { amount, reference: self.reference(), ..order }
-    }
-
     fn new_instruction(&mut self, form: u64) -> Option<Order> {
         let kept = if self.random.percent(70) { self.kept_account(&FREE) } else { None };
         let from = match kept {
@@ -316,31 +293,6 @@ impl Desk<'_> {
         }
         let (sender, half) = self.random.maybe_pick(&halves)?;
         Some(Order { debited_member: sender, reference: half.reference, ..Order::default() })
-    }
-}
-
-/// The order that repeats a waiting item's terms.
-pub fn instruction_of(item: &Item, form: u64) -> Order {
-    let Item { deliverer, receiver, .. } = *item;
-    let account = |side: Side| Account {
-        security: item.security,
-        member: side.member,
-        account_type: side.account_type,
-        shareholder: side.shareholder,
-    };
-    let order = Order {
-        form,
-        currency: item.currency,
-        quantity: item.quantity,
-        amount: item.amount,
-        trade_day: item.trade_day,
-        settlement_day: item.settlement_day,
-        ..Order::default()
-    };
-    let order = credit(debit(order, &account(deliverer)), &account(receiver));
-    match form {
-        12 => Order { credited_type: 0, ..order },
-        _ => Order { debited_type: 0, ..order },
     }
 }
 

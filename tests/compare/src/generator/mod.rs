@@ -1,6 +1,7 @@
 //! Draws the calls of a list. It looks at the reference book, so that most
 //! calls are accepted.
 
+mod counterpart;
 pub mod damage;
 pub mod draft;
 pub mod profile;
