@@ -11,5 +11,6 @@ pub mod proved;
 pub mod random;
 pub mod record_alone;
 pub mod run;
+pub mod streams;
 pub mod sweeps;
 pub mod totals;

@@ -104,11 +104,11 @@ fn run<D: Depository>(options: &Options) -> Tally {
     }
     D::boundary_checks().into_iter().for_each(|(name, holds)| tally.check(holds, || name.to_string()));
     record_checks::<D>(options.seed, &mut tally);
-    sweep_checks::<D>(&mut tally);
     let mut all = lists(FIXED_SEED, FIXED_ROUNDS, 1);
     all.push(list_to_last_day(FIXED_SEED, all.len() + 1));
     all.extend(lists(options.seed, FRESH_ROUNDS, all.len() + 1));
-    if run_lists::<D>(&all, &mut coverage, &mut tally) {
+    if tally.failed == 0 && run_lists::<D>(&all, &mut coverage, &mut tally) {
+        sweep_checks::<D>(&mut tally);
         coverage_checks(&coverage, &mut tally);
     }
     tally

@@ -40,9 +40,8 @@ pub fn impossible(form: u64, refusal: u64) -> Option<&'static str> {
 
 /// Why two faults (6 to 18) can never stand in one call; none where they can.
 pub fn never_together(first: u64, second: u64) -> Option<&'static str> {
-    match (first, second) {
-        (14, 15) => return Some("15 looks at an item that 14 has found"),
-        _ => {}
+    if (first, second) == (14, 15) {
+        return Some("15 looks at an item that 14 has found");
     }
     let both = |form: &u64| impossible(*form, first).is_none() && impossible(*form, second).is_none();
     if (1..=17).any(|form| both(&form)) { None } else { Some("no form can have both") }

@@ -4,8 +4,10 @@ use std::fmt::Write;
 
 use super::{Cell, Coverage, couples, wanted};
 
+type Belongs = fn(&Cell) -> bool;
+
 /// Groups of cells, by the kind of cell.
-const GROUPS: [(&str, fn(&Cell) -> bool); 5] = [
+const GROUPS: [(&str, Belongs); 5] = [
     ("two faults in one call", |cell| matches!(cell, Cell::Both { .. })),
     ("ends of windows", |cell| matches!(cell, Cell::Edge { .. })),
     ("ends of the tolerances", |cell| matches!(cell, Cell::Difference { .. })),
