@@ -101,7 +101,7 @@ impl<D: Depository> Sides<D> {
         let expected = self.book.call(&call.record, &mut expected_area);
         let found = self.under_test.call(&call.record, &mut area)?;
         if found != expected {
-            return Err(format!("reference:  {expected:?}\n  under test: {found:?}"));
+            return Err(format!("reference:  {expected:?}\n  under test: {found:?}\n  {}", self.book_difference()));
         }
         let after = |text: String| format!("both sides: {found:?}\n  {text}");
         kept_after_rows(call, &found, &area).map_err(after)?;
@@ -114,6 +114,12 @@ impl<D: Depository> Sides<D> {
         }
         self.totals.take(&call.record, &found, &area);
         Ok(found)
+    }
+
+    /// The first difference of the books, for a report.
+    fn book_difference(&self) -> String {
+        let difference = self.under_test.book().map(|book| first_difference(&self.book, &book));
+        difference.map_or_else(|text| text, |found| found.unwrap_or_else(|| "the books agree".to_string()))
     }
 
     /// Holds the totals against the book under test.
