@@ -17,7 +17,7 @@ use Rattle.words.specs.Tables.{rows, keyAt, sumOf, valueOf}
 use Rattle.words.proofs.Sums.{sum-none, sum-suc, sum-last, sum-least, sum-grows}
 use Rattle.words.proofs.Tables.{key-once}
 use Rattle.accounts.specs.Keys.{keyOf, securityOf, InRange, inRange}
-use Rattle.accounts.specs.Map.{BALANCES, balanceAt, balanceOf, withAccounts, Kept}
+use Rattle.accounts.specs.Map.{balanceAt, balanceOf, withAccounts, Kept}
 use Rattle.accounts.proofs.Keys.{range-true, range-holds, account-range, key-back, key-test, other-range, accountOf}
 use Rattle.accounts.proofs.Rows.{balance-some, counted-some, counted-none}
 

@@ -1,15 +1,14 @@
 -- Two accounts in range with one key are one account, and a key's security is the account's. Assumes nothing.
-use Prim.Native.Nat.{ℕ, _+_, _*_, _/_, _%_, _^_, _<_}
+use Prim.Native.Nat.{ℕ, _/_, _%_, _^_, _<_}
 use native.Mathlib.Omega.{arith}
 use mathlib.Core.Bool.{Bool, true, false, _&&_}
 use mathlib.Core.Path.{_≡_, refl, sym, ap, _∙_}
-use lib.Dec.{eqb, ltb}
-use borrow.Author.Tests.{lt-ltb, ltb-true, eq-eqb, eqb-true, eqb-false}
+use borrow.Author.Tests.{lt-ltb, ltb-true, eqb-true, eqb-false}
 use Rattle.rulebook.specs.Lists.{_is_, _below_}
 use Rattle.rulebook.specs.Ledger.{sameAccount}
 use Rattle.rulebook.specs.declared.Account.{Account}
 use Rattle.rulebook.proofs.Held.{same-self}
-use Rattle.words.proofs.Tests.{both}
+use Rattle.rulebook.proofs.Lists.{both}
 use Rattle.accounts.specs.Keys.{keyOf, securityOf, InRange, inRange}
 
 pub range-true : (a : Account) → InRange a → inRange a ≡ true

@@ -2,15 +2,15 @@
 use Prim.Native.Nat.{ℕ, _≤_, _<_}
 use native.Mathlib.Omega.{arith}
 use mathlib.Core.List.{List}
-use mathlib.Core.Path.{_≡_, refl, sym, ap, _∙_, subst}
-use lib.ListN.{length, getD, length-take, length-drop}
+use mathlib.Core.Path.{_≡_, sym, ap, _∙_, subst}
+use lib.ListN.{length, getD, length-drop}
 use lib.Seq.{length-take-le}
 use Rattle.rulebook.specs.Lists.{if_then_else_, _is_}
 use Rattle.rulebook.specs.Ledger.{Ledger, Holdings, putDay, putHoldings, putWaiting}
 use Rattle.rulebook.specs.declared.Day.{Day}
 use Rattle.rulebook.specs.declared.Item.{Item}
 use Rattle.rulebook.specs.Premise.{accountCount, withCode}
-use Rattle.words.specs.Regions.{region, putRegion, startOf}
+use Rattle.words.specs.Regions.{putRegion}
 use Rattle.words.specs.Tables.{rows}
 use Rattle.words.proofs.Regions.{region-put, region-length, end-within}
 use Rattle.securities.specs.Admitted.{securitiesOf, withSecurities}
@@ -22,7 +22,7 @@ use Rattle.accounts.specs.Map as accounts
 use Rattle.cash.specs.Amounts.{amountOf, withCash}
 use Rattle.items.specs.Waiting.{itemsOf}
 use Rattle.items.specs.Waiting as items
-use Rattle.book.specs.Meaning.{widths, DAY, SECURITIES, ACCOUNTS, CASH, ITEMS, part, dayIn, holdingsBy, ledgerBy, holdingsOf, waitingOf, ledgerOf}
+use Rattle.book.specs.Meaning.{widths, DAY, SECURITIES, ACCOUNTS, CASH, ITEMS, part, dayIn, ledgerBy, holdingsOf, waitingOf, ledgerOf}
 use Rattle.book.specs.Stored.{StoredBy, Stored, Means}
 
 -- ---- the region law at this book's widths: part r is changed

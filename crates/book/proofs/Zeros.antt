@@ -1,14 +1,14 @@
 -- The zero words are stored right and mean the fresh ledger. Assumes nothing.
-use Prim.Native.Nat.{ℕ, zero, suc, _+_, _≤_, _<_}
+use Prim.Native.Nat.{ℕ, zero, suc, _+_, _<_}
 use native.Mathlib.Numerals.{add-one}
 use native.Mathlib.Omega.{arith}
 use mathlib.Core.Bool.{Bool, true, false}
 use mathlib.Core.List.{List, [], _∷_, _++_}
-use mathlib.Core.Path.{_≡_, refl, sym, ap, _∙_, fun-ext}
+use mathlib.Core.Path.{_≡_, refl, ap, _∙_, fun-ext}
 use lib.ListN.{length, getD, set, take, replicate, replicate-append-replicate}
 use lib.Seq.{take-suc-set}
 use Rattle.rulebook.specs.Lists.{if_then_else_}
-use Rattle.rulebook.specs.Ledger.{Ledger, fresh, sumBelow}
+use Rattle.rulebook.specs.Ledger.{fresh, sumBelow}
 use Rattle.rulebook.specs.declared.Account.{Account}
 use Rattle.rulebook.proofs.EveryCall.{fresh-premise}
 use Rattle.words.specs.Places.{listFrom}

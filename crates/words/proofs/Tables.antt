@@ -1,13 +1,12 @@
 -- What a search of a table has found, and what the row of a key has in a column. Assumes nothing.
 use Prim.Native.Nat.{ℕ, _+_, _-_, _≤_, _<_}
 use native.Mathlib.Omega.{arith}
-use mathlib.Core.Bool.{Bool, true, false}
+use mathlib.Core.Bool.{false}
 use mathlib.Core.List.{List}
-use mathlib.Core.Path.{_≡_, refl, sym, ap, _∙_}
+use mathlib.Core.Path.{_≡_, refl, ap, _∙_}
 use lib.ListN.{getD}
-use borrow.Author.Tests.{eq-eqb, ne-eqb, eqb-true, eqb-false}
+use borrow.Author.Tests.{eq-eqb, ne-eqb, eqb-true}
 use Rattle.rulebook.specs.Lists.{if_then_else_, _is_}
-use Rattle.rulebook.specs.Ledger.{sumBelow}
 use Rattle.words.specs.Places.{firstFrom}
 use Rattle.words.specs.Tables.{rows, keyAt, isKey, placeOf, sumOf, valueOf, KeysOnce}
 use Rattle.words.specs.declared.Found.{Found}

@@ -1,9 +1,8 @@
 -- `accounts::held` meets its contract. The invariant: the sum is that of the first i rows. Assumes nothing.
-use Prim.Native.Nat.{ℕ, _≤_, _-_}
+use Prim.Native.Nat.{_≤_, _-_}
 use native.Mathlib.Omega.{arith}
 use mathlib.Core.Logic.{⊎-elim}
 use mathlib.Core.Path.{_≡_, ap, _∙_}
-use borrow.Author.Needs.{needs}
 use Rattle.rulebook.specs.Ledger.{fresh}
 use Rattle.words.specs.Tables.{rows}
 use Rattle.accounts.proofs.HeldRows.{heldTo, held-none, held-taken, held-left, held-fits, rows-held}

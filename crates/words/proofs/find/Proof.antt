@@ -1,10 +1,9 @@
 -- `words::find` meets its contract. The invariant: what is found from the first place on is what is found from place i on. Assumes nothing.
-use mathlib.Core.Path.{_≡_, refl, sym, _∙_}
+use mathlib.Core.Path.{_≡_, sym, _∙_}
 use Prim.Native.Nat.{_≤_, _-_}
 use borrow.Author.Needs.{needs}
 use borrow.Author.Tests.{eq-eqb, ne-eqb}
 use native.Mathlib.Omega.{arith}
-use lib.ListN.{getD}
 use Rattle.words.specs.Places.{firstFrom}
 use Rattle.words.proofs.Places.{first-here, first-next, first-none}
 use Rattle.words.specs.Tables.{placeOf, isKey}

@@ -1,5 +1,5 @@
 -- `words::passed` meets its contract. The invariant: what is found from the first place on is what is found from place i on. Assumes nothing.
-use Prim.Native.Nat.{_+_, _-_, _≤_}
+use Prim.Native.Nat.{_-_, _≤_}
 use native.Mathlib.Omega.{arith}
 use mathlib.Core.Path.{_≡_, _∙_}
 use Rattle.words.specs.Places.{firstFrom}
