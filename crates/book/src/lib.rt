@@ -50,6 +50,7 @@ fn day_in(day: &[u64]) -> Day
     }
 }
 
+// The day goes into a region of 8 words.
 fn put_day_in(words: &mut [u64], day: Day)
     requires { ⌜ length (now words) ≡ 8 ⌝ }
     ensures { λ u. ⌜ (dayIn (now (words .exit)) ≡ day) × (getD (now (words .exit)) 1 0 ≤ 1) ⌝ }
@@ -67,7 +68,7 @@ pub fn day(book: &[u64]) -> Day
     day_in(&book[DAY..SECURITIES])
 }
 
-// Another day.
+// The book's day becomes `day`.
 pub fn put_day(book: &mut [u64], day: Day)
     requires { ⌜ Stored (now book) ⌝ }
     ensures { λ u. ⌜ Means (now (book .exit)) (putDay day (ledgerOf (now (book .entry)))) ⌝ }
