@@ -1,11 +1,12 @@
+-- `forms::counts_of` meets its contract. Assumes nothing.
+use borrow.Author.Needs.{needs}
+use Rattle.rulebook.specs.Forms.{counts}
 use Rattle.forms.proofs.counts_of.Statement.{statement}
 use Rattle.forms.proofs.counts_of.Tie as tie
-use Rattle.forms.proofs.counts_of.Reads as reads
-use Rattle.forms.proofs.counts_of.Lts as lts
 
--- src/lib.rt:13:1
 returns : tie.Need-returns
-returns c = ?
+unfolding counts
+returns c = search needs
 
 pub counts-of-spec : {M : Type 1} → statement M
 counts-of-spec = tie.close (tie.spec returns)

@@ -1,61 +1,44 @@
+-- `forms::deposit` meets its contract. Assumes nothing.
+use mathlib.Core.Path.{_≡_, refl, sym, ap, subst, _∙_}
+use native.Mathlib.Omega.{arith}
 use borrow.Author.Needs.{needs}
+use Rattle.book.specs.Meaning.{ledgerOf}
+use Rattle.rulebook.specs.declared.Account.{Account}
+use Rattle.accounts.specs.Map.{CreditFits}
+use Rattle.rows.specs.Widths.{AccountFits}
+use Rattle.refusals.proofs.Orders.{fits, credited-named}
+use Rattle.forms.proofs.Facts.{deposit-fits, deposit-enough, outside-row, row-fits}
+use Rattle.forms.proofs.Laws.{outside-kept, did-deposit}
 use Rattle.forms.proofs.deposit.Statement.{statement}
 use Rattle.forms.proofs.deposit.Tie as tie
-use Rattle.forms.proofs.deposit.Reads as reads
-use Rattle.forms.proofs.deposit.Lts as lts
-use Rattle.book.proofs.credit.Reads as credit-reads
-use Rattle.book.proofs.debit_outside.Reads as debit-outside-reads
-use Rattle.checks.proofs.account_of.Reads as account-of-reads
-use Rattle.forms.proofs.counts_of.Reads as counts-of-reads
-use Rattle.rows.proofs.outside_account.Reads as outside-account-reads
-use Rattle.rows.proofs.write_shares.Reads as write-shares-reads
 
--- src/lib.rt:60:9
-outside-account-requires : tie.Need-outside-account-requires
-outside-account-requires c κs = search needs
-
--- src/lib.rt:61:9
-account-of-requires : tie.Need-account-of-requires
-account-of-requires c κs = search needs
-
--- src/lib.rt:62:5
 credit-requires : tie.Need-credit-requires
-credit-requires c κs = ?
+credit-requires c κs =
+    let s = c .before .before .before .before .before in
+    let b = ledgerOf (s .args .book .now) in
+    (s .pre .0 .kept .stored, subst (λ (a : Account). CreditFits a (b .holdings .balance a) (b .holdings .accounts) (s .args .order .quantity .0)) (sym (c .before .account-of .ensures)) (deposit-fits (s .args .book .now) (s .args .order) (s .pre .0 .kept) (s .pre .0 .read) (s .pre .0 .passes) (s .pre .1)))
 
--- src/lib.rt:63:5
 debit-outside-requires : tie.Need-debit-outside-requires
-debit-outside-requires c κs = ?
+debit-outside-requires c κs =
+    let credited = c .before .before .before in
+    let s = credited .before .before .before .before .before .before in
+    let same = outside-kept (ledgerOf (s .args .book .now)) _ _ _ (s .args .order .security) (credited .credit .ensures) in
+    (credited .credit .ensures .stored, rw same (deposit-enough (s .args .book .now) (s .args .order) (s .pre .0 .kept) (s .pre .0 .read) (s .pre .0 .passes) (s .pre .1)))
 
--- src/lib.rt:64:5
 write-shares-requires : tie.Need-write-shares-requires
-write-shares-requires c κs = ?
+write-shares-requires c κs =
+    let s = c .before .before .before .before .before .before .before .before .before .before .before .before .before in
+    let to = c .before .before .before .before .before .before .before .before .before in
+    (omega (arith, s .pre .0 .room), subst AccountFits (sym (to .before .outside-account .ensures)) (outside-row 91 _ (omega arith) (fits _ (s .pre .0 .read) .security)), subst AccountFits (sym (to .account-of .ensures)) (row-fits _ (credited-named _ (s .pre .0 .read))))
 
--- src/lib.rt:65:5
-counts-of-requires : tie.Need-counts-of-requires
-counts-of-requires c κs = search needs
-
--- src/lib.rt:56:1
-same-length : tie.Need-same-length
-same-length c = search needs
-
--- src/lib.rt:56:1
-same-length-2 : tie.Need-same-length-2
-same-length-2 c = search needs
-
--- src/lib.rt:56:1
 returns : tie.Need-returns
-returns c = ?
+returns c =
+    let wrote = c .before .before .before in
+    let debited = wrote .before .before .before .before in
+    let credited = debited .before .before .before .before in
+    let to = credited .before .before in
+    let s = to .before .before .before .before in
+    did-deposit (ledgerOf (s .args .book .now)) (s .args .order) (s .args .area .now) _ _ (c .counts-of .ensures) _ _ _ _ (to .account-of .ensures) (to .before .outside-account .ensures) (credited .credit .ensures) (debited .debit-outside .ensures) (wrote .write-shares .ensures)
 
 pub deposit-spec : {M : Type 1} → statement M
-deposit-spec =
-    tie.close
-    (tie.spec
-    outside-account-requires
-    account-of-requires
-    credit-requires
-    debit-outside-requires
-    write-shares-requires
-    counts-of-requires
-    same-length
-    same-length-2
-    returns)
+deposit-spec = tie.close (tie.spec (λ c κs. search needs) (λ c κs. search needs) credit-requires debit-outside-requires write-shares-requires (λ c κs. search needs) (λ c. search needs) (λ c. search needs) returns)

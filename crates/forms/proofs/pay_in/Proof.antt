@@ -1,43 +1,30 @@
+-- `forms::pay_in` meets its contract. Assumes nothing.
+use mathlib.Core.Path.{_≡_, refl, sym, ap, subst, _∙_}
+use native.Mathlib.Omega.{arith}
 use borrow.Author.Needs.{needs}
+use Rattle.book.specs.Meaning.{ledgerOf}
+use Rattle.forms.proofs.Facts.{payee, pay-in-fits, cash-row}
+use Rattle.forms.proofs.Laws.{did-pay-in}
 use Rattle.forms.proofs.pay_in.Statement.{statement}
 use Rattle.forms.proofs.pay_in.Tie as tie
-use Rattle.forms.proofs.pay_in.Reads as reads
-use Rattle.forms.proofs.pay_in.Lts as lts
-use Rattle.book.proofs.credit_cash.Reads as credit-cash-reads
-use Rattle.forms.proofs.counts_of.Reads as counts-of-reads
-use Rattle.rows.proofs.write_cash.Reads as write-cash-reads
 
--- src/lib.rt:101:5
 credit-cash-requires : tie.Need-credit-cash-requires
-credit-cash-requires c κs = ?
+credit-cash-requires c κs =
+    let s = c .before .before .before in
+    (s .pre .0 .kept .stored, payee (s .args .book .now) (s .args .order) (s .pre .0 .kept) (s .pre .0 .read) (s .pre .0 .passes) (s .pre .1), pay-in-fits (s .args .book .now) (s .args .order) (s .pre .0 .kept) (s .pre .0 .read) (s .pre .0 .passes))
 
--- src/lib.rt:102:5
 write-cash-requires : tie.Need-write-cash-requires
-write-cash-requires c κs = ?
+write-cash-requires c κs =
+    let s = c .before .before .before .before .before .before .before in
+    let f = payee (s .args .book .now) (s .args .order) (s .pre .0 .kept) (s .pre .0 .read) (s .pre .0 .passes) (s .pre .1) in
+    (omega (arith, s .pre .0 .room), record { member-fits = omega arith; currency-fits = omega (arith, f .currency-most) }, cash-row (s .args .book .now) (s .args .order) (s .pre .0 .kept) (s .pre .0 .read) (s .pre .0 .passes) _ _ f)
 
--- src/lib.rt:103:5
-counts-of-requires : tie.Need-counts-of-requires
-counts-of-requires c κs = search needs
-
--- src/lib.rt:96:1
-same-length : tie.Need-same-length
-same-length c = search needs
-
--- src/lib.rt:96:1
-same-length-2 : tie.Need-same-length-2
-same-length-2 c = search needs
-
--- src/lib.rt:96:1
 returns : tie.Need-returns
-returns c = ?
+returns c =
+    let wrote = c .before .before .before in
+    let credited = wrote .before .before .before .before in
+    let s = credited .before .before .before .before in
+    did-pay-in (ledgerOf (s .args .book .now)) (s .args .order) (s .args .area .now) _ _ (c .counts-of .ensures) _ (credited .credit-cash .ensures) (wrote .write-cash .ensures)
 
 pub pay-in-spec : {M : Type 1} → statement M
-pay-in-spec =
-    tie.close
-    (tie.spec
-    credit-cash-requires
-    write-cash-requires
-    counts-of-requires
-    same-length
-    same-length-2
-    returns)
+pay-in-spec = tie.close (tie.spec credit-cash-requires write-cash-requires (λ c κs. search needs) (λ c. search needs) (λ c. search needs) returns)
