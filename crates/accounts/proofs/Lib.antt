@@ -1,0 +1,4 @@
+-- The laws of the accounts' words.
+pub mod Keys
+pub mod Rows
+pub mod Map

@@ -1,0 +1,53 @@
+-- The accounts' words as a map from accounts to balances, and what is kept true of them.
+use Prim.Native.Nat.{ℕ, _+_, _-_, _^_, _≤_, _<_}
+use mathlib.Core.Bool.{Bool}
+use mathlib.Core.List.{List}
+use mathlib.Core.Path.{_≡_}
+use lib.ListN.{length, getD, set}
+use Rattle.rulebook.specs.Lists.{if_then_else_, _is_, _below_}
+use Rattle.rulebook.specs.Ledger.{Holdings}
+use Rattle.rulebook.specs.declared.Account.{Account}
+use Rattle.words.specs.Tables.{rows, keyAt, sumOf, valueOf, KeysOnce}
+use Rattle.accounts.specs.Keys.{keyOf, securityOf, InRange, inRange}
+
+-- the balances are the column that starts at word 257
+abbrev pub BALANCES : ℕ
+BALANCES = 257
+
+abbrev pub balanceAt : List ℕ → ℕ → ℕ
+balanceAt accounts i = getD accounts (i + BALANCES) 0
+
+-- the words with an account more, and without the one at i, into whose place the last one comes
+abbrev pub opened : List ℕ → (key balance : ℕ) → List ℕ
+opened accounts key balance = set (set (set accounts (rows accounts + 1) key) (rows accounts + BALANCES) balance) 0 (rows accounts + 1)
+
+abbrev pub removed : List ℕ → ℕ → List ℕ
+removed accounts i =
+    set (set (set accounts (i + 1) (keyAt accounts (rows accounts - 1))) (i + BALANCES) (balanceAt accounts (rows accounts - 1))) 0 (rows accounts - 1)
+
+-- what an account holds: 0 where there is none
+unfoldable pub balanceOf : List ℕ → Account → ℕ
+balanceOf accounts a = if inRange a then valueOf BALANCES accounts (keyOf a) else 0
+
+-- the sum of a security's balances
+unfoldable pub heldIn : ℕ → List ℕ → ℕ
+heldIn security accounts = sumOf BALANCES (λ key balance. if securityOf key is security then balance else 0) accounts
+
+-- the holdings with the accounts that the words hold
+abbrev pub withAccounts : List ℕ → Holdings → Holdings
+withAccounts accounts h = record { securities = h.securities; balance = balanceOf accounts; accounts = rows accounts; cash = h.cash }
+
+-- kept true: room for as many accounts as there are, no key twice, no balance of 0, each key that of an account in range
+pub record Kept (accounts : List ℕ) : Type 0 where
+  pub long : length accounts ≡ 513
+  pub size : rows accounts ≤ 256
+  pub once : KeysOnce accounts
+  pub some : sumOf BALANCES (λ key balance. if balance is 0 then 1 else 0) accounts ≡ 0
+  pub keys : sumOf BALANCES (λ key balance. if key below 2 ^ 62 then 0 else 1) accounts ≡ 0
+
+-- a credit that fits: the balance stays a word, and where an account is to be opened there is room
+pub record CreditFits (accounts : List ℕ) (a : Account) (quantity : ℕ) : Type 0 where
+  pub named : InRange a
+  pub some : 0 < quantity
+  pub word : balanceOf accounts a + quantity < 2 ^ 64
+  pub room : balanceOf accounts a ≡ 0 → rows accounts < 256

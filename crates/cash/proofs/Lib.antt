@@ -1,0 +1,2 @@
+-- The laws of the cash words.
+pub mod Laws

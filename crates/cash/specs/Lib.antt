@@ -1,0 +1,2 @@
+-- The members' cash of a book.
+pub mod Amounts

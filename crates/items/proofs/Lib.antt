@@ -1,0 +1,2 @@
+-- The laws of the waiting list's words.
+pub mod Laws

@@ -1,0 +1,2 @@
+-- The waiting list of a book.
+pub mod Waiting

@@ -1,0 +1,6 @@
+-- Tests, sums, lists by places, tables and regions of words.
+pub mod Tests
+pub mod Sums
+pub mod Places
+pub mod Tables
+pub mod Regions

@@ -1,0 +1,4 @@
+-- A buffer of words: lists by places, tables, regions.
+pub mod Places
+pub mod Tables
+pub mod Regions
