@@ -1,0 +1,3 @@
+-- What the cycle rests on.
+pub mod Masks
+pub mod Marking

@@ -1,0 +1,2 @@
+-- The netted cycle in words.
+pub mod Marks

@@ -1,0 +1,2 @@
+// The netted cycle: the taken trades that settle, and what they move.
+mod marks;
