@@ -1,3 +1,5 @@
 -- What the cycle rests on.
 pub mod Masks
 pub mod Marking
+pub mod Filling
+pub mod Adding

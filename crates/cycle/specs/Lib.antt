@@ -1,2 +1,4 @@
 -- The netted cycle in words.
 pub mod Marks
+pub mod Figures
+pub mod Ready

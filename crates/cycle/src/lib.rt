@@ -1,2 +1,4 @@
 // The netted cycle: the taken trades that settle, and what they move.
+mod figures;
 mod marks;
+mod trades;
