@@ -117,13 +117,15 @@ put-means a r account v kept range put h = λ i. record { securities = h.securit
 -- ---- as the code does it: by the place that the search answers
 
 module _ (a : List ℕ) (kept : Kept a) (account : Account) (range : InRange account) where
-  pub balance-none : placeOf (keyOf account) a ≡ Nothing → balanceOf a account ≡ 0
+  pub balance-value : balanceOf a account ≡ valueOf BALANCES a (keyOf account)
   unfolding balanceOf
-  balance-none e = rw (range-true account range) (value-none a (keyOf account) BALANCES e)
+  balance-value = rw (range-true account range)
+
+  pub balance-none : placeOf (keyOf account) a ≡ Nothing → balanceOf a account ≡ 0
+  balance-none e = balance-value ∙ value-none a (keyOf account) BALANCES e
 
   pub balance-here : (j : ℕ) → placeOf (keyOf account) a ≡ At j → (j < rows a) × (balanceOf a account ≡ balanceAt a j)
-  unfolding balanceOf
-  balance-here j e = (place-at a (keyOf account) j e .0, rw (range-true account range) (value-here a kept (keyOf account) j e 1 (omega arith)))
+  balance-here j e = (place-at a (keyOf account) j e .0, balance-value ∙ value-here a kept (keyOf account) j e 1 (omega arith))
 
   -- the account's balance is put, and what is kept true stays so
   puts : (r : List ℕ) (v w : ℕ) → Put a r (keyOf account) v → v ≡ w → Kept r × ((h : Holdings) → withAccounts r h ≡ putBalance account w (withAccounts a h))

@@ -45,9 +45,9 @@ pub record Kept (accounts : List ℕ) : Type 0 where
   pub some : sumOf BALANCES (λ key balance. if balance is 0 then 1 else 0) accounts ≡ 0
   pub keys : sumOf BALANCES (λ key balance. if key below 2 ^ 62 then 0 else 1) accounts ≡ 0
 
--- a credit that fits: the balance stays a word, and where an account is to be opened there is room
-pub record CreditFits (accounts : List ℕ) (a : Account) (quantity : ℕ) : Type 0 where
+-- a credit that fits, by the account's balance and the number of accounts: the balance stays a word, and where an account is to be opened there is room
+pub record CreditFits (a : Account) (balance accounts quantity : ℕ) : Type 0 where
   pub named : InRange a
   pub some : 0 < quantity
-  pub word : balanceOf accounts a + quantity < 2 ^ 64
-  pub room : balanceOf accounts a ≡ 0 → rows accounts < 256
+  pub word : balance + quantity < 2 ^ 64
+  pub room : balance ≡ 0 → accounts < 256

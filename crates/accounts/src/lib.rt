@@ -38,11 +38,8 @@ pub fn balance(accounts: &[u64], account: Account) -> Shares
     requires { ⌜ Kept (now accounts) × InRange account ⌝ }
     ensures { λ r. ⌜ r .0 ≡ balanceOf (now (accounts .entry)) account ⌝ }
 {
-    let found = find(accounts, account);
-    match found {
-        Found::At(i) => Shares(accounts[i + BALANCES]),
-        Found::Nothing => Shares(0),
-    }
+    let key = key_of(account);
+    Shares(words::value(accounts, key, BALANCES))
 }
 
 // An account goes last.
@@ -74,7 +71,7 @@ fn remove_account(accounts: &mut [u64], i: usize)
 
 // More in the account, which is opened where there is none.
 pub fn credit(accounts: &mut [u64], account: Account, quantity: Shares)
-    requires { ⌜ Kept (now accounts) × CreditFits (now accounts) account (quantity .0) ⌝ }
+    requires { ⌜ Kept (now accounts) × CreditFits account (balanceOf (now accounts) account) (rows (now accounts)) (quantity .0) ⌝ }
     ensures { λ u. ⌜ Kept (now (accounts .exit)) × ((h : Holdings) → withAccounts (now (accounts .exit)) h ≡ movements.credit (movements.account account) (quantity .0) (withAccounts (now (accounts .entry)) h)) ⌝ }
 {
     let found = find(accounts, account);

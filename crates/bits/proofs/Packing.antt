@@ -3,14 +3,14 @@
 use mathlib.Core.Path.{_≡_, refl, sym, ap, _∙_, subst}
 use mathlib.Core.List.{List, [], _∷_, _++_}
 use Prim.Native.Nat.{ℕ, zero, suc, _+_, _-_, _*_, _/_, _%_, _^_, _≤_, _<_}
-use native.Mathlib.Nat.{add-assoc, add-comm, add-zero, zero-add, zero-mul, mul-assoc, add-mul, mul-one, div-one, mod-lt}
+use native.Mathlib.Nat.{add-assoc, add-comm, add-zero, add-suc, zero-add, zero-mul, mul-assoc, add-mul, mul-one, div-one, mod-lt}
 use native.Mathlib.Numerals.{add-one}
 use native.Mathlib.Omega.{arith}
 use mathlib.Core.Bool.{Bool, true, false, _&&_}
 use lib.Dec.{lit<, ltb}
 use borrow.Author.Tests.{ltb-true, lt-ltb, le-ltb}
 use lib.ListN.{length, getD, take, drop, length-append, length-drop, drop-of-length-le}
-use lib.Seq.{getD-drop, take-at, drop-append-add, drop-drop, drop-cons}
+use lib.Seq.{getD-drop, take-at, take-all, take-append-le, drop-append-add, drop-drop, drop-cons}
 use lib.Pow.{pow-pos, pow-add, shr-shr, shl-shr, shr-lt, shl-lt, high, low, split}
 use lib.Arith.{digits-lt, lt-one}
 use Rattle.bits.specs.Bits.{number, bytes, leading, field, put, wholeBytes, Inside}
@@ -202,6 +202,20 @@ bytes-back n bs ws h t l =
     let p : pack 0 ws (cut bs 0 ws) ≡ number (take n bs) =
     rw (leading-zero bs h) at (pack-cut bs 0 ws (omega arith)) ∙ leading-take bs (0 + total ws) n h (omega arith) l ∙ rw e (div-one (number (take n bs))) in
     ap (bytes n) p ∙ bytes-number bs h n l
+
+-- the first bytes of a number are those of its first bits
+pub take-bytes : (n m v : ℕ) → take n (bytes (n + m) v) ≡ bytes n (v / 2 ^ (8 * m))
+unfolding bytes
+take-bytes n zero v =
+    let l : length (bytes n v) ≤ n = omega (arith, length-bytes n v) in
+    rw (add-zero n) (take-all n (bytes n v) l ∙ ap (bytes n) (sym (div-one v)))
+take-bytes n (suc m) v =
+    let l : n ≤ length (bytes (n + m) (v / 2 ^ 8)) = omega (arith, length-bytes (n + m) (v / 2 ^ 8)) in
+    let e : 8 + 8 * m ≡ 8 * suc m = omega arith in
+    rw (add-suc n m)
+    (take-append-le n (bytes (n + m) (v / 2 ^ 8)) (v % 2 ^ 8 ∷ []) l
+    ∙ take-bytes n m (v / 2 ^ 8)
+    ∙ ap (bytes n) (shr-shr v 8 (8 * m) ∙ ap (λ (k : ℕ). v / 2 ^ k) e))
 
 -- ---- the loop that packs: what is left to put, from bit at and value j on, gives the list all
 

@@ -14,7 +14,7 @@ use Rattle.words.specs.Places.{listFrom, removeAt}
 use Rattle.words.specs.Tables.{rows}
 use Rattle.words.proofs.Places.{from-get, from-set, from-push, from-remove, length-from}
 use Rattle.words.proofs.Regions.{part-same, part-before, word-before, part-behind, part-inside, part-length}
-use Rattle.items.specs.Waiting.{bit, stateWords, stateOf, itemOf, wordsOf, rowAt, itemAt, putRow, itemsOf, Sized}
+use Rattle.items.specs.Waiting.{stateWords, stateOf, itemOf, wordsOf, rowAt, itemAt, putRow, itemsOf, Sized}
 use Rattle.rulebook.specs.declared.State.{State}
 use Rattle.rulebook.specs.declared.State.the-variants.{Single, Pair, Trade}
 use Rattle.items.specs.declared.StateWords.{StateWords}

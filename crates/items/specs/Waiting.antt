@@ -1,6 +1,5 @@
 -- The waiting list's words as a list of items.
 use Prim.Native.Nat.{ℕ, _+_, _*_, _/_, _%_, _≤_}
-use mathlib.Core.Bool.{Bool, true, false}
 use mathlib.Core.List.{List, [], _∷_}
 use mathlib.Core.Path.{_≡_}
 use lib.ListN.{length, getD, take, drop}
@@ -9,15 +8,11 @@ use Rattle.rulebook.specs.Lists.{if_then_else_, _is_}
 use Rattle.rulebook.specs.declared.Item.{Item}
 use Rattle.rulebook.specs.declared.State.{State}
 use Rattle.rulebook.specs.declared.State.the-variants.{Single, Pair, Trade}
-use Rattle.words.specs.Places.{listFrom}
+use Rattle.words.specs.Places.{bit, listFrom}
 use Rattle.words.specs.Tables.{rows}
 use Rattle.items.specs.declared.StateWords.{StateWords}
 
 -- ---- a row of 16 words and the item that it holds
-
-abbrev pub bit : Bool → ℕ
-bit true = 1
-bit false = 0
 
 -- which state it is, its references, its marks: 1 for a deliver; 1 for a marked deliver and 2 for a marked receive of a pair
 abbrev pub stateWords : State → StateWords

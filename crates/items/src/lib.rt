@@ -5,7 +5,7 @@ ghost use Prim.Native.Nat.{_+_, _*_, _≤_, _<_};
 ghost use lib.ListN.{length, getD, set};
 ghost use Rattle.words.specs.Places.{removeAt};
 ghost use Rattle.words.specs.Tables.{rows};
-ghost use Rattle.items.specs.Waiting.{Sized, bit, stateOf, stateWords, itemOf, wordsOf, putRow, itemsOf};
+ghost use Rattle.items.specs.Waiting.{Sized, stateOf, stateWords, itemOf, wordsOf, putRow, itemsOf};
 use rulebook::Cents;
 use rulebook::Item;
 use rulebook::Party;
@@ -20,16 +20,6 @@ pub struct StateWords {
     pub marks: u64,
 }
 
-fn bit_of(b: bool) -> u64
-    ensures { λ r. ⌜ r ≡ bit b ⌝ }
-    ensures { λ r. ⌜ r ≤ 1 ⌝ }
-{
-    if b {
-        return 1;
-    }
-    0
-}
-
 fn state_words(s: State) -> StateWords
     ensures { λ r. ⌜ r ≡ stateWords s ⌝ }
 {
@@ -41,7 +31,7 @@ fn state_words(s: State) -> StateWords
             tag: 0,
             first: reference,
             second: 0,
-            marks: bit_of(delivers),
+            marks: words::bit_of(delivers),
         },
         State::Pair {
             deliver_reference,
@@ -52,7 +42,7 @@ fn state_words(s: State) -> StateWords
             tag: 1,
             first: deliver_reference,
             second: receive_reference,
-            marks: bit_of(deliver_marked) + 2 * bit_of(receive_marked),
+            marks: words::bit_of(deliver_marked) + 2 * words::bit_of(receive_marked),
         },
         State::Trade { reference } => StateWords {
             tag: 2,

@@ -1,11 +1,15 @@
--- Places counted from 0: the first that passes a test, and the list of what stands at them.
+-- A flag as a word; places counted from 0: the first that passes a test, and the list of what stands at them.
 use Prim.Native.Nat.{ℕ, zero, suc}
-use mathlib.Core.Bool.{Bool}
+use mathlib.Core.Bool.{Bool, true, false}
 use mathlib.Core.List.{List, [], _∷_, _++_}
 use lib.ListN.{take, drop}
 use Rattle.rulebook.specs.Lists.{if_then_else_}
 use Rattle.words.specs.declared.Found.{Found}
 use Rattle.words.specs.declared.Found.the-variants.{At, Nothing}
+
+abbrev pub bit : Bool → ℕ
+bit true = 1
+bit false = 0
 
 -- the first of the n places from i on that passes the test
 unfoldable pub firstFrom : (ℕ → Bool) → ℕ → ℕ → Found

@@ -3,7 +3,9 @@ ghost use mathlib.Core.Path.{_≡_};
 ghost use Prim.Native.Nat.{_+_, _≤_, _<_};
 ghost use lib.ListN.{length, take, drop};
 ghost use borrow.Rule.Slice.PartMut.{putMid};
-ghost use Rattle.words.specs.Tables.{rows, placeOf};
+ghost use Rattle.words.specs.Places.{bit};
+ghost use Rattle.words.specs.Tables as Tables;
+ghost use Rattle.words.specs.Tables.{rows, placeOf, valueOf, KeysOnce};
 
 // What a search for a place finds.
 pub enum Found {
@@ -11,7 +13,26 @@ pub enum Found {
     Nothing,
 }
 
-// Where the row of `key` stands in a table: word 0 is how many rows there are, and the next words are their keys.
+// A flag as a word.
+pub fn bit_of(b: bool) -> u64
+    ensures { λ r. ⌜ r ≡ bit b ⌝ }
+    ensures { λ r. ⌜ r ≤ 1 ⌝ }
+{
+    if b {
+        return 1;
+    }
+    0
+}
+
+// How many rows a table has: its first word.
+pub fn rows(table: &[u64]) -> u64
+    requires { ⌜ 0 < length (now table) ⌝ }
+    ensures { λ r. ⌜ r ≡ Tables.rows (now (table .entry)) ⌝ }
+{
+    table[0]
+}
+
+// Where the row of `key` stands in a table, whose keys are the words behind its first.
 pub fn find(table: &[u64], key: u64) -> Found
     requires { ⌜ rows (now table) < length (now table) ⌝ }
     ensures { λ r. ⌜ r ≡ placeOf key (now (table .entry)) ⌝ }
@@ -25,6 +46,18 @@ pub fn find(table: &[u64], key: u64) -> Found
         i += 1;
     }
     Found::Nothing
+}
+
+// What the row of `key` has in the column that starts at `column`: 0 where there is none.
+pub fn value(table: &[u64], key: u64, column: usize) -> u64
+    requires { ⌜ KeysOnce (now table) × (1 ≤ column) × (rows (now table) + column ≤ length (now table)) ⌝ }
+    ensures { λ r. ⌜ r ≡ valueOf column (now (table .entry)) key ⌝ }
+{
+    let found = find(table, key);
+    match found {
+        Found::At(i) => table[i + column],
+        Found::Nothing => 0,
+    }
 }
 
 // The words of `s` go over those from `at` on.

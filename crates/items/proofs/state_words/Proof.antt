@@ -2,7 +2,8 @@
 use mathlib.Core.Path.{_≡_, refl, sym, ap, _∙_}
 use Prim.Native.Nat.{ℕ, _+_, _*_}
 use borrow.Author.Needs.{needs}
-use Rattle.items.specs.Waiting.{bit, stateWords}
+use Rattle.words.specs.Places.{bit}
+use Rattle.items.specs.Waiting.{stateWords}
 use Rattle.rulebook.specs.declared.State.{State}
 use Rattle.rulebook.specs.declared.State.the-variants.{Single, Pair, Trade}
 use Rattle.items.specs.declared.StateWords.{StateWords}

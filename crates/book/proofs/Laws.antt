@@ -1,0 +1,96 @@
+-- A part of a book is changed: what the book means then, and what stays true of it. Assumes nothing.
+use Prim.Native.Nat.{ℕ, _≤_, _<_}
+use native.Mathlib.Omega.{arith}
+use mathlib.Core.List.{List}
+use mathlib.Core.Path.{_≡_, refl, sym, ap, _∙_, subst}
+use lib.ListN.{length, getD, length-take, length-drop}
+use lib.Seq.{length-take-le}
+use Rattle.rulebook.specs.Lists.{if_then_else_, _is_}
+use Rattle.rulebook.specs.Ledger.{Ledger, Holdings, putDay, putHoldings, putWaiting}
+use Rattle.rulebook.specs.declared.Day.{Day}
+use Rattle.rulebook.specs.declared.Item.{Item}
+use Rattle.words.specs.Regions.{region, putRegion, startOf}
+use Rattle.words.specs.Tables.{rows}
+use Rattle.words.proofs.Regions.{region-put, region-length, end-within}
+use Rattle.securities.specs.Admitted.{securitiesOf, withSecurities}
+use Rattle.securities.specs.Admitted as securities
+use Rattle.accounts.specs.Map.{balanceOf, withAccounts}
+use Rattle.accounts.specs.Map as accounts
+use Rattle.cash.specs.Amounts.{amountOf, withCash}
+use Rattle.items.specs.Waiting.{itemsOf}
+use Rattle.items.specs.Waiting as items
+use Rattle.book.specs.Meaning.{widths, DAY, SECURITIES, ACCOUNTS, CASH, ITEMS, part, dayIn, holdingsBy, ledgerBy, holdingsOf, waitingOf, ledgerOf}
+use Rattle.book.specs.Stored.{StoredBy, Stored, Means}
+
+-- ---- the region law at this book's widths: part r is changed
+
+module _ (r : ℕ) (known : r < 5) (xs : List ℕ) (stored : Stored xs) (ys : List ℕ) (wide : length ys ≡ getD widths r 0) where
+  -- part s of the book with ys in the place of part r
+  each : (s : ℕ) → s < 5 → part s (putRegion widths r xs ys) ≡ (if s is r then ys else part s xs)
+  each s h = region-put widths r s xs ys (omega (arith, stored.long)) known h wide
+
+  pub put-ledger : ledgerOf (putRegion widths r xs ys) ≡ ledgerBy (λ s. if s is r then ys else part s xs)
+  unfolding holdingsOf waitingOf
+  put-ledger = λ i. record {
+    day = dayIn (each DAY (omega arith) i);
+    holdings =
+        record {
+          securities = securitiesOf (each SECURITIES (omega arith) i);
+          balance = balanceOf (each ACCOUNTS (omega arith) i);
+          accounts = rows (each ACCOUNTS (omega arith) i);
+          cash = amountOf (each CASH (omega arith) i);
+        };
+    waiting = itemsOf (each ITEMS (omega arith) i);
+  }
+
+  pub put-stored : StoredBy (λ s. if s is r then ys else part s xs) → Stored (putRegion widths r xs ys)
+  put-stored k = record {
+    long = region-length widths r xs ys (omega (arith, stored.long)) known wide ∙ stored.long;
+    parts =
+        record {
+          opened = subst (λ (l : List ℕ). getD l 1 0 ≤ 1) (sym (each DAY (omega arith))) k.opened;
+          securities = subst (λ (l : List ℕ). securities.Kept l) (sym (each SECURITIES (omega arith))) k.securities;
+          accounts = subst (λ (l : List ℕ). accounts.Kept l) (sym (each ACCOUNTS (omega arith))) k.accounts;
+          items = subst (λ (l : List ℕ). items.Sized l) (sym (each ITEMS (omega arith))) k.items;
+        };
+  }
+
+-- a part is as long as its width
+pub part-long : (r : ℕ) → r < 5 → (xs : List ℕ) → Stored xs → length (part r xs) ≡ getD widths r 0
+part-long r known xs stored = length-take-le (getD widths r 0) _ (rw length-drop (omega (arith, end-within widths r known, stored.long)))
+
+-- ---- what a function of a part says, told of the whole book
+
+module _ (xs : List ℕ) (stored : Stored xs) (ys : List ℕ) where
+  step : (r : ℕ) → r < 5 → length ys ≡ getD widths r 0 → (b : Ledger) → StoredBy (λ s. if s is r then ys else part s xs) → ledgerBy (λ s. if s is r then ys else part s xs) ≡ b → Means (putRegion widths r xs ys) b
+  step r known wide b kept e = record { stored = put-stored r known xs stored ys wide kept; ledger = put-ledger r known xs stored ys wide ∙ e }
+
+  pub day-step : (d : Day) → length ys ≡ 8 → getD ys 1 0 ≤ 1 → dayIn ys ≡ d → Means (putRegion widths DAY xs ys) (putDay d (ledgerOf xs))
+  unfolding putDay holdingsOf waitingOf
+  day-step d wide opened e =
+      step DAY (omega arith) wide (putDay d (ledgerOf xs)) (record { opened = opened; securities = stored.parts.securities; accounts = stored.parts.accounts; items = stored.parts.items })
+      (λ i. record { day = e i; holdings = holdingsOf xs; waiting = waitingOf xs })
+
+  pub securities-step : (h : Holdings) → securities.Kept ys → withSecurities ys (holdingsOf xs) ≡ h → Means (putRegion widths SECURITIES xs ys) (putHoldings h (ledgerOf xs))
+  unfolding putHoldings holdingsOf waitingOf
+  securities-step h kept e =
+      step SECURITIES (omega arith) kept.long (putHoldings h (ledgerOf xs)) (record { opened = stored.parts.opened; securities = kept; accounts = stored.parts.accounts; items = stored.parts.items })
+      (ap (λ (x : Holdings). putHoldings x (ledgerOf xs)) e)
+
+  pub accounts-step : (h : Holdings) → accounts.Kept ys → withAccounts ys (holdingsOf xs) ≡ h → Means (putRegion widths ACCOUNTS xs ys) (putHoldings h (ledgerOf xs))
+  unfolding putHoldings holdingsOf waitingOf
+  accounts-step h kept e =
+      step ACCOUNTS (omega arith) kept.long (putHoldings h (ledgerOf xs)) (record { opened = stored.parts.opened; securities = stored.parts.securities; accounts = kept; items = stored.parts.items })
+      (ap (λ (x : Holdings). putHoldings x (ledgerOf xs)) e)
+
+  pub cash-step : (h : Holdings) → length ys ≡ 128 → withCash ys (holdingsOf xs) ≡ h → Means (putRegion widths CASH xs ys) (putHoldings h (ledgerOf xs))
+  unfolding putHoldings holdingsOf waitingOf
+  cash-step h wide e =
+      step CASH (omega arith) wide (putHoldings h (ledgerOf xs)) (record { opened = stored.parts.opened; securities = stored.parts.securities; accounts = stored.parts.accounts; items = stored.parts.items })
+      (ap (λ (x : Holdings). putHoldings x (ledgerOf xs)) e)
+
+  pub items-step : (l : List Item) → items.Sized ys → itemsOf ys ≡ l → Means (putRegion widths ITEMS xs ys) (putWaiting l (ledgerOf xs))
+  unfolding putWaiting holdingsOf waitingOf
+  items-step l sized e =
+      step ITEMS (omega arith) sized.long (putWaiting l (ledgerOf xs)) (record { opened = stored.parts.opened; securities = stored.parts.securities; accounts = stored.parts.accounts; items = sized })
+      (ap (λ (x : List Item). putWaiting x (ledgerOf xs)) e)

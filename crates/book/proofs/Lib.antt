@@ -1,0 +1,3 @@
+-- The laws of a book's parts.
+pub mod Laws
+pub mod Zeros

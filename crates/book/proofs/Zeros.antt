@@ -1,0 +1,72 @@
+-- The zero words are stored right and mean the fresh ledger. Assumes nothing.
+use Prim.Native.Nat.{ℕ, zero, suc, _+_, _≤_, _<_}
+use native.Mathlib.Numerals.{add-one}
+use native.Mathlib.Omega.{arith}
+use mathlib.Core.Bool.{Bool, true, false}
+use mathlib.Core.List.{List, [], _∷_, _++_}
+use mathlib.Core.Path.{_≡_, refl, sym, ap, _∙_, fun-ext}
+use lib.ListN.{length, getD, set, take, replicate, replicate-append-replicate}
+use lib.Seq.{take-suc-set}
+use Rattle.rulebook.specs.Lists.{if_then_else_}
+use Rattle.rulebook.specs.Ledger.{Ledger, fresh, sumBelow}
+use Rattle.rulebook.specs.declared.Account.{Account}
+use Rattle.words.specs.Places.{listFrom}
+use Rattle.words.specs.Tables.{sumOf, valueOf}
+use Rattle.securities.specs.Admitted.{securitiesOf}
+use Rattle.accounts.specs.Keys.{inRange}
+use Rattle.accounts.specs.Map.{balanceOf}
+use Rattle.cash.specs.Amounts.{kept, place, amountOf}
+use Rattle.items.specs.Waiting.{itemsOf}
+use Rattle.book.specs.Meaning.{ACCOUNTS, CASH, part, holdingsOf, waitingOf, ledgerOf}
+use Rattle.book.specs.Stored.{Stored, Means}
+use Rattle.book.specs.Zeros.{zeros}
+
+zero-word : (n i : ℕ) → _≡_ {A = ℕ} (getD (replicate n 0) i 0) 0
+zero-word zero i = refl
+zero-word (suc n) zero = refl
+zero-word (suc n) (suc i) = zero-word n i
+
+no-balance : (a : Account) → balanceOf (part ACCOUNTS zeros) a ≡ 0
+unfolding balanceOf valueOf sumOf sumBelow
+no-balance a = go (inRange a)
+  where
+    go : (b : Bool) → _≡_ {A = ℕ} (if b then 0 else 0) 0
+    go true = refl
+    go false = refl
+
+no-cash : (member currency : ℕ) → amountOf (part CASH zeros) member currency ≡ 0
+unfolding amountOf
+no-cash m c = go (kept m c)
+  where
+    go : (b : Bool) → _≡_ {A = ℕ} (if b then getD (replicate 128 0) (place m c) 0 else 0) 0
+    go true = zero-word 128 (place m c)
+    go false = refl
+
+stored : Stored zeros
+unfolding sumOf sumBelow
+stored = record {
+  long = refl;
+  parts =
+      record {
+        opened = omega arith;
+        securities = record { long = refl; size = omega arith; once = λ key. omega arith };
+        accounts = record { long = refl; size = omega arith; once = λ key. omega arith; some = refl; keys = refl };
+        items = record { long = refl; size = omega arith };
+      };
+}
+
+ledger : ledgerOf zeros ≡ fresh
+unfolding fresh holdingsOf waitingOf securitiesOf itemsOf listFrom
+ledger = λ i. record {
+  day = fresh .day;
+  holdings = record { securities = []; balance = fun-ext no-balance i; accounts = 0; cash = fun-ext (λ m. fun-ext (no-cash m)) i };
+  waiting = [];
+}
+
+pub zeros-mean : Means zeros fresh
+zeros-mean = record { stored = stored; ledger = ledger }
+
+-- ---- the words so far
+
+pub zeros-more : (w : List ℕ) (i : ℕ) → i < length w → take i w ≡ replicate i 0 → take (i + 1) (set w i 0) ≡ replicate (i + 1) 0
+zeros-more w i l e = rw add-one (take-suc-set w i 0 l ∙ ap (λ (x : List ℕ). x ++ (0 ∷ [])) e ∙ replicate-append-replicate i 1 0 ∙ rw add-one)

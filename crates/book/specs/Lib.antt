@@ -1,0 +1,4 @@
+-- What a book of words means, and what is kept true of it.
+pub mod Meaning
+pub mod Stored
+pub mod Zeros

@@ -1,0 +1,64 @@
+-- What a book of words means in the rulebook.
+use Prim.Native.Nat.{ℕ}
+use mathlib.Core.List.{List, [], _∷_}
+use lib.ListN.{getD}
+use Rattle.rulebook.specs.Lists.{_is_}
+use Rattle.rulebook.specs.Ledger.{Ledger, Holdings}
+use Rattle.rulebook.specs.declared.Day.{Day}
+use Rattle.rulebook.specs.declared.Item.{Item}
+use Rattle.words.specs.Regions.{region}
+use Rattle.words.specs.Tables.{rows}
+use Rattle.securities.specs.Admitted.{securitiesOf}
+use Rattle.accounts.specs.Map.{balanceOf}
+use Rattle.cash.specs.Amounts.{amountOf}
+use Rattle.items.specs.Waiting.{itemsOf}
+
+-- the day, the securities, the accounts, the members' cash, the waiting list
+abbrev pub widths : List ℕ
+widths = 8 ∷ 97 ∷ 513 ∷ 128 ∷ 1025 ∷ []
+
+abbrev pub DAY : ℕ
+DAY = 0
+
+abbrev pub SECURITIES : ℕ
+SECURITIES = 1
+
+abbrev pub ACCOUNTS : ℕ
+ACCOUNTS = 2
+
+abbrev pub CASH : ℕ
+CASH = 3
+
+abbrev pub ITEMS : ℕ
+ITEMS = 4
+
+abbrev pub part : ℕ → List ℕ → List ℕ
+part r book = region widths r book
+
+-- the day's words: its number, 1 where it is open, its kind, cycles run, last minute
+abbrev pub dayIn : List ℕ → Day
+dayIn d = record { number = getD d 0 0; opened = getD d 1 0 is 1; kind = getD d 2 0; cycles = getD d 3 0; minute = getD d 4 0 }
+
+-- what five parts mean together
+abbrev pub holdingsBy : (ℕ → List ℕ) → Holdings
+holdingsBy p =
+    record {
+      securities = securitiesOf (p SECURITIES);
+      balance = balanceOf (p ACCOUNTS);
+      accounts = rows (p ACCOUNTS);
+      cash = amountOf (p CASH);
+    }
+
+abbrev pub ledgerBy : (ℕ → List ℕ) → Ledger
+ledgerBy p = record { day = dayIn (p DAY); holdings = holdingsBy p; waiting = itemsOf (p ITEMS) }
+
+-- the holdings and the waiting list of a book
+unfoldable pub holdingsOf : List ℕ → Holdings
+holdingsOf book = holdingsBy (λ r. part r book)
+
+unfoldable pub waitingOf : List ℕ → List Item
+waitingOf book = itemsOf (part ITEMS book)
+
+-- the ledger that a book means
+abbrev pub ledgerOf : List ℕ → Ledger
+ledgerOf book = record { day = dayIn (part DAY book); holdings = holdingsOf book; waiting = waitingOf book }

@@ -1,0 +1,268 @@
+// The book: one buffer of 1771 words that the caller owns and lends, in five regions. A region's functions are lent that region alone.
+ghost use mathlib.Core.Path.{_≡_};
+ghost use mathlib.Core.Bool.{false};
+ghost use mathlib.Core.List.{_++_, _∷_, []};
+ghost use Prim.Native.Nat.{_+_, _^_, _≤_, _<_};
+ghost use lib.ListN.{length, getD, set};
+ghost use Rattle.rulebook.specs.Ledger.{putDay, putHoldings, putWaiting, putSecurities, admitted, issuedOf, outsideOf, cashTotal};
+ghost use Rattle.rulebook.specs.Movements as movements;
+ghost use Rattle.rulebook.specs.Premise.{CashFits};
+ghost use Rattle.words.specs.Places.{removeAt};
+ghost use Rattle.accounts.specs.Keys.{InRange};
+ghost use Rattle.accounts.specs.Map.{CreditFits};
+ghost use Rattle.book.specs.Meaning.{dayIn, ledgerOf};
+ghost use Rattle.book.specs.Stored.{Stored, Means};
+ghost use Rattle.book.specs.Zeros.{Freshened};
+use rulebook::Account;
+use rulebook::Cents;
+use rulebook::Day;
+use rulebook::Item;
+use rulebook::Security;
+use rulebook::Shares;
+
+const DAY: usize = 0;
+
+const SECURITIES: usize = 8;
+
+const ACCOUNTS: usize = 105;
+
+const CASH: usize = 618;
+
+const ITEMS: usize = 746;
+
+const END: usize = 1771;
+
+// ---- the day
+
+// The day that a region of 8 words holds.
+fn day_in(day: &[u64]) -> Day
+    requires { ⌜ length (now day) ≡ 8 ⌝ }
+    ensures { λ r. ⌜ r ≡ dayIn (now (day .entry)) ⌝ }
+{
+    let opened = day[1] == 1;
+    Day {
+        number: day[0],
+        opened: opened,
+        kind: day[2],
+        cycles: day[3],
+        minute: day[4],
+    }
+}
+
+fn put_day_in(words: &mut [u64], day: Day)
+    requires { ⌜ length (now words) ≡ 8 ⌝ }
+    ensures { λ u. ⌜ (dayIn (now (words .exit)) ≡ day) × (getD (now (words .exit)) 1 0 ≤ 1) ⌝ }
+{
+    let opened = words::bit_of(day.opened);
+    let values = [day.number, opened, day.kind, day.cycles, day.minute];
+    words::write(words, 0, &values);
+}
+
+// The day.
+pub fn day(book: &[u64]) -> Day
+    requires { ⌜ Stored (now book) ⌝ }
+    ensures { λ r. ⌜ r ≡ ledgerOf (now (book .entry)) .day ⌝ }
+{
+    day_in(&book[DAY..SECURITIES])
+}
+
+// Another day.
+pub fn put_day(book: &mut [u64], day: Day)
+    requires { ⌜ Stored (now book) ⌝ }
+    ensures { λ u. ⌜ Means (now (book .exit)) (putDay day (ledgerOf (now (book .entry)))) ⌝ }
+{
+    put_day_in(&mut book[DAY..SECURITIES], day);
+}
+
+// ---- accounts
+
+// How many accounts there are.
+pub fn accounts(book: &[u64]) -> u64
+    requires { ⌜ Stored (now book) ⌝ }
+    ensures { λ r. ⌜ r ≡ ledgerOf (now (book .entry)) .holdings .accounts ⌝ }
+{
+    words::rows(&book[ACCOUNTS..CASH])
+}
+
+// The account's balance.
+pub fn balance(book: &[u64], account: Account) -> Shares
+    requires { ⌜ Stored (now book) × InRange account ⌝ }
+    ensures { λ r. ⌜ r .0 ≡ ledgerOf (now (book .entry)) .holdings .balance account ⌝ }
+{
+    accounts::balance(&book[ACCOUNTS..CASH], account)
+}
+
+// More in the account.
+pub fn credit(book: &mut [u64], account: Account, quantity: Shares)
+    requires { ⌜ Stored (now book) × CreditFits account (ledgerOf (now book) .holdings .balance account) (ledgerOf (now book) .holdings .accounts) (quantity .0) ⌝ }
+    ensures { λ u. ⌜ Means (now (book .exit)) (putHoldings (movements.credit (movements.account account) (quantity .0) (ledgerOf (now (book .entry)) .holdings)) (ledgerOf (now (book .entry)))) ⌝ }
+{
+    accounts::credit(&mut book[ACCOUNTS..CASH], account, quantity);
+}
+
+// Less in the account.
+pub fn debit(book: &mut [u64], account: Account, quantity: Shares)
+    requires { ⌜ Stored (now book) × (0 < quantity .0) × (quantity .0 ≤ ledgerOf (now book) .holdings .balance account) ⌝ }
+    ensures { λ u. ⌜ Means (now (book .exit)) (putHoldings (movements.debit (movements.account account) (quantity .0) (ledgerOf (now (book .entry)) .holdings)) (ledgerOf (now (book .entry)))) ⌝ }
+{
+    accounts::debit(&mut book[ACCOUNTS..CASH], account, quantity);
+}
+
+// ---- the waiting list
+
+// How many items wait.
+pub fn items(book: &[u64]) -> usize
+    requires { ⌜ Stored (now book) ⌝ }
+    ensures { λ r. ⌜ r ≡ length (ledgerOf (now (book .entry)) .waiting) ⌝ }
+{
+    words::rows(&book[ITEMS..END]) as usize
+}
+
+// The item at `i`.
+pub fn item_at(book: &[u64], i: usize) -> Item
+    requires { ⌜ Stored (now book) × (i < length (ledgerOf (now book) .waiting)) ⌝ }
+    ensures { λ r. ⌜ ((d : Item) → r ≡ getD (ledgerOf (now (book .entry)) .waiting) i d) ⌝ }
+{
+    items::item_at(&book[ITEMS..END], i)
+}
+
+// The item takes the place of the one at `i`.
+pub fn put_item(book: &mut [u64], i: usize, item: Item)
+    requires { ⌜ Stored (now book) × (i < length (ledgerOf (now book) .waiting)) ⌝ }
+    ensures { λ u. ⌜ Means (now (book .exit)) (putWaiting (set (ledgerOf (now (book .entry)) .waiting) i item) (ledgerOf (now (book .entry)))) ⌝ }
+{
+    items::put_item(&mut book[ITEMS..END], i, item);
+}
+
+// The item goes last.
+pub fn push(book: &mut [u64], item: Item)
+    requires { ⌜ Stored (now book) × (length (ledgerOf (now book) .waiting) < 64) ⌝ }
+    ensures { λ u. ⌜ Means (now (book .exit)) (putWaiting (ledgerOf (now (book .entry)) .waiting ++ (item ∷ [])) (ledgerOf (now (book .entry)))) ⌝ }
+{
+    items::push(&mut book[ITEMS..END], item);
+}
+
+// The item at `i` is removed, the others stay in their order.
+pub fn remove(book: &mut [u64], i: usize)
+    requires { ⌜ Stored (now book) × (i < length (ledgerOf (now book) .waiting)) ⌝ }
+    ensures { λ u. ⌜ Means (now (book .exit)) (putWaiting (removeAt i (ledgerOf (now (book .entry)) .waiting)) (ledgerOf (now (book .entry)))) ⌝ }
+{
+    items::remove(&mut book[ITEMS..END], i);
+}
+
+// ---- cash
+
+// The member's cash in a currency.
+pub fn cash(book: &[u64], member: u64, currency: u64) -> Cents
+    requires { ⌜ Stored (now book) × CashFits member currency ⌝ }
+    ensures { λ r. ⌜ r .0 ≡ ledgerOf (now (book .entry)) .holdings .cash member currency ⌝ }
+{
+    cash::amount(&book[CASH..ITEMS], member, currency)
+}
+
+// More cash for the member.
+pub fn credit_cash(book: &mut [u64], member: u64, currency: u64, amount: Cents)
+    requires { ⌜ Stored (now book) × CashFits member currency × (ledgerOf (now book) .holdings .cash member currency + amount .0 < 2 ^ 64) ⌝ }
+    ensures { λ u. ⌜ Means (now (book .exit)) (putHoldings (movements.credit (movements.cashOf member currency) (amount .0) (ledgerOf (now (book .entry)) .holdings)) (ledgerOf (now (book .entry)))) ⌝ }
+{
+    cash::credit(&mut book[CASH..ITEMS], member, currency, amount);
+}
+
+// Less cash for the member.
+pub fn debit_cash(book: &mut [u64], member: u64, currency: u64, amount: Cents)
+    requires { ⌜ Stored (now book) × CashFits member currency × (amount .0 ≤ ledgerOf (now book) .holdings .cash member currency) ⌝ }
+    ensures { λ u. ⌜ Means (now (book .exit)) (putHoldings (movements.debit (movements.cashOf member currency) (amount .0) (ledgerOf (now (book .entry)) .holdings)) (ledgerOf (now (book .entry)))) ⌝ }
+{
+    cash::debit(&mut book[CASH..ITEMS], member, currency, amount);
+}
+
+// A currency's total over all members.
+pub fn cash_total(book: &[u64], currency: u64) -> Cents
+    requires { ⌜ Stored (now book) × (1 ≤ currency) × (currency ≤ 2) × (cashTotal currency (ledgerOf (now book) .holdings) < 2 ^ 64) ⌝ }
+    ensures { λ r. ⌜ r .0 ≡ cashTotal currency (ledgerOf (now (book .entry)) .holdings) ⌝ }
+{
+    cash::total(&book[CASH..ITEMS], currency)
+}
+
+// ---- securities
+
+// How many securities are admitted.
+pub fn securities(book: &[u64]) -> usize
+    requires { ⌜ Stored (now book) ⌝ }
+    ensures { λ r. ⌜ r ≡ length (ledgerOf (now (book .entry)) .holdings .securities) ⌝ }
+{
+    words::rows(&book[SECURITIES..ACCOUNTS]) as usize
+}
+
+// The security at `i`, in order of admission.
+pub fn security_at(book: &[u64], i: usize) -> Security
+    requires { ⌜ Stored (now book) × (i < length (ledgerOf (now book) .holdings .securities)) ⌝ }
+    ensures { λ r. ⌜ ((d : Security) → r ≡ getD (ledgerOf (now (book .entry)) .holdings .securities) i d) ⌝ }
+{
+    securities::security_at(&book[SECURITIES..ACCOUNTS], i)
+}
+
+// Whether the security is admitted.
+pub fn admitted(book: &[u64], security: u64) -> bool
+    requires { ⌜ Stored (now book) ⌝ }
+    ensures { λ r. ⌜ r ≡ admitted security (ledgerOf (now (book .entry)) .holdings) ⌝ }
+{
+    securities::admitted(&book[SECURITIES..ACCOUNTS], security)
+}
+
+// The security's issued count.
+pub fn issued(book: &[u64], security: u64) -> Shares
+    requires { ⌜ Stored (now book) ⌝ }
+    ensures { λ r. ⌜ r .0 ≡ issuedOf security (ledgerOf (now (book .entry)) .holdings) ⌝ }
+{
+    securities::issued(&book[SECURITIES..ACCOUNTS], security)
+}
+
+// The security's outside count.
+pub fn outside(book: &[u64], security: u64) -> Shares
+    requires { ⌜ Stored (now book) ⌝ }
+    ensures { λ r. ⌜ r .0 ≡ outsideOf security (ledgerOf (now (book .entry)) .holdings) ⌝ }
+{
+    securities::outside(&book[SECURITIES..ACCOUNTS], security)
+}
+
+// The security is admitted, all of it outside.
+pub fn admit(book: &mut [u64], security: u64, quantity: Shares)
+    requires { ⌜ Stored (now book) × (length (ledgerOf (now book) .holdings .securities) < 32) × (admitted security (ledgerOf (now book) .holdings) ≡ false) ⌝ }
+    ensures { λ u. ⌜ Means (now (book .exit)) (putHoldings (putSecurities (ledgerOf (now (book .entry)) .holdings .securities ++ (record { code = security; issued = quantity; outside = quantity } ∷ [])) (ledgerOf (now (book .entry)) .holdings)) (ledgerOf (now (book .entry)))) ⌝ }
+{
+    securities::admit(&mut book[SECURITIES..ACCOUNTS], security, quantity);
+}
+
+// More of the security outside.
+pub fn credit_outside(book: &mut [u64], security: u64, quantity: Shares)
+    requires { ⌜ Stored (now book) × (outsideOf security (ledgerOf (now book) .holdings) + quantity .0 < 2 ^ 64) ⌝ }
+    ensures { λ u. ⌜ Means (now (book .exit)) (putHoldings (movements.credit (movements.type91 security) (quantity .0) (ledgerOf (now (book .entry)) .holdings)) (ledgerOf (now (book .entry)))) ⌝ }
+{
+    securities::credit_outside(&mut book[SECURITIES..ACCOUNTS], security, quantity);
+}
+
+// Less of the security outside.
+pub fn debit_outside(book: &mut [u64], security: u64, quantity: Shares)
+    requires { ⌜ Stored (now book) × (quantity .0 ≤ outsideOf security (ledgerOf (now book) .holdings)) ⌝ }
+    ensures { λ u. ⌜ Means (now (book .exit)) (putHoldings (movements.debit (movements.type91 security) (quantity .0) (ledgerOf (now (book .entry)) .holdings)) (ledgerOf (now (book .entry)))) ⌝ }
+{
+    securities::debit_outside(&mut book[SECURITIES..ACCOUNTS], security, quantity);
+}
+
+// ---- the fresh book
+
+// The fresh book, in a buffer of 1771 words. Another one is left as it is.
+pub fn fresh(book: &mut [u64]) -> bool
+    ensures { λ r. ⌜ Freshened (now (book .entry)) r (now (book .exit)) ⌝ }
+{
+    if book.len() != END {
+        return false;
+    }
+    let mut i: usize = 0;
+    while i < END {
+        book[i] = 0;
+        i += 1;
+    }
+    true
+}

@@ -1,0 +1,4 @@
+pub mod Below
+pub mod FieldsBelow
+pub mod Answers
+pub mod RoundTrips

@@ -1,0 +1,12 @@
+-- `record::layout::fields_of` meets its contract: field by field. Assumes nothing.
+use mathlib.Core.Path.{refl}
+use Rattle.rulebook.specs.Record.{fieldsOf}
+use Rattle.record.proofs.layout.fields_of.Statement.{statement}
+use Rattle.record.proofs.layout.fields_of.Tie as tie
+
+returns : tie.Need-returns
+unfolding fieldsOf
+returns c = refl
+
+pub fields-of-spec : {M : Type 1} → statement M
+fields-of-spec = tie.close (tie.spec returns)

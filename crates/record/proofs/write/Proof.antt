@@ -1,0 +1,57 @@
+-- `record::write` meets its contract: what is packed from bit 0 on is the record's bytes. Assumes nothing.
+use mathlib.Core.Path.{_≡_, refl, sym, ap, _∙_}
+use mathlib.Core.List.{List, _++_}
+use Prim.Native.Nat.{ℕ}
+use native.Mathlib.Omega.{arith}
+use borrow.Author.Needs.{needs}
+use borrow.Author.Tests.{lt-ltb}
+use lib.ListN.{drop}
+use Rattle.bits.specs.Bits.{put}
+use Rattle.bits.specs.Layout.{pack}
+use Rattle.bits.proofs.Packing.{put-front}
+use Rattle.rulebook.specs.Record.{widths, fieldsOf, recordOf, writeRefusal, writtenOf, areaWritten}
+use Rattle.rulebook.specs.declared.Order.{Order}
+use Rattle.record.specs.Fields.{fieldsRefusal}
+use Rattle.record.proofs.Answers.{write-refused, write-record, write-fits}
+use Rattle.record.proofs.write.Statement.{statement}
+use Rattle.record.proofs.write.Tie as tie
+
+returns : tie.Need-returns
+unfolding writtenOf areaWritten writeRefusal
+returns c = simp (lt-ltb _ _ (c .if1 .taken)) (refl, refl)
+
+pack-bits-requires : tie.Need-pack-bits-requires
+unfolding widths
+pack-bits-requires c κs = (
+  search needs,
+  search needs,
+  omega arith,
+  rw (c .before .before .before .before .before .before .fields-of .ensures) (write-fits _ (ap fieldsRefusal (sym (c .before .before .before .before .before .before .fields-of .ensures)) ∙ sym (c .before .before .before .before .refusal .ensures) ∙ c .before .before .before .if2 .taken)),
+)
+
+returns-2 : tie.Need-returns-2
+unfolding recordOf widths
+returns-2 c =
+    let order : Order = c .before .before .before .before .before .before .before .before .before .before .before .before .args .order in
+    let area : List ℕ = c .before .before .before .before .before .before .before .before .before .before .before .before .args .area .now in
+    let done = write-record order area _ (c .before .before .before .before .before .before .before .before .before .before .if1 .left) (c .before .before .before .before .before .before .before .refusal .ensures ∙ ap fieldsRefusal (c .before .before .before .before .before .before .before .before .before .fields-of .ensures)) (c .before .before .before .before .before .before .if2 .taken) in
+    let packed : put area 0 320 (pack 0 widths (c .before .before .before .before .before .before .before .before .before .fields-of .result)) ≡ recordOf order ++ drop 40 area =
+    ap (λ (values : List ℕ). put area 0 320 (pack 0 widths values)) (c .before .before .before .before .before .before .before .before .before .fields-of .ensures) ∙ put-front area 40 (pack 0 widths (fieldsOf order)) (λ i. c .before .before .before .before .before .before .before .before .before .before .before .slice-known .given i .fits) in
+    (done .0, c .before .before .pack-bits .ensures ∙ packed ∙ done .1)
+
+returns-3 : tie.Need-returns-3
+returns-3 c = write-refused _ _ _ (c .before .before .before .before .if1 .left) (c .before .refusal .ensures ∙ ap fieldsRefusal (c .before .before .before .fields-of .ensures)) (c .if2 .left)
+
+pub write-spec : {M : Type 1} → statement M
+write-spec =
+    tie.close
+    (tie.spec
+    returns
+    (λ c κs. search needs)
+    (λ c κs. search needs)
+    (λ c. search needs)
+    (λ c. search needs)
+    pack-bits-requires
+    (λ c. search needs)
+    returns-2
+    returns-3)

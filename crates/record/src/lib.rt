@@ -1,0 +1,41 @@
+// The record reader and the record writer.
+mod layout;
+mod places;
+mod refusals;
+
+ghost use mathlib.Core.Path.{_≡_};
+ghost use Rattle.rulebook.specs.Record.{readOf, writtenOf, areaWritten};
+use rulebook::Order;
+use rulebook::Read;
+use rulebook::Written;
+
+// The order that a record of any bytes holds, or the first refusal that applies.
+pub fn read(record: &[u8]) -> Read
+    ensures { λ r. ⌜ r ≡ readOf (now («record» .entry)) ⌝ }
+{
+    if record.len() != 40 {
+        return Read::Refused(2);
+    }
+    let fields = layout::fields_in(record);
+    let number = refusals::refusal(&fields);
+    if number != 0 {
+        return Read::Refused(number);
+    }
+    Read::Order(layout::order_of(&fields))
+}
+
+// Writes the order's 40 bytes at the area's start and keeps the bytes after them. A refusal leaves the area as it was.
+pub fn write(order: Order, area: &mut [u8]) -> Written
+    ensures { λ r. ⌜ (r ≡ writtenOf order (now (area .entry))) × (now (area .exit) ≡ areaWritten order (now (area .entry))) ⌝ }
+{
+    if area.len() < 40 {
+        return Written::Refused(1);
+    }
+    let fields = layout::fields_of(order);
+    let number = refusals::refusal(&fields);
+    if number == 0 {
+        bits::pack_bits(area, &layout::WIDTHS, &fields);
+        return Written::Record;
+    }
+    Written::Refused(number)
+}

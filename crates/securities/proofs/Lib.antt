@@ -1,0 +1,2 @@
+-- The laws of the securities' words.
+pub mod Laws

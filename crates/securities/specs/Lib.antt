@@ -1,0 +1,2 @@
+-- The securities of a book.
+pub mod Admitted

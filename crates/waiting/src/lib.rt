@@ -1,0 +1,418 @@
+// The rules for one waiting item: who sent it, what it pairs with, its marks, how it leaves at close.
+ghost use mathlib.Core.Path.{_≡_};
+ghost use mathlib.Core.Bool.{not};
+ghost use Prim.Native.Nat.{_+_, _<_, _^_};
+ghost use Rattle.rulebook.specs.Waiting.{itemOf, isDeliver, isReceive, ownReference, sidesOf, senderOf, sentBy, notCancellable, withState, marked, bothMarked, unmarked};
+ghost use Rattle.rulebook.specs.Matching.{tolerance, agree, pairsWith, pairOf};
+ghost use Rattle.rulebook.specs.Close.{closeKind};
+use rulebook::Item;
+use rulebook::Order;
+use rulebook::State;
+
+// ---- an order as an item
+
+pub fn item_of(state: State, order: Order) -> Item
+    ensures { λ r. ⌜ r ≡ itemOf state order ⌝ }
+{
+    let debited = order.debited;
+    let credited = order.credited;
+    let quantity = order.quantity;
+    let amount = order.amount;
+    Item {
+        security: order.security,
+        currency: order.currency,
+        debited: debited,
+        credited: credited,
+        quantity: quantity,
+        amount: amount,
+        trade_day: order.trade_day,
+        settlement_day: order.settlement_day,
+        state: state,
+    }
+}
+
+fn with_state(state: State, item: Item) -> Item
+    ensures { λ r. ⌜ r ≡ withState state item ⌝ }
+{
+    let debited = item.debited;
+    let credited = item.credited;
+    let quantity = item.quantity;
+    let amount = item.amount;
+    Item {
+        security: item.security,
+        currency: item.currency,
+        debited: debited,
+        credited: credited,
+        quantity: quantity,
+        amount: amount,
+        trade_day: item.trade_day,
+        settlement_day: item.settlement_day,
+        state: state,
+    }
+}
+
+// ---- senders and references
+
+// The sender of form 12 is its debited member, of form 13 its credited one; exchange trades form one sender, which no member is.
+pub fn sender_of(order: Order) -> u64
+    ensures { λ r. ⌜ r ≡ senderOf order ⌝ }
+{
+    if order.form == 13 {
+        return order.credited.member;
+    }
+    if order.form == 14 {
+        return 0;
+    }
+    order.debited.member
+}
+
+// The item waits under that sender's reference.
+pub fn sent_by(sender: u64, reference: u64, item: Item) -> bool
+    ensures { λ r. ⌜ r ≡ sentBy sender reference item ⌝ }
+{
+    let state = item.state;
+    match state {
+        State::Single {
+            delivers,
+            reference: own,
+        } => {
+            if delivers {
+                return (sender == item.debited.member) & (reference == own);
+            }
+            (sender == item.credited.member) & (reference == own)
+        }
+        State::Pair {
+            deliver_reference,
+            receive_reference,
+            deliver_marked: _,
+            receive_marked: _,
+        } => {
+            ((sender == item.debited.member) & (reference == deliver_reference))
+                | ((sender == item.credited.member) & (reference == receive_reference))
+        }
+        State::Trade { reference: own } => (sender == 0) & (reference == own),
+    }
+}
+
+// A single is one side; a pair or exchange trade two.
+pub fn sides_of(state: State) -> u64
+    ensures { λ r. ⌜ r ≡ sidesOf state ⌝ }
+{
+    match state {
+        State::Single {
+            delivers: _,
+            reference: _,
+        } => 1,
+        State::Pair {
+            deliver_reference: _,
+            receive_reference: _,
+            deliver_marked: _,
+            receive_marked: _,
+        } => 2,
+        State::Trade { reference: _ } => 2,
+    }
+}
+
+// ---- marks
+
+// The item to cancel is unmatched, or this sender has marked it.
+pub fn not_cancellable(sender: u64, item: Item) -> bool
+    ensures { λ r. ⌜ r ≡ notCancellable sender item ⌝ }
+{
+    let state = item.state;
+    match state {
+        State::Single {
+            delivers: _,
+            reference: _,
+        } => true,
+        State::Pair {
+            deliver_reference: _,
+            receive_reference: _,
+            deliver_marked,
+            receive_marked,
+        } => {
+            if sender == item.debited.member {
+                return deliver_marked;
+            }
+            receive_marked
+        }
+        State::Trade { reference: _ } => false,
+    }
+}
+
+// Cancel marks the sender's half.
+pub fn mark(sender: u64, item: Item) -> Item
+    ensures { λ r. ⌜ r ≡ marked sender item ⌝ }
+{
+    let state = item.state;
+    match state {
+        State::Single {
+            delivers,
+            reference,
+        } => with_state(
+            State::Single {
+                delivers: delivers,
+                reference: reference,
+            },
+            item,
+        ),
+        State::Pair {
+            deliver_reference,
+            receive_reference,
+            deliver_marked,
+            receive_marked,
+        } => {
+            if sender == item.debited.member {
+                return with_state(
+                    State::Pair {
+                        deliver_reference: deliver_reference,
+                        receive_reference: receive_reference,
+                        deliver_marked: true,
+                        receive_marked: receive_marked,
+                    },
+                    item,
+                );
+            }
+            with_state(
+                State::Pair {
+                    deliver_reference: deliver_reference,
+                    receive_reference: receive_reference,
+                    deliver_marked: deliver_marked,
+                    receive_marked: true,
+                },
+                item,
+            )
+        }
+        State::Trade { reference } => with_state(
+            State::Trade {
+                reference: reference,
+            },
+            item,
+        ),
+    }
+}
+
+pub fn both_marked(state: State) -> bool
+    ensures { λ r. ⌜ r ≡ bothMarked state ⌝ }
+{
+    match state {
+        State::Single {
+            delivers: _,
+            reference: _,
+        } => false,
+        State::Pair {
+            deliver_reference: _,
+            receive_reference: _,
+            deliver_marked,
+            receive_marked,
+        } => deliver_marked & receive_marked,
+        State::Trade { reference: _ } => false,
+    }
+}
+
+// Marks are dropped.
+pub fn unmark(item: Item) -> Item
+    ensures { λ r. ⌜ r ≡ unmarked item ⌝ }
+{
+    let state = item.state;
+    match state {
+        State::Single {
+            delivers,
+            reference,
+        } => with_state(
+            State::Single {
+                delivers: delivers,
+                reference: reference,
+            },
+            item,
+        ),
+        State::Pair {
+            deliver_reference,
+            receive_reference,
+            deliver_marked: _,
+            receive_marked: _,
+        } => with_state(
+            State::Pair {
+                deliver_reference: deliver_reference,
+                receive_reference: receive_reference,
+                deliver_marked: false,
+                receive_marked: false,
+            },
+            item,
+        ),
+        State::Trade { reference } => with_state(
+            State::Trade {
+                reference: reference,
+            },
+            item,
+        ),
+    }
+}
+
+// ---- matching
+
+// 2,000 (USD) or 3,015,000 (LBP).
+pub fn tolerance_of(currency: u64) -> u64
+    ensures { λ r. ⌜ r ≡ tolerance currency ⌝ }
+{
+    if currency == 1 {
+        return 2_000;
+    }
+    3_015_000
+}
+
+pub fn is_deliver(state: State) -> bool
+    ensures { λ r. ⌜ r ≡ isDeliver state ⌝ }
+{
+    match state {
+        State::Single {
+            delivers,
+            reference: _,
+        } => delivers,
+        State::Pair {
+            deliver_reference: _,
+            receive_reference: _,
+            deliver_marked: _,
+            receive_marked: _,
+        } => false,
+        State::Trade { reference: _ } => false,
+    }
+}
+
+pub fn is_receive(state: State) -> bool
+    ensures { λ r. ⌜ r ≡ isReceive state ⌝ }
+{
+    match state {
+        State::Single {
+            delivers,
+            reference: _,
+        } => !delivers,
+        State::Pair {
+            deliver_reference: _,
+            receive_reference: _,
+            deliver_marked: _,
+            receive_marked: _,
+        } => false,
+        State::Trade { reference: _ } => false,
+    }
+}
+
+// The reference of a single or an exchange trade.
+fn own_reference(state: State) -> u64
+    ensures { λ r. ⌜ r ≡ ownReference state ⌝ }
+{
+    match state {
+        State::Single {
+            delivers: _,
+            reference,
+        } => reference,
+        State::Pair {
+            deliver_reference: _,
+            receive_reference: _,
+            deliver_marked: _,
+            receive_marked: _,
+        } => 0,
+        State::Trade { reference } => reference,
+    }
+}
+
+// Equal in security, shareholder, days, quantity, currency, both members naming each other, both types book entry or both physical, and receive
+// amount less deliver amount between 0 and a limit.
+fn do_agree(limit: u64, deliver: Item, receive: Item) -> bool
+    ensures { λ r. ⌜ r ≡ agree limit deliver receive ⌝ }
+{
+    if receive.amount.0 < deliver.amount.0 {
+        return false;
+    }
+    let difference = receive.amount.0 - deliver.amount.0;
+    (deliver.security == receive.security)
+        & (deliver.debited.shareholder == receive.credited.shareholder)
+        & (deliver.trade_day == receive.trade_day)
+        & (deliver.settlement_day == receive.settlement_day)
+        & (deliver.quantity.0 == receive.quantity.0)
+        & (deliver.currency == receive.currency)
+        & (deliver.debited.member == receive.debited.member)
+        & (deliver.credited.member == receive.credited.member)
+        & checks::are_alike(deliver.debited.typ, receive.credited.typ)
+        & (difference <= limit)
+}
+
+// An arriving 12 or 13 pairs with a waiting single of the other form.
+pub fn pairs_with(limit: u64, arriving: Item, waits: Item) -> bool
+    ensures { λ r. ⌜ r ≡ pairsWith limit arriving waits ⌝ }
+{
+    let waiting_state = waits.state;
+    let arriving_state = arriving.state;
+    (is_deliver(waiting_state) & is_receive(arriving_state) & do_agree(limit, waits, arriving))
+        | (is_receive(waiting_state)
+            & is_deliver(arriving_state)
+            & do_agree(limit, arriving, waits))
+}
+
+// The pair takes the receiver's amount.
+pub fn pair_up(deliver: Item, receive: Item) -> Item
+    ensures { λ r. ⌜ r ≡ pairOf deliver receive ⌝ }
+{
+    let deliver_state = deliver.state;
+    let receive_state = receive.state;
+    let debited = deliver.debited;
+    let credited = receive.credited;
+    let quantity = deliver.quantity;
+    let amount = receive.amount;
+    let state = State::Pair {
+        deliver_reference: own_reference(deliver_state),
+        receive_reference: own_reference(receive_state),
+        deliver_marked: false,
+        receive_marked: false,
+    };
+    Item {
+        security: deliver.security,
+        currency: deliver.currency,
+        debited: debited,
+        credited: credited,
+        quantity: quantity,
+        amount: amount,
+        trade_day: deliver.trade_day,
+        settlement_day: deliver.settlement_day,
+        state: state,
+    }
+}
+
+// ---- close
+
+// The kind of notice with which an item leaves at the close of a day: 1 single, 2 aged pair, 3 suspended; 0 where it stays.
+pub fn close_kind(day: u64, item: Item) -> u64
+    requires { ⌜ item .«settlement_day» < 2 ^ 63 ⌝ }
+    ensures { λ r. ⌜ r ≡ closeKind day item ⌝ }
+{
+    let state = item.state;
+    let settles = item.settlement_day;
+    match state {
+        State::Single {
+            delivers: _,
+            reference: _,
+        } => {
+            if settles == day {
+                return 1;
+            }
+            0
+        }
+        State::Pair {
+            deliver_reference: _,
+            receive_reference: _,
+            deliver_marked: _,
+            receive_marked: _,
+        } => {
+            if day == settles + 10 {
+                return 2;
+            }
+            0
+        }
+        State::Trade { reference: _ } => {
+            if settles <= day {
+                return 3;
+            }
+            0
+        }
+    }
+}
