@@ -164,24 +164,17 @@ usedOutOfRange fields =
     let ofForm = getD fields form 0 in
     some (λ place. used ofForm place && not (within (least place) (most ofForm place) (getD fields place 0))) places
 
+-- 3 to 5, which reader and writer share, in checking order
+abbrev pub fieldTests : List ℕ → List (ℕ × Bool)
+fieldTests fields = (3, noForm fields) ∷ (4, unusedNotZero fields) ∷ (5, usedOutOfRange fields) ∷ []
+
 -- the fields that a record's bytes hold
 unfoldable pub fieldsIn : List ℕ → List ℕ
 fieldsIn octets = cut octets 0 widths
 
--- The reader gives 2 to 5: its refusal, or 0 where it reads
+-- The reader gives 2 to 5. 2: The record is not 40 bytes. 0 where it reads
 unfoldable pub readRefusal : List ℕ → ℕ
-readRefusal octets =
-    let fields = fieldsIn octets in
-    first
-    ( -- 2. The record is not 40 bytes.
-    (2, length octets isNot 40)
-    -- 3. The form is not 1 to 17.
-    ∷ (3, noForm fields)
-    -- 4. An unused field or one of the last 48 bits is not zero.
-    ∷ (4, unusedNotZero fields)
-    -- 5. A used field is outside its range.
-    ∷ (5, usedOutOfRange fields)
-    ∷ [])
+readRefusal octets = first ((2, length octets isNot 40) ∷ fieldTests (fieldsIn octets))
 
 -- what the reader answers
 unfoldable pub readOf : List ℕ → Read
@@ -196,17 +189,9 @@ readNumber (Read.Refused number) = number
 unfoldable pub recordOf : Order → List ℕ
 recordOf o = bytes 40 (pack 0 widths (fieldsOf o))
 
--- the writer gives 1, 3, 4, 5: its refusal of an order and a lent area, or 0 where it writes
+-- the writer gives 1, 3, 4, 5. 1: The lent area is shorter than 40 bytes for the record writer. 0 where it writes
 unfoldable pub writeRefusal : Order → List ℕ → ℕ
-writeRefusal o area =
-    let fields = fieldsOf o in
-    first
-    ( -- 1. The lent area is shorter than 40 bytes for the record writer.
-    (1, length area below 40)
-    ∷ (3, noForm fields)
-    ∷ (4, unusedNotZero fields)
-    ∷ (5, usedOutOfRange fields)
-    ∷ [])
+writeRefusal o area = first ((1, length area below 40) ∷ fieldTests (fieldsOf o))
 
 -- what the writer answers
 unfoldable pub writtenOf : Order → List ℕ → Written
