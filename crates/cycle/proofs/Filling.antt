@@ -20,16 +20,16 @@ module _ (from to number : ℕ → ℕ) (legs : List ℕ) (i : ℕ) (low : i < 6
     long = length-set two (i + NUMBER) m ∙ two-long;
     from-as =
         below-more _ _
-            (λ k h. getD-set-other two (i + NUMBER) k m 0 (λ e. omega (arith, e)) ∙ getD-set-other one (i + TO) k t 0 (λ e. omega (arith, e)) ∙ getD-set-other legs i k f 0 (λ e. omega (arith, e)) ∙ d .from-as k h)
-            (getD-set-other two (i + NUMBER) i m 0 (λ e. omega (arith, e)) ∙ getD-set-other one (i + TO) i t 0 (λ e. omega (arith, e)) ∙ getD-set-same legs i f 0 (omega (arith, d .long)) ∙ ef);
+        (λ k h. getD-set-other two (i + NUMBER) k m 0 (λ e. omega (arith, e)) ∙ getD-set-other one (i + TO) k t 0 (λ e. omega (arith, e)) ∙ getD-set-other legs i k f 0 (λ e. omega (arith, e)) ∙ d .from-as k h)
+        (getD-set-other two (i + NUMBER) i m 0 (λ e. omega (arith, e)) ∙ getD-set-other one (i + TO) i t 0 (λ e. omega (arith, e)) ∙ getD-set-same legs i f 0 (omega (arith, d .long)) ∙ ef);
     to-as =
         below-more _ _
-            (λ k h. getD-set-other two (i + NUMBER) (k + TO) m 0 (λ e. omega (arith, e)) ∙ getD-set-other one (i + TO) (k + TO) t 0 (λ e. omega (arith, e)) ∙ getD-set-other legs i (k + TO) f 0 (λ e. omega (arith, e)) ∙ d .to-as k h)
-            (getD-set-other two (i + NUMBER) (i + TO) m 0 (λ e. omega (arith, e)) ∙ getD-set-same one (i + TO) t 0 (omega (arith, one-long)) ∙ et);
+        (λ k h. getD-set-other two (i + NUMBER) (k + TO) m 0 (λ e. omega (arith, e)) ∙ getD-set-other one (i + TO) (k + TO) t 0 (λ e. omega (arith, e)) ∙ getD-set-other legs i (k + TO) f 0 (λ e. omega (arith, e)) ∙ d .to-as k h)
+        (getD-set-other two (i + NUMBER) (i + TO) m 0 (λ e. omega (arith, e)) ∙ getD-set-same one (i + TO) t 0 (omega (arith, one-long)) ∙ et);
     number-as =
         below-more _ _
-            (λ k h. getD-set-other two (i + NUMBER) (k + NUMBER) m 0 (λ e. omega (arith, e)) ∙ getD-set-other one (i + TO) (k + NUMBER) t 0 (λ e. omega (arith, e)) ∙ getD-set-other legs i (k + NUMBER) f 0 (λ e. omega (arith, e)) ∙ d .number-as k h)
-            (getD-set-same two (i + NUMBER) m 0 (omega (arith, two-long)) ∙ em);
+        (λ k h. getD-set-other two (i + NUMBER) (k + NUMBER) m 0 (λ e. omega (arith, e)) ∙ getD-set-other one (i + TO) (k + NUMBER) t 0 (λ e. omega (arith, e)) ∙ getD-set-other legs i (k + NUMBER) f 0 (λ e. omega (arith, e)) ∙ d .number-as k h)
+        (getD-set-same two (i + NUMBER) m 0 (omega (arith, two-long)) ∙ em);
   }
     where
       one : List ℕ

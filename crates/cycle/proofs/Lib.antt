@@ -3,3 +3,6 @@ pub mod Masks
 pub mod Marking
 pub mod Filling
 pub mod Adding
+pub mod Netting
+pub mod Drops
+pub mod Running

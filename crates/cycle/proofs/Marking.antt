@@ -5,7 +5,8 @@ use mathlib.Core.Bool.{Bool, true, false, not}
 use mathlib.Core.List.{List, [], _∷_, map}
 use mathlib.Core.Logic.{_≢_}
 use mathlib.Core.Path.{_≡_, refl, sym, ap, _∙_}
-use lib.ListN.{length, getD, length-map}
+use lib.ListN.{length, length-map}
+use lib.Seq.{ext-getD}
 use borrow.Author.Count.{below-more}
 use borrow.Author.Tests.{eq-eqb, ne-eqb}
 use Rattle.rulebook.specs.Lists.{if_then_else_, _is_, total, keep}
@@ -13,20 +14,22 @@ use Rattle.rulebook.specs.Ledger.{sumBelow}
 use Rattle.rulebook.specs.Cycle.{Marked, over, due, taken, withMark}
 use Rattle.rulebook.specs.declared.Item.{Item}
 use Rattle.words.specs.Places.{listFrom}
-use Rattle.words.specs.Tables.{rows}
-use Rattle.words.proofs.Places.{from-same, from-map, from-total}
+use Rattle.words.proofs.Places.{from-same, from-map, from-total, from-get, length-from}
 use Rattle.words.proofs.Sums.{sum-change}
-use Rattle.items.specs.Waiting.{itemAt, itemsOf}
-use Rattle.items.proofs.Laws.{item-there}
-use Rattle.cycle.specs.Marks.{isOn, markedIn}
+use Rattle.cycle.specs.Marks.{noItem, itemIn, isOn, markedOf, countOn}
 
 -- n items with their marks
 abbrev pub marking : (ℕ → Bool) → (ℕ → Item) → ℕ → List Marked
 marking on item n = listFrom (λ k. (on k, item k)) 0 n
 
--- how many of the first n are marked
-abbrev pub countOn : (ℕ → Bool) → ℕ → ℕ
-countOn on n = sumBelow n (λ k. if on k then 1 else 0)
+-- a list by its places
+pub listed : (waiting : List Item) → listFrom (itemIn waiting) 0 (length waiting) ≡ waiting
+listed waiting =
+    ext-getD noItem (listFrom (itemIn waiting) 0 (length waiting)) waiting (length-from (itemIn waiting) 0 (length waiting))
+    (λ k l.
+    let h : k < length waiting = rw (length-from (itemIn waiting) 0 (length waiting)) at l in
+    let z : 0 + k ≡ k = omega arith in
+    from-get (itemIn waiting) 0 (length waiting) k noItem h ∙ ap (itemIn waiting) z)
 
 module _ (item : ℕ → Item) (n : ℕ) where
   pub marking-same : (on off : ℕ → Bool) → ((k : ℕ) → k < n → on k ≡ off k) → marking on item n ≡ marking off item n
@@ -63,26 +66,23 @@ count-marked item n on =
     ∙ from-total (λ (m : Marked). if m .0 then 1 else 0) (λ k. (on k, item k)) n
 
 -- the marks of the trades whose day has come
-pub taken-marked : (day marks : ℕ) (items : List ℕ) → ((k : ℕ) → k < rows items → isOn marks k ≡ due day (itemAt items k)) → markedIn marks items ≡ taken day (itemsOf items)
-unfolding markedIn taken itemsOf
-taken-marked day marks items e =
-    marking-same (itemAt items) (rows items) (isOn marks) (λ k. due day (itemAt items k)) e
-    ∙ sym (from-map (λ item. (due day item, item)) (itemAt items) 0 (rows items))
-
--- what `items::item_at` reads
-pub item-read : (items : List ℕ) (i : ℕ) (r : Item) → i < rows items → ((d : Item) → r ≡ getD (itemsOf items) i d) → r ≡ itemAt items i
-item-read items i r l e = e r ∙ sym (item-there items i r l)
+pub taken-marked : (day marks : ℕ) (waiting : List Item) → ((k : ℕ) → k < length waiting → isOn marks k ≡ due day (itemIn waiting k)) → markedOf marks waiting ≡ taken day waiting
+unfolding markedOf taken
+taken-marked day marks waiting e =
+    marking-same (itemIn waiting) (length waiting) (isOn marks) (λ k. due day (itemIn waiting k)) e
+    ∙ sym (from-map (λ item. (due day item, item)) (itemIn waiting) 0 (length waiting))
+    ∙ ap (map (λ item. (due day item, item))) (listed waiting)
 
 -- the first i items are marked where they are due, and the others are not
-pub record DueBelow (day : ℕ) (items : List ℕ) (marks i : ℕ) : Type 0 where
-  pub first : (k : ℕ) → k < i → isOn marks k ≡ due day (itemAt items k)
+pub record DueBelow (day : ℕ) (waiting : List Item) (marks i : ℕ) : Type 0 where
+  pub first : (k : ℕ) → k < i → isOn marks k ≡ due day (itemIn waiting k)
   pub rest : (k : ℕ) → i ≤ k → k < 64 → isOn marks k ≡ false
 
-module _ (day : ℕ) (items : List ℕ) (marks i : ℕ) (low : i < 64) (d : DueBelow day items marks i) where
-  pub due-not : due day (itemAt items i) ≡ false → DueBelow day items marks (i + 1)
+module _ (day : ℕ) (waiting : List Item) (marks i : ℕ) (low : i < 64) (d : DueBelow day waiting marks i) where
+  pub due-not : due day (itemIn waiting i) ≡ false → DueBelow day waiting marks (i + 1)
   due-not e = record { first = below-more _ _ (d .first) (d .rest i (omega arith) low ∙ sym e); rest = λ k h l. d .rest k (omega arith) l }
 
-  pub due-one : (now : ℕ) → ((k : ℕ) → k < 64 → isOn now k ≡ (if k is i then not (isOn marks i) else isOn marks k)) → due day (itemAt items i) ≡ true → DueBelow day items now (i + 1)
+  pub due-one : (now : ℕ) → ((k : ℕ) → k < 64 → isOn now k ≡ (if k is i then not (isOn marks i) else isOn marks k)) → due day (itemIn waiting i) ≡ true → DueBelow day waiting now (i + 1)
   due-one now f e = record {
     first = below-more _ _ (λ k h. other k (omega arith) (omega arith) ∙ d .first k h) (f i low ∙ rw (eq-eqb i i refl, d .rest i (omega arith) low) (sym e));
     rest = λ k h l. other k l (omega arith) ∙ d .rest k (omega arith) l;

@@ -1,11 +1,13 @@
 -- Legs of trades, and the figures that their debits are held against, in columns of 64 words.
-use Prim.Native.Nat.{ℕ, _+_, _*_, _^_, _≤_, _<_}
-use mathlib.Core.Bool.{Bool}
+use Prim.Native.Nat.{ℕ, zero, suc, _+_, _*_, _^_, _≤_, _<_}
+use mathlib.Core.Bool.{Bool, _&&_, _||_}
 use mathlib.Core.List.{List}
 use mathlib.Core.Path.{_≡_}
 use lib.ListN.{length, getD}
 use Rattle.rulebook.specs.Lists.{if_then_else_, _is_, _below_}
 use Rattle.rulebook.specs.Ledger.{sumBelow}
+use Rattle.words.specs.declared.Found.{Found}
+use Rattle.words.specs.declared.Found.the-variants.{At, Nothing}
 
 abbrev pub TO : ℕ
 TO = 64
@@ -90,3 +92,13 @@ pub record Cover (n : ℕ) (legs : List ℕ) (j : ℕ) (figures : List ℕ) : Ty
 pub record RoomAll (n : ℕ) (on : ℕ → Bool) (legs figures : List ℕ) : Type 0 where
   pub has : (k : ℕ) → k < n → hasAt figures k + bringsAll n on legs k < 2 ^ 64
   pub owes : (k : ℕ) → k < n → owesAt figures k + takesAll n on legs k < 2 ^ 64
+
+-- ---- the last leg that is marked and takes from one that is short
+
+-- the last number below n that passes the test
+unfoldable pub lastBelow : (ℕ → Bool) → ℕ → Found
+lastBelow test zero = Nothing
+lastBelow test (suc n) = if test n then At n else lastBelow test n
+
+abbrev pub lastShort : (ℕ → Bool) → (held funds : List ℕ) → ℕ → Found
+lastShort on held funds n = lastBelow (λ k. on k && (shortAt held k || shortAt funds k)) n

@@ -1,4 +1,5 @@
 -- The netted cycle in words.
 pub mod Marks
 pub mod Figures
+pub mod Filled
 pub mod Ready

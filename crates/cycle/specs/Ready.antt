@@ -1,38 +1,29 @@
--- What the cycle needs of the words that it is lent.
-use Prim.Native.Nat.{ℕ, _^_, _<_}
+-- What the cycle needs of a ledger, and what the rulebook's premise gives.
+use Prim.Native.Nat.{ℕ, _+_, _^_, _≤_, _<_}
 use mathlib.Core.List.{List}
-use mathlib.Core.Path.{_≡_}
 use lib.ListN.{length}
 use Rattle.rulebook.specs.Cycle.{seller, buyer}
+use Rattle.rulebook.specs.Ledger.{Ledger}
 use Rattle.rulebook.specs.Premise.{CashFits}
 use Rattle.rulebook.specs.declared.Account.{Account}
 use Rattle.rulebook.specs.declared.Item.{Item}
-use Rattle.words.specs.Tables.{rows}
 use Rattle.accounts.specs.Keys.{InRange}
-use Rattle.accounts.specs.Map.{balanceOf, Kept}
-use Rattle.cash.specs.Amounts.{amountOf}
-use Rattle.items.specs.Waiting.{Sized, itemAt}
+use Rattle.cycle.specs.Marks.{itemIn}
 
 -- an item whose legs can be booked
 pub record Bookable (t : Item) : Type 0 where
-  pub seller : InRange (seller t)
-  pub buyer : InRange (buyer t)
+  pub sells : InRange (seller t)
+  pub buys : InRange (buyer t)
   pub some : 0 < t .quantity .0
   pub quantity : t .quantity .0 < 2 ^ 40
   pub pays : CashFits (t .credited .member) (t .currency)
   pub paid : CashFits (t .debited .member) (t .currency)
   pub amount : t .amount .0 < 2 ^ 40
 
--- the waiting list: each item is such
-pub record ItemsReady (items : List ℕ) : Type 0 where
-  pub sized : Sized items
-  pub bookable : (k : ℕ) → k < rows items → Bookable (itemAt items k)
-
--- with the accounts, and with the members' cash
-pub record SharesReady (accounts items : List ℕ) : Type 0 where
-  pub kept : Kept accounts
-  pub waiting : ItemsReady items
-
-pub record CashReady (cash items : List ℕ) : Type 0 where
-  pub long : length cash ≡ 128
-  pub waiting : ItemsReady items
+-- each waiting item is such, there is room for the accounts that they may open, and what they bring fits a word
+pub record Ready (b : Ledger) : Type 0 where
+  pub size : length b.waiting ≤ 64
+  pub room : b.holdings.accounts + length b.waiting ≤ 256
+  pub bookable : (k : ℕ) → k < length b.waiting → Bookable (itemIn b.waiting k)
+  pub balances : (a : Account) → b.holdings.balance a < 2 ^ 63
+  pub amounts : (member currency : ℕ) → b.holdings.cash member currency < 2 ^ 63

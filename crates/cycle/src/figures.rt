@@ -4,17 +4,15 @@ ghost use mathlib.Core.Path.{_≡_};
 ghost use Prim.Native.Nat.{ℕ, _+_, _-_, _*_, _≤_, _<_};
 ghost use lib.ListN.{length, set};
 ghost use Rattle.rulebook.specs.Lists.{if_then_else_, _is_};
-ghost use Rattle.rulebook.specs.Cycle.{seller, buyer};
-ghost use Rattle.words.specs.Tables.{rows};
-ghost use Rattle.accounts.specs.Keys.{keyOf};
-ghost use Rattle.accounts.specs.Map.{balanceOf};
-ghost use Rattle.cash.specs.Amounts.{amountOf};
-ghost use Rattle.items.specs.Waiting.{itemAt};
+ghost use Rattle.book.specs.Meaning.{ledgerOf};
+ghost use Rattle.book.specs.Stored.{Stored};
 ghost use Rattle.cycle.specs.Marks.{isOn};
-ghost use Rattle.cycle.specs.Figures.{TO, NUMBER, OWES, hasAt, owesAt, brings, takes, bringsAll, takesAll, Lent, Legs, Figures, Room, Cover, RoomAll, cashKey};
-ghost use Rattle.cycle.specs.Ready.{SharesReady, CashReady};
+ghost use Rattle.cycle.specs.Figures.{TO, NUMBER, OWES, hasAt, owesAt, brings, takes, bringsAll, takesAll, Lent, Figures, Room, Cover, RoomAll, cashKey, shortAt, lastShort};
+ghost use Rattle.cycle.specs.Filled.{ShareLegs, ShareStart, CashLegs, CashStart};
+ghost use Rattle.cycle.specs.Ready.{Ready};
 use crate::marks;
 use crate::trades;
+use words::Found;
 
 const TO: usize = 64;
 
@@ -42,20 +40,20 @@ fn put_figures(figures: &mut [u64], i: usize, has: u64, owes: u64)
 }
 
 // The legs of shares, and the balances that they take from.
-pub fn fill_shares(legs: &mut [u64], figures: &mut [u64], accounts: &[u64], items: &[u64])
-    requires { ⌜ (length (now legs) ≡ 192) × (length (now figures) ≡ 128) × SharesReady (now accounts) (now items) ⌝ }
-    ensures { λ u. ⌜ Legs (rows (now (items .entry))) (λ k. keyOf (seller (itemAt (now (items .entry)) k))) (λ k. keyOf (buyer (itemAt (now (items .entry)) k))) (λ k. itemAt (now (items .entry)) k .quantity .0) (now (legs .exit)) ⌝ }
-    ensures { λ u. ⌜ Figures (rows (now (items .entry))) (λ k. balanceOf (now (accounts .entry)) (seller (itemAt (now (items .entry)) k))) (λ k. 0) (now (figures .exit)) ⌝ }
+pub fn fill_shares(legs: &mut [u64], figures: &mut [u64], book: &[u64])
+    requires { ⌜ (length (now legs) ≡ 192) × (length (now figures) ≡ 128) × Stored (now book) × Ready (ledgerOf (now book)) ⌝ }
+    ensures { λ u. ⌜ ShareLegs (ledgerOf (now (book .entry)) .waiting) (now (legs .exit)) ⌝ }
+    ensures { λ u. ⌜ ShareStart (ledgerOf (now (book .entry))) (now (figures .exit)) ⌝ }
 {
-    let n = items[0] as usize;
+    let n = book::items(book);
     let mut i: usize = 0;
     while i < n {
-        let trade = items::item_at(items, i);
+        let trade = book::item_at(book, i);
         let seller = trades::seller_of(trade);
         let from = accounts::key_of(seller);
         let to = accounts::key_of(trades::buyer_of(trade));
         put_leg(legs, i, from, to, trade.quantity.0);
-        let held = accounts::balance(accounts, seller);
+        let held = book::balance(book, seller);
         put_figures(figures, i, held.0, 0);
         i += 1;
     }
@@ -70,20 +68,20 @@ fn cash_key(member: u64, currency: u64) -> u64
 }
 
 // The legs of cash, and the amounts that they take from.
-pub fn fill_cash(legs: &mut [u64], figures: &mut [u64], cash: &[u64], items: &[u64])
-    requires { ⌜ (length (now legs) ≡ 192) × (length (now figures) ≡ 128) × CashReady (now cash) (now items) ⌝ }
-    ensures { λ u. ⌜ Legs (rows (now (items .entry))) (λ k. cashKey (itemAt (now (items .entry)) k .credited .member) (itemAt (now (items .entry)) k .currency)) (λ k. cashKey (itemAt (now (items .entry)) k .debited .member) (itemAt (now (items .entry)) k .currency)) (λ k. itemAt (now (items .entry)) k .amount .0) (now (legs .exit)) ⌝ }
-    ensures { λ u. ⌜ Figures (rows (now (items .entry))) (λ k. amountOf (now (cash .entry)) (itemAt (now (items .entry)) k .credited .member) (itemAt (now (items .entry)) k .currency)) (λ k. 0) (now (figures .exit)) ⌝ }
+pub fn fill_cash(legs: &mut [u64], figures: &mut [u64], book: &[u64])
+    requires { ⌜ (length (now legs) ≡ 192) × (length (now figures) ≡ 128) × Stored (now book) × Ready (ledgerOf (now book)) ⌝ }
+    ensures { λ u. ⌜ CashLegs (ledgerOf (now (book .entry)) .waiting) (now (legs .exit)) ⌝ }
+    ensures { λ u. ⌜ CashStart (ledgerOf (now (book .entry))) (now (figures .exit)) ⌝ }
 {
-    let n = items[0] as usize;
+    let n = book::items(book);
     let mut i: usize = 0;
     while i < n {
-        let trade = items::item_at(items, i);
+        let trade = book::item_at(book, i);
         let payer = trade.credited.member;
         let from = cash_key(payer, trade.currency);
         let to = cash_key(trade.debited.member, trade.currency);
         put_leg(legs, i, from, to, trade.amount.0);
-        let funds = cash::amount(cash, payer, trade.currency);
+        let funds = book::cash(book, payer, trade.currency);
         put_figures(figures, i, funds.0, 0);
         i += 1;
     }
@@ -144,4 +142,32 @@ pub fn add_marked(figures: &mut [u64], legs: &[u64], marks: u64, n: usize)
         }
         j += 1;
     }
+}
+
+// The figures of whom the leg at `i` takes from are short.
+fn is_short(figures: &[u64], i: usize) -> bool
+    requires { ⌜ (length (now figures) ≡ 128) × (i < 64) ⌝ }
+    ensures { λ r. ⌜ r ≡ shortAt (now (figures .entry)) i ⌝ }
+{
+    figures[i] < figures[i + OWES]
+}
+
+// The last marked trade that debits a short account or short cash.
+pub fn last_short(held: &[u64], funds: &[u64], marks: u64, n: usize) -> Found
+    requires { ⌜ (length (now held) ≡ 128) × (length (now funds) ≡ 128) × (n ≤ 64) ⌝ }
+    ensures { λ r. ⌜ r ≡ lastShort (isOn marks) (now (held .entry)) (now (funds .entry)) n ⌝ }
+{
+    let mut i = n;
+    while 0 < i {
+        i -= 1;
+        if marks::is_on(marks, i) {
+            if is_short(held, i) {
+                return Found::At(i);
+            }
+            if is_short(funds, i) {
+                return Found::At(i);
+            }
+        }
+    }
+    Found::Nothing
 }

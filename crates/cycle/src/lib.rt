@@ -1,4 +1,5 @@
 // The netted cycle: the taken trades that settle, and what they move.
 mod figures;
 mod marks;
+mod settling;
 mod trades;

@@ -4,10 +4,10 @@ ghost use mathlib.Core.Bool.{not};
 ghost use Prim.Native.Nat.{ℕ, _<_, _≤_};
 ghost use lib.ListN.{length};
 ghost use Rattle.rulebook.specs.Lists.{if_then_else_, _is_};
-ghost use Rattle.rulebook.specs.Cycle.{due, taken, withMark};
-ghost use Rattle.items.specs.Waiting.{Sized, itemsOf};
-ghost use Rattle.words.specs.Tables.{rows};
-ghost use Rattle.cycle.specs.Marks.{isOn, markedIn};
+ghost use Rattle.rulebook.specs.Cycle.{due, taken};
+ghost use Rattle.book.specs.Meaning.{ledgerOf};
+ghost use Rattle.book.specs.Stored.{Stored};
+ghost use Rattle.cycle.specs.Marks.{isOn, markedOf, countOn};
 use rulebook::Item;
 use rulebook::State;
 
@@ -48,15 +48,16 @@ fn is_due(item: Item, day: u64) -> bool
 }
 
 // The pairs and exchange trades whose settlement day has come.
-pub fn due_marks(items: &[u64], day: u64) -> u64
-    requires { ⌜ Sized (now items) ⌝ }
-    ensures { λ r. ⌜ markedIn r (now (items .entry)) ≡ taken day (itemsOf (now (items .entry))) ⌝ }
+pub fn due_marks(book: &[u64]) -> u64
+    requires { ⌜ Stored (now book) × (length (ledgerOf (now book) .waiting) ≤ 64) ⌝ }
+    ensures { λ r. ⌜ markedOf r (ledgerOf (now (book .entry)) .waiting) ≡ taken (ledgerOf (now (book .entry)) .day .number) (ledgerOf (now (book .entry)) .waiting) ⌝ }
 {
-    let n = items[0] as usize;
+    let day = book::day(book);
+    let n = book::items(book);
     let mut marks: u64 = 0;
     let mut i: usize = 0;
     while i < n {
-        if is_due(items::item_at(items, i), day) {
+        if is_due(book::item_at(book, i), day.number) {
             marks = flip(marks, i);
         }
         i += 1;
@@ -64,12 +65,11 @@ pub fn due_marks(items: &[u64], day: u64) -> u64
     marks
 }
 
-// How many have a mark.
-pub fn count(marks: u64, items: &[u64]) -> u64
-    requires { ⌜ Sized (now items) ⌝ }
-    ensures { λ r. ⌜ r ≡ length (withMark (markedIn marks (now (items .entry)))) ⌝ }
+// How many of the first `n` have a mark.
+pub fn count(marks: u64, n: usize) -> u64
+    requires { ⌜ n ≤ 64 ⌝ }
+    ensures { λ r. ⌜ r ≡ countOn (isOn marks) n ⌝ }
 {
-    let n = items[0] as usize;
     let mut marked: u64 = 0;
     let mut i: usize = 0;
     while i < n {
