@@ -6,3 +6,5 @@ pub mod Adding
 pub mod Netting
 pub mod Drops
 pub mod Running
+pub mod Posting
+pub mod Walking

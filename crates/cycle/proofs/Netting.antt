@@ -14,12 +14,12 @@ use Rattle.cycle.specs.Figures.{hasAt, owesAt, brings, takes, bringsAll,
 use Rattle.cycle.proofs.Marking.{marking, over-sum, over-more}
 
 -- a sum of numbers below 2^40
-sum-most : (n : ℕ) (f : ℕ → ℕ) → ((k : ℕ) → k < n → f k < 2 ^ 40) → sumBelow n f ≤ n * 1_099_511_627_776
+pub sum-most : (n : ℕ) (f : ℕ → ℕ) → ((k : ℕ) → k < n → f k < 2 ^ 40) → sumBelow n f ≤ n * 1_099_511_627_776
 unfolding sumBelow
 sum-most zero f e = omega arith
 sum-most (suc n) f e = omega (arith, e n (omega arith), sum-most n f (λ k l. e k (omega arith)))
 
-if-below : (b : Bool) (n : ℕ) → n < 2 ^ 40 → (if b then n else 0) < 2 ^ 40
+pub if-below : (b : Bool) (n : ℕ) → n < 2 ^ 40 → (if b then n else 0) < 2 ^ 40
 if-below true n l = l
 if-below false n l = omega arith
 

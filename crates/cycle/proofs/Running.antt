@@ -49,7 +49,7 @@ if-most : (t : Bool) (q : ℕ) → q < 2 ^ 40 → (if t then q else 0) < 2 ^ 40
 if-most true q l = l
 if-most false q l = omega arith
 
-count-most : (on : ℕ → Bool) (n : ℕ) → countOn on n ≤ n
+pub count-most : (on : ℕ → Bool) (n : ℕ) → countOn on n ≤ n
 unfolding sumBelow
 count-most on zero = omega arith
 count-most on (suc n) = omega (arith, one (on n), count-most on n)

@@ -1,4 +1,5 @@
 // The netted cycle: the taken trades that settle, and what they move.
+mod booking;
 mod figures;
 mod marks;
 mod settling;
