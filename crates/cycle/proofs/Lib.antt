@@ -8,3 +8,4 @@ pub mod Drops
 pub mod Running
 pub mod Posting
 pub mod Walking
+pub mod Writing

@@ -5,7 +5,8 @@ use mathlib.Core.List.{List}
 use lib.ListN.{length, getD}
 use Rattle.rulebook.specs.Lists.{if_then_else_, _is_}
 use Rattle.rulebook.specs.Ledger.{sumBelow}
-use Rattle.rulebook.specs.Cycle.{Marked}
+use Rattle.rulebook.specs.Cycle.{Marked, withMark, legs}
+use Rattle.rulebook.specs.Rows.{Row, postingRows}
 use Rattle.rulebook.specs.declared.Item.{Item}
 use Rattle.rulebook.specs.declared.State.the-variants.{Single}
 use Rattle.words.specs.Places.{listFrom}
@@ -39,3 +40,7 @@ markedOf marks waiting = listFrom (λ k. (isOn marks k, itemIn waiting k)) 0 (le
 -- how many of the first n are marked
 abbrev pub countOn : (ℕ → Bool) → ℕ → ℕ
 countOn on n = sumBelow n (λ k. if on k then 1 else 0)
+
+-- the rows of the marked trades
+abbrev pub rowsOf : List Marked → List Row
+rowsOf marked = postingRows (legs (withMark marked))

@@ -2,5 +2,6 @@
 mod booking;
 mod figures;
 mod marks;
+mod postings;
 mod settling;
 mod trades;
