@@ -9,3 +9,4 @@ pub mod Running
 pub mod Posting
 pub mod Walking
 pub mod Writing
+pub mod Staying

@@ -10,7 +10,7 @@ use lib.ListN.{length}
 use Rattle.rulebook.specs.Lists.{if_then_else_, _is_, keep}
 use Rattle.rulebook.specs.Ledger.{Holdings, Ledger, sameAccount, sumBelow, putHoldings}
 use Rattle.rulebook.specs.Movements.{account, cashOf, Movement, credit, debit, credits, debits, booked}
-use Rattle.rulebook.specs.Cycle.{Marked, seller, buyer, over, bringsShares, takesShares, bringsCash, takesCash, withMark, legs}
+use Rattle.rulebook.specs.Cycle.{Marked, seller, buyer, over, bringsShares, takesShares, bringsCash, takesCash, withMark, withoutMark, legs}
 use Rattle.rulebook.specs.declared.Account.{Account}
 use Rattle.rulebook.specs.declared.Item.{Item}
 use Rattle.rulebook.proofs.Places.{credit-balance, debit-balance, credit-cash, debit-cash}
@@ -37,17 +37,23 @@ unfolding legs
 legs-append [] ys = refl
 legs-append (x ∷ xs) ys = rw (legs-append xs ys)
 
--- the marked items of a list with one more
+-- an item where its mark says so
 abbrev pub ifMarked : Bool → Item → List Item
 ifMarked b t = if b then t ∷ [] else []
 
-pub with-last : (xs : List Marked) (b : Bool) (t : Item) → withMark (xs ++ ((b, t) ∷ [])) ≡ withMark xs ++ ifMarked b t
-unfolding withMark
-with-last [] true t = refl
-with-last [] false t = refl
-with-last (x ∷ xs) b t = go (x .0) refl (with-last xs b t)
+-- the items whose mark passes a test, in a list with one more
+abbrev passing : (Bool → Bool) → List Marked → List Item
+passing test ms = map (λ m. m .1) (keep (λ m. test (m .0)) ms)
+
+pub passing-last : (test : Bool → Bool) (xs : List Marked) (b : Bool) (t : Item) → passing test (xs ++ ((b, t) ∷ [])) ≡ passing test xs ++ ifMarked (test b) t
+passing-last test [] b t = go (test b)
   where
-    go : (c : Bool) → x .0 ≡ c → withMark (xs ++ ((b, t) ∷ [])) ≡ withMark xs ++ ifMarked b t → withMark ((x ∷ xs) ++ ((b, t) ∷ [])) ≡ withMark (x ∷ xs) ++ ifMarked b t
+    go : (c : Bool) → map (λ (m : Marked). m .1) (if c then (b, t) ∷ [] else []) ≡ ifMarked c t
+    go true = refl
+    go false = refl
+passing-last test (x ∷ xs) b t = go (test (x .0)) refl (passing-last test xs b t)
+  where
+    go : (c : Bool) → test (x .0) ≡ c → passing test (xs ++ ((b, t) ∷ [])) ≡ passing test xs ++ ifMarked (test b) t → passing test ((x ∷ xs) ++ ((b, t) ∷ [])) ≡ passing test (x ∷ xs) ++ ifMarked (test b) t
     go true e ih = rw e (ap (λ (l : List Item). x .1 ∷ l) ih)
     go false e ih = rw e ih
 
@@ -56,12 +62,21 @@ module _ (item : ℕ → Item) (on : ℕ → Bool) where
   abbrev pub first : ℕ → List Item
   first i = withMark (marking on item i)
 
-  pub first-next : (i : ℕ) → first (i + 1) ≡ first i ++ ifMarked (on i) (item i)
-  first-next i =
+  -- one more of the items whose mark passes a test
+  passing-next : (test : Bool → Bool) (i : ℕ) → passing test (marking on item (i + 1)) ≡ passing test (marking on item i) ++ ifMarked (test (on i)) (item i)
+  passing-next test i =
       let z : 0 + i ≡ i = omega arith in
-      ap first (add-one i)
-      ∙ ap withMark (from-push (λ k. (on k, item k)) (λ k. (on k, item k)) 0 i (λ k l. refl) ∙ ap (λ (k : ℕ). marking on item i ++ ((on k, item k) ∷ [])) z)
-      ∙ with-last (marking on item i) (on i) (item i)
+      ap (λ (k : ℕ). passing test (marking on item k)) (add-one i)
+      ∙ ap (passing test) (from-push (λ k. (on k, item k)) (λ k. (on k, item k)) 0 i (λ k l. refl) ∙ ap (λ (k : ℕ). marking on item i ++ ((on k, item k) ∷ [])) z)
+      ∙ passing-last test (marking on item i) (on i) (item i)
+
+  pub first-next : (i : ℕ) → first (i + 1) ≡ first i ++ ifMarked (on i) (item i)
+  unfolding withMark
+  first-next i = passing-next (λ x. x) i
+
+  pub without-next : (i : ℕ) → withoutMark (marking on item (i + 1)) ≡ withoutMark (marking on item i) ++ ifMarked (not (on i)) (item i)
+  unfolding withoutMark
+  without-next i = passing-next not i
 
   pub credits-next : (i : ℕ) (h : Holdings) → credits (legs (first (i + 1))) h ≡ credits (legs (ifMarked (on i) (item i))) (credits (legs (first i)) h)
   credits-next i h = ap (λ (l : List Item). credits (legs l) h) (first-next i) ∙ ap (λ (l : List Movement). credits l h) (legs-append (first i) (ifMarked (on i) (item i))) ∙ credits-append (legs (first i)) (legs (ifMarked (on i) (item i))) h
