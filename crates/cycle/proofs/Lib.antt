@@ -10,3 +10,5 @@ pub mod Posting
 pub mod Walking
 pub mod Writing
 pub mod Staying
+pub mod Premises
+pub mod Whole

@@ -125,6 +125,8 @@ module _ (b : Ledger) (r : Ready b) where
     pub cash-legs : CashLegs b.waiting cents
     pub held-lined : Lined item n shareInto shareOut shares shareHave (isOn marks) held
     pub funds-lined : Lined item n cashInto cashOut cents cashHave (isOn marks) funds
+    -- no mark is new
+    pub fewer-on : countOn (isOn marks) n ≤ countOn (isOn due) n
     -- there are as many rounds left as marks, or more
     pub left : ℕ
     pub enough : countOn (isOn marks) n ≤ left
@@ -148,6 +150,7 @@ module _ (b : Ledger) (r : Ready b) where
     cash-legs = c;
     held-lined = lined-start item n shareInto shareOut shares (share-are shares s) (isOn due) shareHave held₀ hs held h;
     funds-lined = lined-start item n cashInto cashOut cents (cash-are cents c) (isOn due) cashHave funds₀ fs funds f;
+    fewer-on = omega arith;
     left = n;
     enough = count-most (isOn due) n;
     same = refl;
@@ -243,6 +246,7 @@ module _ (b : Ledger) (r : Ready b) where
           cash-legs = w .cash-legs;
           held-lined = lined-less item n shareInto shareOut shares (share-are shares (w .share-legs)) (isOn marks) shareHave held (w .held-lined) j inside marked (isOn now) gone others held′ h;
           funds-lined = lined-less item n cashInto cashOut cents (cash-are cents (w .cash-legs)) (isOn marks) cashHave funds (w .funds-lined) j inside marked (isOn now) gone others funds′ f;
+          fewer-on = omega (arith, w .fewer-on, fewer);
           left = w .left - 1;
           enough = omega (arith, w .enough, fewer);
           same = next ∙ w .same;

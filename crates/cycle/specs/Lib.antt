@@ -3,3 +3,4 @@ pub mod Marks
 pub mod Figures
 pub mod Filled
 pub mod Ready
+pub mod Counted

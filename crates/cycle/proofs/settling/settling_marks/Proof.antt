@@ -60,8 +60,10 @@ returns : tie.Need-returns Inv-loop μ-loop
 returns c =
     let l = c .before .before .before .before .before in
     let s = l .before .before .before .before .before .before .before .before .before .before .before .before .before .before .before .before .before .before .before .before .before in
-    let e = l .before .before .before .before .before .before .before .before .before .before .before .before .before .before .before .before .before .before .before .items .ensures in
-    stops (ledgerOf (s .args .book .now)) (s .pre .1) (s .args .due) (l .loop .marks) _ _ (l .loop .held) (l .loop .funds) (running l) (rw e at (sym (c .before .before .last-short .ensures) ∙ c .enum-told .given .1))
+    let e = l .before .before .before .before .before .before .before .before .before .before .before .before .before .before .before .before .before .before .before .items .ensures in (
+      stops (ledgerOf (s .args .book .now)) (s .pre .1) (s .args .due) (l .loop .marks) _ _ (l .loop .held) (l .loop .funds) (running l) (rw e at (sym (c .before .before .last-short .ensures) ∙ c .enum-told .given .1)),
+      running l .fewer-on,
+    )
 
 -- the trade that is dropped
 spot : (c : tie.After-found Inv-loop μ-loop) → lastShort (isOn (c .before .before .before .before .before .loop .marks)) (c .before .before .before .before .before .loop .held) (c .before .before .before .before .before .loop .funds) (length (ledgerOf (c .before .before .before .before .before .before .before .before .before .before .before .before .before .before .before .before .before .before .before .before .before .before .before .before .before .before .args .book .now) .waiting)) ≡ At (c .found .given .0 .0)
