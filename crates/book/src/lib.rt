@@ -3,7 +3,7 @@ ghost use mathlib.Core.Path.{_≡_};
 ghost use mathlib.Core.Bool.{false};
 ghost use mathlib.Core.List.{_++_, _∷_, []};
 ghost use Prim.Native.Nat.{_+_, _^_, _≤_, _<_};
-ghost use lib.ListN.{length, getD, set};
+ghost use lib.ListN.{length, getD, set, take};
 ghost use Rattle.rulebook.specs.Ledger.{putDay, putHoldings, putWaiting, putSecurities, admitted, issuedOf, outsideOf, cashTotal};
 ghost use Rattle.rulebook.specs.Movements as movements;
 ghost use Rattle.rulebook.specs.Premise.{CashFits};
@@ -148,6 +148,14 @@ pub fn remove(book: &mut [u64], i: usize)
     ensures { λ u. ⌜ Means (now (book .exit)) (putWaiting (removeAt i (ledgerOf (now (book .entry)) .waiting)) (ledgerOf (now (book .entry)))) ⌝ }
 {
     items::remove(&mut book[ITEMS..END], i);
+}
+
+// The first `n` items alone.
+pub fn keep_first(book: &mut [u64], n: usize)
+    requires { ⌜ Stored (now book) × (n ≤ length (ledgerOf (now book) .waiting)) ⌝ }
+    ensures { λ u. ⌜ Means (now (book .exit)) (putWaiting (take n (ledgerOf (now (book .entry)) .waiting)) (ledgerOf (now (book .entry)))) ⌝ }
+{
+    items::keep_first(&mut book[ITEMS..END], n);
 }
 
 // ---- cash
