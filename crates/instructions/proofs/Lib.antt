@@ -1,0 +1,2 @@
+-- Laws behind the proofs of the handlers.
+pub mod Handling
