@@ -28,7 +28,7 @@ pub means-so : (book : List ℕ) (b c : Ledger) → Means book b → b ≡ c →
 means-so book b c m e = record { stored = m.stored; ledger = m.ledger ∙ e }
 
 -- refusal 18 does not apply
-first-false : (x y : Bool) → (x || y) ≡ false → x ≡ false
+pub first-false : (x y : Bool) → (x || y) ≡ false → x ≡ false
 first-false true y e = absurd (false≢true (sym e))
 first-false false y e = refl
 

@@ -1,2 +1,4 @@
 -- Laws behind the proofs of the handlers.
 pub mod Handling
+pub mod Search
+pub mod Arriving

@@ -11,5 +11,5 @@ unfoldable pub placeFrom : {A : Type 0} → (A → Bool) → ℕ → List A → 
 placeFrom test i [] = Nothing
 placeFrom test i (x ∷ rest) = if test x then At i else placeFrom test (suc i) rest
 
-unfoldable pub placeIn : {A : Type 0} → (A → Bool) → List A → Found
+abbrev pub placeIn : {A : Type 0} → (A → Bool) → List A → Found
 placeIn test list = placeFrom test 0 list

@@ -1,18 +1,24 @@
 // Forms 12 to 15 and 17, on a book of words: instructions and their matching, exchange trades, cancels, and the close of the day.
 // A form that writes no row is lent no area: what it does is said of any area, which stays as it is.
 ghost use mathlib.Core.Path.{_≡_};
-ghost use mathlib.Core.List.{List};
+ghost use mathlib.Core.Bool.{true};
+ghost use mathlib.Core.List.{List, [], _∷_};
 ghost use Prim.Native.Nat.{ℕ, _≤_, _<_};
 ghost use lib.ListN.{length};
+ghost use Rattle.rulebook.specs.Lists.{_oneOf_};
+ghost use Rattle.rulebook.specs.Matching.{pairsWith};
 ghost use Rattle.rulebook.specs.Forms.{counts, instruct, trade, cancel, close};
 ghost use Rattle.book.specs.Meaning.{ledgerOf};
 ghost use Rattle.book.specs.Stored.{Stored, Kept};
 ghost use Rattle.book.specs.Handled.{Accepted, Handled};
 ghost use Rattle.instructions.specs.Given.{Given};
+ghost use Rattle.instructions.specs.Search.{placeIn};
+ghost use Rattle.instructions.specs.Paired.{paired};
 use rulebook::Counts;
 use rulebook::Item;
 use rulebook::Order;
 use rulebook::State;
+use words::Found;
 
 // A form's counts before anything is counted.
 fn no_counts() -> Counts
@@ -27,6 +33,63 @@ fn no_counts() -> Counts
         left: 0,
     }
 }
+
+// ---- matching
+
+// The place of the first waiting single that pairs with the arriving one.
+fn first_pairing(book: &[u64], limit: u64, arriving: Item) -> Found
+    requires { ⌜ Stored (now book) ⌝ }
+    ensures { λ r. ⌜ r ≡ placeIn (pairsWith limit arriving) (ledgerOf (now (book .entry)) .waiting) ⌝ }
+{
+    let n = book::items(book);
+    let mut i: usize = 0;
+    while i < n {
+        if waiting::pairs_with(limit, arriving, book::item_at(book, i)) {
+            return Found::At(i);
+        }
+        i += 1;
+    }
+    Found::Nothing
+}
+
+// The pair of an arriving single with the one that waits.
+fn pair_of(arriving: Item, waits: Item) -> Item
+    ensures { λ r. ⌜ r ≡ paired arriving waits ⌝ }
+{
+    let state = waits.state;
+    if waiting::is_deliver(state) {
+        return waiting::pair_up(waits, arriving);
+    }
+    waiting::pair_up(arriving, waits)
+}
+
+// 12 and 13. The earlier single is removed and the pair goes last. Otherwise the single goes last.
+pub fn instruct(book: &mut [u64], order: Order) -> Counts
+    requires { ⌜ Given (now book) order × ((order .form oneOf (12 ∷ 13 ∷ [])) ≡ true) ⌝ }
+    ensures { λ r. ⌜ ((area : List ℕ) → Handled (instruct (ledgerOf (now (book .entry))) order) (now (book .exit)) area area r) ⌝ }
+{
+    let delivers = order.form == 12;
+    let state = State::Single {
+        delivers: delivers,
+        reference: order.reference,
+    };
+    let arriving = waiting::item_of(state, order);
+    let found = first_pairing(book, waiting::tolerance_of(order.currency), arriving);
+    match found {
+        Found::At(i) => {
+            let waits = book::item_at(book, i);
+            book::remove(book, i);
+            book::push(book, pair_of(arriving, waits));
+            no_counts()
+        }
+        Found::Nothing => {
+            book::push(book, arriving);
+            no_counts()
+        }
+    }
+}
+
+// ---- exchange trades
 
 // 14. An exchange trade goes last.
 pub fn trade(book: &mut [u64], order: Order) -> Counts
