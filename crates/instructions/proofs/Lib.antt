@@ -2,3 +2,5 @@
 pub mod Handling
 pub mod Search
 pub mod Arriving
+pub mod Notices
+pub mod Cancels

@@ -6,6 +6,7 @@ ghost use mathlib.Core.List.{List, [], _∷_};
 ghost use Prim.Native.Nat.{ℕ, _≤_, _<_};
 ghost use lib.ListN.{length};
 ghost use Rattle.rulebook.specs.Lists.{_oneOf_};
+ghost use Rattle.rulebook.specs.Waiting.{sentBy};
 ghost use Rattle.rulebook.specs.Matching.{pairsWith};
 ghost use Rattle.rulebook.specs.Forms.{counts, instruct, trade, cancel, close};
 ghost use Rattle.book.specs.Meaning.{ledgerOf};
@@ -100,5 +101,59 @@ pub fn trade(book: &mut [u64], order: Order) -> Counts
         reference: order.reference,
     };
     book::push(book, waiting::item_of(state, order));
+    no_counts()
+}
+
+// ---- cancels
+
+// The place of the item that waits under that sender's reference.
+fn place_of_sent(book: &[u64], sender: u64, reference: u64) -> Found
+    requires { ⌜ Stored (now book) ⌝ }
+    ensures { λ r. ⌜ r ≡ placeIn (sentBy sender reference) (ledgerOf (now (book .entry)) .waiting) ⌝ }
+{
+    let n = book::items(book);
+    let mut i: usize = 0;
+    while i < n {
+        if waiting::sent_by(sender, reference, book::item_at(book, i)) {
+            return Found::At(i);
+        }
+        i += 1;
+    }
+    Found::Nothing
+}
+
+// The counts of a cancel that removes a pair: its notice, and its two sides.
+fn pair_cancelled() -> Counts
+    ensures { λ r. ⌜ r ≡ counts 1 0 2 0 0 0 ⌝ }
+{
+    Counts {
+        rows: 1,
+        settled: 0,
+        cancelled: 2,
+        deleted: 0,
+        suspended: 0,
+        left: 0,
+    }
+}
+
+// 15. Cancel marks the sender's half; the second half removes the pair and writes its notice.
+pub fn cancel(book: &mut [u64], order: Order, area: &mut [u8]) -> Counts
+    requires { ⌜ Accepted (now book) order (now area) × (order .form ≡ 15) ⌝ }
+    ensures { λ r. ⌜ Handled (cancel (ledgerOf (now (book .entry))) order) (now (book .exit)) (now (area .entry)) (now (area .exit)) r ⌝ }
+{
+    let sender = waiting::sender_of(order);
+    let found = place_of_sent(book, sender, order.reference);
+    // refusal 14: there is one
+    let Found::At(i) = found else {
+        return no_counts();
+    };
+    let item = waiting::mark(sender, book::item_at(book, i));
+    let state = item.state;
+    if waiting::both_marked(state) {
+        book::remove(book, i);
+        rows::write_notice(area, 4, item);
+        return pair_cancelled();
+    }
+    book::put_item(book, i, item);
     no_counts()
 }
