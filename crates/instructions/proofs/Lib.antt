@@ -4,3 +4,6 @@ pub mod Search
 pub mod Arriving
 pub mod Notices
 pub mod Cancels
+pub mod RowBytes
+pub mod Closing
+pub mod Closed

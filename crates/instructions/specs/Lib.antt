@@ -2,3 +2,4 @@
 pub mod Given
 pub mod Search
 pub mod Paired
+pub mod Closing

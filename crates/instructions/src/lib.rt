@@ -15,7 +15,9 @@ ghost use Rattle.book.specs.Handled.{Accepted, Handled};
 ghost use Rattle.instructions.specs.Given.{Given};
 ghost use Rattle.instructions.specs.Search.{placeIn};
 ghost use Rattle.instructions.specs.Paired.{paired};
+ghost use Rattle.instructions.specs.Closing.{CanCount, countedOne, itemsClosed};
 use rulebook::Counts;
+use rulebook::Day;
 use rulebook::Item;
 use rulebook::Order;
 use rulebook::State;
@@ -156,4 +158,79 @@ pub fn cancel(book: &mut [u64], order: Order, area: &mut [u8]) -> Counts
     }
     book::put_item(book, i, item);
     no_counts()
+}
+
+// ---- the close of the day
+
+// One item more that leaves: its notice, and its sides among those deleted or suspended.
+fn one_more(counted: Counts, kind: u64, state: State) -> Counts
+    requires { ⌜ CanCount counted ⌝ }
+    ensures { λ r. ⌜ r ≡ countedOne counted kind state ⌝ }
+{
+    let sides = waiting::sides_of(state);
+    if kind == 3 {
+        return Counts {
+            rows: counted.rows + 1,
+            settled: counted.settled,
+            cancelled: counted.cancelled,
+            deleted: counted.deleted,
+            suspended: counted.suspended + sides,
+            left: counted.left,
+        };
+    }
+    Counts {
+        rows: counted.rows + 1,
+        settled: counted.settled,
+        cancelled: counted.cancelled,
+        deleted: counted.deleted + sides,
+        suspended: counted.suspended,
+        left: counted.left,
+    }
+}
+
+// In list order: an item that leaves gets its notice, behind the one before; one that stays moves up, unmarked.
+fn close_items(book: &mut [u64], number: u64, area: &mut [u8]) -> Counts
+    requires { ⌜ Kept (now book) × (4096 ≤ length (now area)) ⌝ }
+    ensures { λ r. ⌜ Handled (itemsClosed number (ledgerOf (now (book .entry)))) (now (book .exit)) (now (area .entry)) (now (area .exit)) r ⌝ }
+{
+    let n = book::items(book);
+    let mut counted = no_counts();
+    let mut j: usize = 0;
+    let mut i: usize = 0;
+    while i < n {
+        let item = book::item_at(book, i);
+        let kind = waiting::close_kind(number, item);
+        if kind == 0 {
+            book::put_item(book, j, waiting::unmark(item));
+            j += 1;
+        } else {
+            let state = item.state;
+            let at = 16 * (counted.rows as usize);
+            rows::write_notice(&mut area[at..], kind, item);
+            counted = one_more(counted, kind, state);
+        }
+        i += 1;
+    }
+    book::keep_first(book, j);
+    counted
+}
+
+// 17. Close, in list order; then the day is closed.
+pub fn close(book: &mut [u64], order: Order, area: &mut [u8]) -> Counts
+    requires { ⌜ Accepted (now book) order (now area) × (order .form ≡ 17) ⌝ }
+    ensures { λ r. ⌜ Handled (close (ledgerOf (now (book .entry))) order) (now (book .exit)) (now (area .entry)) (now (area .exit)) r ⌝ }
+{
+    let day = book::day(book);
+    let counted = close_items(book, day.number, area);
+    book::put_day(
+        book,
+        Day {
+            number: day.number,
+            opened: false,
+            kind: day.kind,
+            cycles: day.cycles,
+            minute: day.minute,
+        },
+    );
+    counted
 }
