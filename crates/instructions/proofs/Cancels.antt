@@ -1,11 +1,10 @@
 -- Form 15 by the place of the item that waits under the sender's reference. Assumes nothing.
 use Prim.Native.Nat.{ℕ, _*_, _<_}
 use native.Mathlib.Omega.{arith}
-use mathlib.Core.Bool.{Bool, true, false, not, _&&_, _||_, false≢true}
+use mathlib.Core.Bool.{true, false, not, false≢true}
 use mathlib.Core.List.{List, [], _∷_, _++_, map}
 use mathlib.Core.Path.{_≡_, refl, sym, ap, subst, _∙_}
 use lib.ListN.{length, getD, set, drop}
-use Rattle.rulebook.specs.Lists.{some}
 use Rattle.rulebook.specs.Ledger.{Ledger, putWaiting}
 use Rattle.rulebook.specs.Premise.{today}
 use Rattle.rulebook.specs.Waiting.{sidesOf, sides, senderOf, sentBy, marked, bothMarked, marking, cancelled, staying}
@@ -14,7 +13,6 @@ use Rattle.rulebook.specs.Refusals.{wrongReference}
 use Rattle.rulebook.specs.Forms.{counts, outcome, cancel}
 use Rattle.rulebook.specs.declared.Counts.{Counts}
 use Rattle.rulebook.specs.declared.Item.{Item}
-use Rattle.rulebook.specs.declared.Notice.{Notice}
 use Rattle.rulebook.specs.declared.Order.{Order}
 use Rattle.rulebook.specs.declared.State.{State}
 use Rattle.rulebook.specs.declared.State.the-variants.{Single, Pair, Trade}

@@ -1,5 +1,5 @@
 -- Close on a book of words: the first i items are dealt with, j of them stay. Assumes nothing.
-use Prim.Native.Nat.{ℕ, suc, _+_, _-_, _*_, _≤_, _<_, _^_}
+use Prim.Native.Nat.{ℕ, _+_, _-_, _*_, _≤_, _<_, _^_}
 use native.Mathlib.Numerals.{add-one}
 use native.Mathlib.Omega.{arith}
 use mathlib.Core.Bool.{false}
@@ -18,14 +18,13 @@ use Rattle.rulebook.specs.declared.Counts.{Counts}
 use Rattle.rulebook.specs.declared.Day.{Day}
 use Rattle.rulebook.specs.declared.Item.{Item}
 use Rattle.rulebook.specs.declared.Order.{Order}
-use Rattle.rulebook.specs.declared.State.{State}
 use Rattle.rulebook.proofs.ByIndex.{item-at}
 use Rattle.rows.specs.Widths.{NoticeFits}
 use Rattle.rows.proofs.Laws.{behind}
 use Rattle.book.specs.Meaning.{ledgerOf}
 use Rattle.book.specs.Stored.{Kept, Means}
 use Rattle.book.specs.Handled.{Handled}
-use Rattle.instructions.specs.Closing.{kept, gone, notices, closeCounts, countedOne, CanCount, itemsClosed}
+use Rattle.instructions.specs.Closing.{kept, notices, closeCounts, countedOne, CanCount, itemsClosed}
 use Rattle.instructions.proofs.Handling.{means-so}
 use Rattle.instructions.proofs.Notices.{notice-fits}
 use Rattle.instructions.proofs.RowBytes.{rows-length, rows-append}

@@ -1,14 +1,13 @@
 -- A search through a list that has come to place i, and what it has found. Assumes nothing.
-use Prim.Native.Nat.{ℕ, zero, suc, _+_, _-_, _≤_, _<_}
+use Prim.Native.Nat.{ℕ, suc, _+_, _-_, _≤_, _<_}
 use native.Mathlib.Numerals.{add-one}
 use native.Mathlib.Omega.{arith}
-use mathlib.Core.Bool.{Bool, true, false, _||_}
+use mathlib.Core.Bool.{Bool, true, false}
 use mathlib.Core.List.{List, [], _∷_}
 use mathlib.Core.Path.{_≡_, refl, sym, ap, _∙_}
 use lib.ListN.{length, getD, drop, drop-of-length-le}
 use lib.Seq.{drop-cons}
-use Rattle.rulebook.specs.Lists.{if_then_else_, some}
-use Rattle.words.specs.declared.Found.{Found}
+use Rattle.rulebook.specs.Lists.{some}
 use Rattle.words.specs.declared.Found.the-variants.{At, Nothing}
 use Rattle.instructions.specs.Search.{placeFrom, placeIn}
 

@@ -23,14 +23,14 @@ use rulebook::Order;
 use rulebook::State;
 use words::Found;
 
-// A form's counts before anything is counted.
-fn no_counts() -> Counts
-    ensures { λ r. ⌜ r ≡ counts 0 0 0 0 0 0 ⌝ }
+// A form's counts: its rows, and the sides that it cancels.
+fn counts_of(rows: u64, cancelled: u64) -> Counts
+    ensures { λ r. ⌜ r ≡ counts rows 0 cancelled 0 0 0 ⌝ }
 {
     Counts {
-        rows: 0,
+        rows: rows,
         settled: 0,
-        cancelled: 0,
+        cancelled: cancelled,
         deleted: 0,
         suspended: 0,
         left: 0,
@@ -83,11 +83,11 @@ pub fn instruct(book: &mut [u64], order: Order) -> Counts
             let waits = book::item_at(book, i);
             book::remove(book, i);
             book::push(book, pair_of(arriving, waits));
-            no_counts()
+            counts_of(0, 0)
         }
         Found::Nothing => {
             book::push(book, arriving);
-            no_counts()
+            counts_of(0, 0)
         }
     }
 }
@@ -103,7 +103,7 @@ pub fn trade(book: &mut [u64], order: Order) -> Counts
         reference: order.reference,
     };
     book::push(book, waiting::item_of(state, order));
-    no_counts()
+    counts_of(0, 0)
 }
 
 // ---- cancels
@@ -124,20 +124,6 @@ fn place_of_sent(book: &[u64], sender: u64, reference: u64) -> Found
     Found::Nothing
 }
 
-// The counts of a cancel that removes a pair: its notice, and its two sides.
-fn pair_cancelled() -> Counts
-    ensures { λ r. ⌜ r ≡ counts 1 0 2 0 0 0 ⌝ }
-{
-    Counts {
-        rows: 1,
-        settled: 0,
-        cancelled: 2,
-        deleted: 0,
-        suspended: 0,
-        left: 0,
-    }
-}
-
 // 15. Cancel marks the sender's half; the second half removes the pair and writes its notice.
 pub fn cancel(book: &mut [u64], order: Order, area: &mut [u8]) -> Counts
     requires { ⌜ Accepted (now book) order (now area) × (order .form ≡ 15) ⌝ }
@@ -147,17 +133,17 @@ pub fn cancel(book: &mut [u64], order: Order, area: &mut [u8]) -> Counts
     let found = place_of_sent(book, sender, order.reference);
     // refusal 14: there is one
     let Found::At(i) = found else {
-        return no_counts();
+        return counts_of(0, 0);
     };
     let item = waiting::mark(sender, book::item_at(book, i));
     let state = item.state;
     if waiting::both_marked(state) {
         book::remove(book, i);
         rows::write_notice(area, 4, item);
-        return pair_cancelled();
+        return counts_of(1, 2);
     }
     book::put_item(book, i, item);
-    no_counts()
+    counts_of(0, 0)
 }
 
 // ---- the close of the day
@@ -194,7 +180,7 @@ fn close_items(book: &mut [u64], number: u64, area: &mut [u8]) -> Counts
     ensures { λ r. ⌜ Handled (itemsClosed number (ledgerOf (now (book .entry)))) (now (book .exit)) (now (area .entry)) (now (area .exit)) r ⌝ }
 {
     let n = book::items(book);
-    let mut counted = no_counts();
+    let mut counted = counts_of(0, 0);
     let mut j: usize = 0;
     let mut i: usize = 0;
     while i < n {

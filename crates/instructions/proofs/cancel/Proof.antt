@@ -56,7 +56,7 @@ returns-2 c =
     let f = m .before .before .before .before in
     let s = f .before .before .before .before .before .before .before in
     pair-leaves (s .args .book .now) (s .args .order) (s .args .area .now) (s .pre .0) _ (at f) _ _ (m .before .item-at .ensures) (marks m)
-    (sym (t .before .both-marked .ensures) ∙ t .if1 .taken) _ _ _ (r .remove .ensures) (w .write-notice .ensures) (c .pair-cancelled .ensures)
+    (sym (t .before .both-marked .ensures) ∙ t .if1 .taken) _ _ _ (r .remove .ensures) (w .write-notice .ensures) (c .counts-of2 .ensures)
 
 put-item-requires : tie.Need-put-item-requires
 put-item-requires c κs = let f = c .before .before .before .before .before .before .before in (f .before .before .before .before .before .before .before .pre .0 .kept .stored, waits-there f)
@@ -69,7 +69,7 @@ returns-3 c =
     let f = m .before .before .before .before in
     let s = f .before .before .before .before .before .before .before in
     pair-stays (s .args .book .now) (s .args .order) (s .args .area .now) (s .pre .0) _ (at f) _ _ (m .before .item-at .ensures) (marks m)
-    (sym (t .before .both-marked .ensures) ∙ t .if1 .left) _ _ (p .put-item .ensures) (c .no-counts2 .ensures)
+    (sym (t .before .both-marked .ensures) ∙ t .if1 .left) _ _ (p .put-item .ensures) (c .counts-of3 .ensures)
 
 pub cancel-spec : {M : Type 1} → statement M
 cancel-spec =

@@ -18,7 +18,7 @@ abbrev μ-loop : tie.MeasureT-loop
 μ-loop book₀ number area₀ n counted₀ j₀ i₀ book area counted j i = n - i
 
 loop-holds : tie.Need-loop-holds Inv-loop μ-loop
-loop-holds c = let s = c .before .before .before .before .before in (c .before .items .ensures, none-closed (s .args .number) (s .args .book .now) (s .args .area .now) (s .pre .0) _ (c .no-counts .ensures))
+loop-holds c = let s = c .before .before .before .before .before in (c .before .items .ensures, none-closed (s .args .number) (s .args .book .now) (s .args .area .now) (s .pre .0) _ (c .counts-of .ensures))
 
 item-at-requires : tie.Need-item-at-requires Inv-loop μ-loop
 item-at-requires c κs =

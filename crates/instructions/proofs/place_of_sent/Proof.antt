@@ -1,12 +1,11 @@
 -- `instructions::place_of_sent` meets its contract. The invariant: what is found from the first place on is what is found from place i on. Assumes nothing.
-use Prim.Native.Nat.{_≤_, _-_}
+use Prim.Native.Nat.{_-_}
 use native.Mathlib.Omega.{arith}
-use mathlib.Core.Path.{_≡_, refl, sym, _∙_}
+use mathlib.Core.Path.{_≡_, sym, _∙_}
 use borrow.Author.Needs.{needs}
-use lib.ListN.{length, drop}
+use lib.ListN.{length}
 use Rattle.rulebook.specs.Waiting.{sentBy}
 use Rattle.book.specs.Meaning.{ledgerOf}
-use Rattle.instructions.specs.Search.{placeFrom, placeIn}
 use Rattle.instructions.proofs.Search.{Searched, none-yet, one-more, here, nowhere}
 use Rattle.instructions.proofs.place_of_sent.Statement.{statement}
 use Rattle.instructions.proofs.place_of_sent.Tie as tie
