@@ -16,8 +16,7 @@ use Rattle.rulebook.proofs.Orders.{Accepted, accepted}
 use Rattle.rulebook.proofs.Space.{trade-space}
 use Rattle.book.specs.Meaning.{ledgerOf}
 use Rattle.book.specs.Stored.{Means}
-use Rattle.book.specs.Handled.{Handled}
-use Rattle.instructions.specs.Given.{Given}
+use Rattle.book.specs.Handled.{Given, Handled}
 
 pub silent-handled : (b : Ledger) (book : List ℕ) (r : Counts) → Means book b → r ≡ counts 0 0 0 0 0 0 → (area : List ℕ) → Handled (silent b) book area area r
 unfolding silent outcome rowsBytes

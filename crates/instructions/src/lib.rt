@@ -3,17 +3,13 @@
 ghost use mathlib.Core.Path.{_≡_};
 ghost use mathlib.Core.Bool.{true};
 ghost use mathlib.Core.List.{List, [], _∷_};
-ghost use Prim.Native.Nat.{ℕ, _≤_, _<_};
+ghost use Prim.Native.Nat.{ℕ, _≤_};
 ghost use lib.ListN.{length};
 ghost use Rattle.rulebook.specs.Lists.{_oneOf_};
-ghost use Rattle.rulebook.specs.Waiting.{sentBy};
-ghost use Rattle.rulebook.specs.Matching.{pairsWith};
 ghost use Rattle.rulebook.specs.Forms.{counts, instruct, trade, cancel, close};
 ghost use Rattle.book.specs.Meaning.{ledgerOf};
-ghost use Rattle.book.specs.Stored.{Stored, Kept};
-ghost use Rattle.book.specs.Handled.{Accepted, Handled};
-ghost use Rattle.instructions.specs.Given.{Given};
-ghost use Rattle.instructions.specs.Search.{placeIn};
+ghost use Rattle.book.specs.Stored.{Kept};
+ghost use Rattle.book.specs.Handled.{Given, Accepted, Handled};
 ghost use Rattle.instructions.specs.Paired.{paired};
 ghost use Rattle.instructions.specs.Closing.{CanCount, countedOne, itemsClosed};
 use rulebook::Counts;
@@ -39,22 +35,6 @@ fn counts_of(rows: u64, cancelled: u64) -> Counts
 
 // ---- matching
 
-// The place of the first waiting single that pairs with the arriving one.
-fn first_pairing(book: &[u64], limit: u64, arriving: Item) -> Found
-    requires { ⌜ Stored (now book) ⌝ }
-    ensures { λ r. ⌜ r ≡ placeIn (pairsWith limit arriving) (ledgerOf (now (book .entry)) .waiting) ⌝ }
-{
-    let n = book::items(book);
-    let mut i: usize = 0;
-    while i < n {
-        if waiting::pairs_with(limit, arriving, book::item_at(book, i)) {
-            return Found::At(i);
-        }
-        i += 1;
-    }
-    Found::Nothing
-}
-
 // The pair of an arriving single with the one that waits.
 fn pair_of(arriving: Item, waits: Item) -> Item
     ensures { λ r. ⌜ r ≡ paired arriving waits ⌝ }
@@ -77,7 +57,7 @@ pub fn instruct(book: &mut [u64], order: Order) -> Counts
         reference: order.reference,
     };
     let arriving = waiting::item_of(state, order);
-    let found = first_pairing(book, waiting::tolerance_of(order.currency), arriving);
+    let found = search::first_pairing(book, waiting::tolerance_of(order.currency), arriving);
     match found {
         Found::At(i) => {
             let waits = book::item_at(book, i);
@@ -108,30 +88,14 @@ pub fn trade(book: &mut [u64], order: Order) -> Counts
 
 // ---- cancels
 
-// The place of the item that waits under that sender's reference.
-fn place_of_sent(book: &[u64], sender: u64, reference: u64) -> Found
-    requires { ⌜ Stored (now book) ⌝ }
-    ensures { λ r. ⌜ r ≡ placeIn (sentBy sender reference) (ledgerOf (now (book .entry)) .waiting) ⌝ }
-{
-    let n = book::items(book);
-    let mut i: usize = 0;
-    while i < n {
-        if waiting::sent_by(sender, reference, book::item_at(book, i)) {
-            return Found::At(i);
-        }
-        i += 1;
-    }
-    Found::Nothing
-}
-
 // 15. Cancel marks the sender's half; the second half removes the pair and writes its notice.
 pub fn cancel(book: &mut [u64], order: Order, area: &mut [u8]) -> Counts
     requires { ⌜ Accepted (now book) order (now area) × (order .form ≡ 15) ⌝ }
     ensures { λ r. ⌜ Handled (cancel (ledgerOf (now (book .entry))) order) (now (book .exit)) (now (area .entry)) (now (area .exit)) r ⌝ }
 {
     let sender = waiting::sender_of(order);
-    let found = place_of_sent(book, sender, order.reference);
-    // refusal 14: there is one
+    let found = search::first_sent(book, sender, order.reference);
+    // refusal 14 does not apply: there is one
     let Found::At(i) = found else {
         return counts_of(0, 0);
     };
@@ -149,7 +113,7 @@ pub fn cancel(book: &mut [u64], order: Order, area: &mut [u8]) -> Counts
 // ---- the close of the day
 
 // One item more that leaves: its notice, and its sides among those deleted or suspended.
-fn one_more(counted: Counts, kind: u64, state: State) -> Counts
+fn count_leaving(counted: Counts, kind: u64, state: State) -> Counts
     requires { ⌜ CanCount counted ⌝ }
     ensures { λ r. ⌜ r ≡ countedOne counted kind state ⌝ }
 {
@@ -193,7 +157,7 @@ fn close_items(book: &mut [u64], number: u64, area: &mut [u8]) -> Counts
             let state = item.state;
             let at = 16 * (counted.rows as usize);
             rows::write_notice(&mut area[at..], kind, item);
-            counted = one_more(counted, kind, state);
+            counted = count_leaving(counted, kind, state);
         }
         i += 1;
     }
@@ -201,7 +165,7 @@ fn close_items(book: &mut [u64], number: u64, area: &mut [u8]) -> Counts
     counted
 }
 
-// 17. Close, in list order; then the day is closed.
+// 17. Close, in list order; then the day is closed. It uses no field of its order.
 pub fn close(book: &mut [u64], order: Order, area: &mut [u8]) -> Counts
     requires { ⌜ Accepted (now book) order (now area) × (order .form ≡ 17) ⌝ }
     ensures { λ r. ⌜ Handled (close (ledgerOf (now (book .entry))) order) (now (book .exit)) (now (area .entry)) (now (area .exit)) r ⌝ }

@@ -7,8 +7,8 @@ use Rattle.rulebook.specs.Matching.{pairsWith}
 use Rattle.rulebook.specs.declared.Item.{Item}
 use Rattle.words.specs.declared.Found.the-variants.{At}
 use Rattle.book.specs.Meaning.{ledgerOf}
-use Rattle.instructions.specs.Search.{placeIn}
-use Rattle.instructions.proofs.Search.{found}
+use Rattle.search.specs.Place.{placeIn}
+use Rattle.search.proofs.Laws.{found-passes}
 use Rattle.instructions.proofs.Arriving.{arriving, place, pair-room, pair-made, alone-room, alone-made}
 use Rattle.instructions.proofs.instruct.Statement.{statement}
 use Rattle.instructions.proofs.instruct.Tie as tie
@@ -27,7 +27,7 @@ at : (c : tie.After-found) → let a = c .before .before .before .before .before
 at c = placed (c .before .before) ∙ c .found .given .1
 
 waits-there : (c : tie.After-found) → c .found .given .0 .0 < length (ledgerOf (c .before .before .before .before .before .before .before .before .args .book .now) .waiting)
-waits-there c = found _ _ _ (at c) .0
+waits-there c = found-passes _ _ _ (at c) .inside
 
 item-at-requires : tie.Need-item-at-requires
 item-at-requires c κs = (c .before .before .before .before .before .before .before .before .before .before .pre .0 .kept .stored, waits-there (c .before .before))
