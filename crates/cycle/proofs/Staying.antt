@@ -1,5 +1,5 @@
 -- The items without a mark, which a loop puts one behind the other. Assumes nothing.
-use Prim.Native.Nat.{ℕ, suc, _+_, _≤_, _<_}
+use Prim.Native.Nat.{ℕ, _+_, _≤_, _<_}
 use native.Mathlib.Numerals.{add-one}
 use native.Mathlib.Omega.{arith}
 use mathlib.Core.Bool.{Bool, true, false, not}
@@ -13,8 +13,8 @@ use Rattle.rulebook.specs.declared.Item.{Item}
 use Rattle.words.specs.Places.{listFrom}
 use Rattle.book.specs.Meaning.{ledgerOf}
 use Rattle.book.specs.Stored.{Stored, Means}
-use Rattle.cycle.specs.Marks.{noItem, itemIn, isOn, markedOf}
-use Rattle.cycle.proofs.Marking.{marking}
+use Rattle.netting.specs.Marks.{noItem, itemIn, isOn, markedOf}
+use Rattle.netting.proofs.Marking.{marking}
 use Rattle.cycle.proofs.Posting.{ifMarked, without-next}
 
 module _ (b : Ledger) (marks : ℕ) where

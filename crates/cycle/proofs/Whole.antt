@@ -1,16 +1,16 @@
 -- The whole cycle: what its parts leave is the rulebook's outcome. Assumes nothing.
-use Prim.Native.Nat.{ℕ, _+_, _-_, _*_, _≤_, _<_}
+use Prim.Native.Nat.{ℕ, _+_, _-_, _*_}
 use native.Mathlib.Omega.{arith}
-use mathlib.Core.Bool.{Bool, true, false, false≢true}
+use mathlib.Core.Bool.{true, false, false≢true}
 use mathlib.Core.List.{List, [], _∷_, _++_}
 use mathlib.Core.Path.{_≡_, refl, sym, ap, subst, _∙_}
 use lib.ListN.{length, drop}
-use Rattle.rulebook.specs.Ledger.{Ledger, Holdings, putDay, putHoldings, putWaiting}
+use Rattle.rulebook.specs.Ledger.{Ledger, putDay, putHoldings, putWaiting}
 use Rattle.rulebook.specs.Movements.{booked}
 use Rattle.rulebook.specs.Rows.{postingRows, rowsBytes}
 use Rattle.rulebook.specs.Waiting.{isTrade, sidesOf, sides}
 use Rattle.rulebook.specs.Cycle.{Marked, taken, anyShort, rounds, settlingOf, settling, withMark, withoutMark, settled, notSettled, dropped, legs}
-use Rattle.rulebook.specs.Forms.{Outcome, counts, outcome, cycle}
+use Rattle.rulebook.specs.Forms.{counts, outcome, cycle}
 use Rattle.rulebook.specs.Premise.{Each}
 use Rattle.rulebook.specs.declared.Counts.{Counts}
 use Rattle.rulebook.specs.declared.Item.{Item}
@@ -22,9 +22,9 @@ use Rattle.rulebook.proofs.RowCounts.{posting-length, legs-length}
 use Rattle.book.specs.Meaning.{ledgerOf}
 use Rattle.book.specs.Stored.{Means}
 use Rattle.book.specs.Handled.{Handled}
-use Rattle.cycle.specs.Marks.{itemIn, isOn, markedOf, countOn, rowsOf}
+use Rattle.netting.specs.Marks.{itemIn, isOn, markedOf, countOn, rowsOf}
 use Rattle.cycle.specs.Counted.{oneMore}
-use Rattle.cycle.proofs.Marking.{count-marked}
+use Rattle.netting.proofs.Marking.{count-marked}
 
 -- ---- a trade has two sides
 

@@ -1,19 +1,17 @@
 -- `cycle::run` meets its contract. Assumes nothing.
 use mathlib.Core.List.{List}
 use mathlib.Core.Path.{_≡_, sym, ap, subst, _∙_}
-use Prim.Native.Nat.{ℕ, _-_, _*_, _≤_, _<_, _^_}
+use Prim.Native.Nat.{_-_, _≤_}
 use native.Mathlib.Omega.{arith}
 use borrow.Author.Needs.{needs}
 use lib.ListN.{length}
-use Rattle.rulebook.specs.Forms.{counts}
-use Rattle.rulebook.specs.declared.Counts.{Counts}
 use Rattle.rulebook.specs.declared.Day.{Day}
 use Rattle.rulebook.specs.declared.Item.{Item}
 use Rattle.book.specs.Meaning.{ledgerOf}
-use Rattle.cycle.specs.Marks.{isOn, countOn}
-use Rattle.cycle.specs.Ready.{Ready}
+use Rattle.netting.specs.Marks.{isOn, countOn}
+use Rattle.netting.specs.Ready.{Ready}
 use Rattle.cycle.proofs.Premises.{premise-ready, premise-cycles}
-use Rattle.cycle.proofs.Running.{count-most}
+use Rattle.netting.proofs.Running.{count-most}
 use Rattle.cycle.proofs.Walking.{waiting-now}
 use Rattle.cycle.proofs.Whole.{none-short, same-day, handled}
 use Rattle.cycle.proofs.run.Statement.{statement}

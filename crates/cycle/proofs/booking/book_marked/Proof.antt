@@ -5,8 +5,8 @@ use Rattle.rulebook.specs.Ledger.{Ledger, putHoldings}
 use Rattle.rulebook.specs.Movements.{debits, booked}
 use Rattle.rulebook.specs.Cycle.{withMark, legs}
 use Rattle.book.specs.Meaning.{ledgerOf}
-use Rattle.cycle.specs.Marks.{markedOf}
-use Rattle.cycle.specs.Ready.{Covered}
+use Rattle.netting.specs.Marks.{markedOf}
+use Rattle.cycle.specs.Booking.{Covered}
 use Rattle.cycle.proofs.Walking.{covered}
 use Rattle.cycle.proofs.booking.book_marked.Statement.{statement}
 use Rattle.cycle.proofs.booking.book_marked.Tie as tie
