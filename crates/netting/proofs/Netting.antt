@@ -23,7 +23,7 @@ pub if-below : (b : Bool) (n : ℕ) → n < 2 ^ 40 → (if b then n else 0) < 2 
 if-below true n l = l
 if-below false n l = omega arith
 
--- into k is what an item brings to whom leg k takes from, and out k what it takes from them
+-- into k is what an item brings to what leg k debits, and out k what it takes from it
 module _ (item : ℕ → Item) (n : ℕ) (into out : ℕ → Item → ℕ) (legs : List ℕ) where
   -- the legs are such
   pub record Are : Type 0 where

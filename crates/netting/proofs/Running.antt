@@ -63,7 +63,7 @@ module _ (b : Ledger) (r : Ready b) where
   abbrev n : ℕ
   n = length b.waiting
 
-  -- what an item brings to whom the item at k takes from, and what it takes from them
+  -- what an item brings to what the item at k debits, and what it takes from it
   abbrev shareInto : ℕ → Item → ℕ
   shareInto k t = bringsShares (seller (item k)) t
 

@@ -18,7 +18,7 @@ NUMBER = 128
 abbrev pub OWES : ℕ
 OWES = 64
 
--- ---- a leg: from whom, to whom, how many
+-- ---- a leg: what is debited, what is credited, how many
 
 abbrev pub fromAt : List ℕ → ℕ → ℕ
 fromAt legs k = getD legs k 0
@@ -40,7 +40,7 @@ pub record Legs (n : ℕ) (from to number : ℕ → ℕ) (legs : List ℕ) : Typ
 abbrev pub cashKey : (member currency : ℕ) → ℕ
 cashKey member currency = member * 4 + currency
 
--- what leg j brings to whom leg k takes from, and what it takes from them
+-- what leg j brings to what leg k debits, and what it takes from it
 abbrev pub brings : List ℕ → (j k : ℕ) → ℕ
 brings legs j k = if toAt legs j is fromAt legs k then numberAt legs j else 0
 
@@ -54,7 +54,7 @@ bringsAll n on legs k = sumBelow n (λ j. if on j then brings legs j k else 0)
 abbrev pub takesAll : ℕ → (ℕ → Bool) → List ℕ → ℕ → ℕ
 takesAll n on legs k = sumBelow n (λ j. if on j then takes legs j k else 0)
 
--- ---- the figures of whom leg k takes from: what they have with what is brought, and what is taken
+-- ---- the figures of what leg k debits: what is there with what is brought, and what is taken
 
 abbrev pub hasAt : List ℕ → ℕ → ℕ
 hasAt figures k = getD figures k 0
@@ -68,7 +68,7 @@ pub record Figures (n : ℕ) (has owes : ℕ → ℕ) (figures : List ℕ) : Typ
   pub has-as : (k : ℕ) → k < n → hasAt figures k ≡ has k
   pub owes-as : (k : ℕ) → k < n → owesAt figures k ≡ owes k
 
--- they are short
+-- what leg k debits is short
 abbrev pub shortAt : List ℕ → ℕ → Bool
 shortAt figures k = hasAt figures k below owesAt figures k
 
@@ -93,7 +93,7 @@ pub record RoomAll (n : ℕ) (on : ℕ → Bool) (legs figures : List ℕ) : Typ
   pub has : (k : ℕ) → k < n → hasAt figures k + bringsAll n on legs k < 2 ^ 64
   pub owes : (k : ℕ) → k < n → owesAt figures k + takesAll n on legs k < 2 ^ 64
 
--- ---- the last leg that is marked and takes from one that is short
+-- ---- the last marked leg that debits what is short
 
 -- the last number below n that passes the test
 unfoldable pub lastBelow : (ℕ → Bool) → ℕ → Found

@@ -6,3 +6,5 @@ pub mod Figures
 pub mod Filled
 -- what the cycle needs of a ledger
 pub mod Ready
+-- what its rounds leave
+pub mod Netted

@@ -1,37 +1,19 @@
-// Legs of shares, or of cash, of up to 64 trades, in columns: from whom, to whom, how many. Beside them what whom each takes from has with
-// what the marked trades bring, and what these take.
+// The figures of what each leg debits, an account or a member's cash: what is there with what the marked trades bring, and what these take.
 ghost use mathlib.Core.Path.{_≡_};
-ghost use Prim.Native.Nat.{_+_, _-_, _*_, _≤_, _<_};
+ghost use Prim.Native.Nat.{_+_, _-_, _≤_, _<_};
 ghost use lib.ListN.{length, set};
 ghost use Rattle.rulebook.specs.Lists.{if_then_else_, _is_};
-ghost use Rattle.book.specs.Meaning.{ledgerOf};
-ghost use Rattle.book.specs.Stored.{Stored};
 ghost use Rattle.netting.specs.Marks.{isOn};
-ghost use Rattle.netting.specs.Figures.{TO, NUMBER, OWES, hasAt, owesAt, brings, takes, bringsAll, takesAll, Lent, Figures, Room, Cover, RoomAll, cashKey, shortAt, lastShort};
-ghost use Rattle.netting.specs.Filled.{ShareLegs, ShareStart, CashLegs, CashStart};
-ghost use Rattle.netting.specs.Ready.{Ready};
+ghost use Rattle.netting.specs.Figures.{OWES, hasAt, owesAt, brings, takes, bringsAll, takesAll, Lent, Figures, Room, Cover, RoomAll, shortAt, lastShort};
+use crate::legs::NUMBER;
+use crate::legs::TO;
 use crate::marks;
-use crate::trades;
 use words::Found;
-
-const TO: usize = 64;
-
-const NUMBER: usize = 128;
 
 const OWES: usize = 64;
 
-// The leg of the trade at `i`.
-fn put_leg(legs: &mut [u64], i: usize, from: u64, to: u64, number: u64)
-    requires { ⌜ (length (now legs) ≡ 192) × (i < 64) ⌝ }
-    ensures { λ u. ⌜ now (legs .exit) ≡ set (set (set (now (legs .entry)) i from) (i + TO) to) (i + NUMBER) number ⌝ }
-{
-    legs[i] = from;
-    legs[i + TO] = to;
-    legs[i + NUMBER] = number;
-}
-
-// The figures of whom the leg at `i` takes from.
-fn put_figures(figures: &mut [u64], i: usize, has: u64, owes: u64)
+// The figures of what the leg at `i` debits.
+pub fn put_figures(figures: &mut [u64], i: usize, has: u64, owes: u64)
     requires { ⌜ (length (now figures) ≡ 128) × (i < 64) ⌝ }
     ensures { λ u. ⌜ now (figures .exit) ≡ set (set (now (figures .entry)) i has) (i + OWES) owes ⌝ }
 {
@@ -39,54 +21,7 @@ fn put_figures(figures: &mut [u64], i: usize, has: u64, owes: u64)
     figures[i + OWES] = owes;
 }
 
-// The legs of shares, and the balances that they take from.
-pub fn fill_shares(legs: &mut [u64], figures: &mut [u64], book: &[u64])
-    requires { ⌜ (length (now legs) ≡ 192) × (length (now figures) ≡ 128) × Stored (now book) × Ready (ledgerOf (now book)) ⌝ }
-    ensures { λ u. ⌜ ShareLegs (ledgerOf (now (book .entry)) .waiting) (now (legs .exit)) ⌝ }
-    ensures { λ u. ⌜ ShareStart (ledgerOf (now (book .entry))) (now (figures .exit)) ⌝ }
-{
-    let n = book::items(book);
-    let mut i: usize = 0;
-    while i < n {
-        let trade = book::item_at(book, i);
-        let seller = trades::seller_of(trade);
-        let from = accounts::key_of(seller);
-        let to = accounts::key_of(trades::buyer_of(trade));
-        put_leg(legs, i, from, to, trade.quantity.0);
-        let held = book::balance(book, seller);
-        put_figures(figures, i, held.0, 0);
-        i += 1;
-    }
-}
-
-// A member's cash in a currency as one number.
-fn cash_key(member: u64, currency: u64) -> u64
-    requires { ⌜ (member ≤ 64) × (currency ≤ 2) ⌝ }
-    ensures { λ r. ⌜ r ≡ cashKey member currency ⌝ }
-{
-    member * 4 + currency
-}
-
-// The legs of cash, and the amounts that they take from.
-pub fn fill_cash(legs: &mut [u64], figures: &mut [u64], book: &[u64])
-    requires { ⌜ (length (now legs) ≡ 192) × (length (now figures) ≡ 128) × Stored (now book) × Ready (ledgerOf (now book)) ⌝ }
-    ensures { λ u. ⌜ CashLegs (ledgerOf (now (book .entry)) .waiting) (now (legs .exit)) ⌝ }
-    ensures { λ u. ⌜ CashStart (ledgerOf (now (book .entry))) (now (figures .exit)) ⌝ }
-{
-    let n = book::items(book);
-    let mut i: usize = 0;
-    while i < n {
-        let trade = book::item_at(book, i);
-        let payer = trade.credited.member;
-        let from = cash_key(payer, trade.currency);
-        let to = cash_key(trade.debited.member, trade.currency);
-        put_leg(legs, i, from, to, trade.amount.0);
-        let funds = book::cash(book, payer, trade.currency);
-        put_figures(figures, i, funds.0, 0);
-        i += 1;
-    }
-}
-
+// The number where the two are the same, and else 0.
 fn if_same(a: u64, b: u64, number: u64) -> u64
     ensures { λ r. ⌜ r ≡ (if a is b then number else 0) ⌝ }
 {
@@ -144,7 +79,7 @@ pub fn add_marked(figures: &mut [u64], legs: &[u64], marks: u64, n: usize)
     }
 }
 
-// The figures of whom the leg at `i` takes from are short.
+// What the leg at `i` debits is short.
 fn is_short(figures: &[u64], i: usize) -> bool
     requires { ⌜ (length (now figures) ≡ 128) × (i < 64) ⌝ }
     ensures { λ r. ⌜ r ≡ shortAt (now (figures .entry)) i ⌝ }

@@ -1,31 +1,28 @@
 // Which of the trades that a cycle takes settle: what each account and each member's cash has with what the trades bring, against what they take.
 mod figures;
+mod legs;
 pub mod marks;
 pub mod trades;
 
-ghost use mathlib.Core.Path.{_≡_};
-ghost use Prim.Native.Nat.{_≤_};
-ghost use lib.ListN.{length};
-ghost use Rattle.rulebook.specs.Cycle.{rounds};
 ghost use Rattle.book.specs.Meaning.{ledgerOf};
 ghost use Rattle.book.specs.Stored.{Stored};
-ghost use Rattle.netting.specs.Marks.{isOn, markedOf, countOn};
+ghost use Rattle.netting.specs.Netted.{Netted};
 ghost use Rattle.netting.specs.Ready.{Ready};
 use words::Found;
 
 // While any is short, the last marked trade that debits a short one loses its mark.
 pub fn settling_marks(book: &[u64], due: u64) -> u64
     requires { ⌜ Stored (now book) × Ready (ledgerOf (now book)) ⌝ }
-    ensures { λ r. ⌜ (markedOf r (ledgerOf (now (book .entry)) .waiting) ≡ rounds (length (ledgerOf (now (book .entry)) .waiting)) (ledgerOf (now (book .entry)) .holdings) (markedOf due (ledgerOf (now (book .entry)) .waiting))) × (countOn (isOn r) (length (ledgerOf (now (book .entry)) .waiting)) ≤ countOn (isOn due) (length (ledgerOf (now (book .entry)) .waiting))) ⌝ }
+    ensures { λ r. ⌜ Netted (ledgerOf (now (book .entry))) due r ⌝ }
 {
     let n = book::items(book);
     let mut shares = [0u64; 192];
     let mut held = [0u64; 128];
-    figures::fill_shares(&mut shares, &mut held, book);
+    legs::fill_shares(&mut shares, &mut held, book);
     figures::add_marked(&mut held, &shares, due, n);
     let mut cents = [0u64; 192];
     let mut funds = [0u64; 128];
-    figures::fill_cash(&mut cents, &mut funds, book);
+    legs::fill_cash(&mut cents, &mut funds, book);
     figures::add_marked(&mut funds, &cents, due, n);
     let mut marks = due;
     loop {

@@ -23,7 +23,7 @@ ready c = premise-ready (ledgerOf (c .args .book .now)) (c .pre .0 .premise)
 book-marked-requires : tie.Need-book-marked-requires
 book-marked-requires c κs =
     let s = c .before .before .before .before .before .before .before .before .before .before .before .before .before .before in
-    (s .pre .0 .stored, ready s, none-short (ledgerOf (s .args .book .now)) (c .before .before .before .before .before .before .before .before .due-marks .result) (c .before .before .before .before .before .before .settling-marks .result) (c .before .before .before .before .before .before .before .before .due-marks .ensures) (c .before .before .before .before .before .before .settling-marks .ensures .0))
+    (s .pre .0 .stored, ready s, none-short (ledgerOf (s .args .book .now)) (c .before .before .before .before .before .before .before .before .due-marks .result) (c .before .before .before .before .before .before .settling-marks .result) (c .before .before .before .before .before .before .before .before .due-marks .ensures) (c .before .before .before .before .before .before .settling-marks .ensures .marked))
 
 leave-marked-requires : tie.Need-leave-marked-requires
 leave-marked-requires c κs =
@@ -36,7 +36,7 @@ count-cycle-requires c κs =
     let s = c .before .before .before .before .before .before .before .before .before .before .before .before .before .before .before .before .before .before .before .before .before .before in
     let l = c .before .before .before .leave-marked .ensures in
     let b = ledgerOf (s .args .book .now) in
-    let e = same-day b (c .before .before .before .before .before .before .before .before .before .before .before .before .before .before .before .before .due-marks .result) (c .before .before .before .before .before .before .before .before .before .before .before .before .before .before .settling-marks .result) (c .before .before .before .before .before .before .before .before .before .before .before .before .before .before .before .before .due-marks .ensures) (c .before .before .before .before .before .before .before .before .before .before .before .before .before .before .settling-marks .ensures .0) _ _ (c .before .before .before .before .before .before .before .book-marked .ensures) l in
+    let e = same-day b (c .before .before .before .before .before .before .before .before .before .before .before .before .before .before .before .before .due-marks .result) (c .before .before .before .before .before .before .before .before .before .before .before .before .before .before .settling-marks .result) (c .before .before .before .before .before .before .before .before .before .before .before .before .before .before .before .before .due-marks .ensures) (c .before .before .before .before .before .before .before .before .before .before .before .before .before .before .settling-marks .ensures .marked) _ _ (c .before .before .before .before .before .before .before .book-marked .ensures) l in
     (l .stored, omega (arith, ap (λ (d : Day). d .cycles) e, premise-cycles b (s .pre .0 .premise)))
 
 -- the counts are those of the marks
@@ -49,7 +49,7 @@ count-due c = c .count2 .ensures ∙ ap (countOn (isOn (c .before .before .befor
 counts-of-requires : tie.Need-counts-of-requires
 counts-of-requires c κs =
     let s = c .before .before .before .before .before .before .before .before .before .before .before .before .before .before .before .before .before .before .before .before .before .before .before .before .before .before .before in (
-      omega (arith, count-settled (c .before), count-due c, c .before .before .before .before .before .before .before .before .before .before .before .before .before .before .before .before .before .before .before .settling-marks .ensures .1),
+      omega (arith, count-settled (c .before), count-due c, c .before .before .before .before .before .before .before .before .before .before .before .before .before .before .before .before .before .before .before .settling-marks .ensures .fewer),
       omega (arith, count-due c, count-most (isOn (c .before .before .before .before .before .before .before .before .before .before .before .before .before .before .before .before .before .before .before .before .before .due-marks .result)) (length (ledgerOf (s .args .book .now) .waiting)), ready s .size),
     )
 
@@ -58,7 +58,7 @@ returns c = λ order.
     let s = c .before .before .before .before .before .before .before .before .before .before .before .before .before .before .before .before .before .before .before .before .before .before .before .before .before .before .before .before in
     let settled = c .before .before .before .before .before .before .before .before .before .before .before .before .before .before .before .before .before .before .before .before .settling-marks in
     let due = c .before .before .before .before .before .before .before .before .before .before .before .before .before .before .before .before .before .before .before .before .before .before .due-marks in
-    handled (ledgerOf (s .args .book .now)) (due .result) (settled .result) (due .ensures) (settled .ensures .0) _ _ (c .before .before .before .before .before .before .before .before .before .before .before .before .before .book-marked .ensures) (c .before .before .before .before .before .before .before .before .before .leave-marked .ensures) _ (c .before .before .before .before .before .count-cycle .ensures)
+    handled (ledgerOf (s .args .book .now)) (due .result) (settled .result) (due .ensures) (settled .ensures .marked) _ _ (c .before .before .before .before .before .before .before .before .before .before .before .before .before .book-marked .ensures) (c .before .before .before .before .before .before .before .before .before .leave-marked .ensures) _ (c .before .before .before .before .before .count-cycle .ensures)
     order (s .args .area .now) _ (c .counts-of .result) (c .before .before .before .before .before .before .before .before .before .before .before .before .before .before .before .before .before .write-marked .ensures) (rw (count-settled (c .before .before), count-due (c .before)) at (c .counts-of .ensures))
 
 pub run-spec : {M : Type 1} → statement M

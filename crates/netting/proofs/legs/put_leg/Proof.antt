@@ -1,9 +1,9 @@
--- `netting::figures::put_leg` meets its contract. Assumes nothing.
+-- `netting::legs::put_leg` meets its contract. Assumes nothing.
 use borrow.Author.Needs.{needs}
 use native.Mathlib.Omega.{arith}
 use lib.ListN.{length-set}
-use Rattle.netting.proofs.figures.put_leg.Statement.{statement}
-use Rattle.netting.proofs.figures.put_leg.Tie as tie
+use Rattle.netting.proofs.legs.put_leg.Statement.{statement}
+use Rattle.netting.proofs.legs.put_leg.Tie as tie
 
 pub put-leg-spec : {M : Type 1} → statement M
 put-leg-spec =

@@ -1,4 +1,4 @@
--- `netting::figures::fill_shares` meets its contract. The invariant: the first i legs and figures are those of the first i items. Assumes nothing.
+-- `netting::legs::fill_shares` meets its contract. The invariant: the first i legs and figures are those of the first i items. Assumes nothing.
 use mathlib.Core.List.{List}
 use mathlib.Core.Path.{_≡_, refl, sym, ap, subst, _∙_}
 use Prim.Native.Nat.{ℕ, _-_, _≤_, _<_}
@@ -13,8 +13,8 @@ use Rattle.netting.specs.Marks.{noItem, itemIn}
 use Rattle.netting.specs.Figures.{Legs, Figures}
 use Rattle.netting.specs.Ready.{Bookable}
 use Rattle.netting.proofs.Filling.{legs-none, legs-more, legs-done, figures-none, figures-more, figures-done}
-use Rattle.netting.proofs.figures.fill_shares.Statement.{statement}
-use Rattle.netting.proofs.figures.fill_shares.Tie as tie
+use Rattle.netting.proofs.legs.fill_shares.Statement.{statement}
+use Rattle.netting.proofs.legs.fill_shares.Tie as tie
 
 abbrev waiting : List ℕ → List Item
 waiting book = ledgerOf book .waiting
