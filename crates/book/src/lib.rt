@@ -4,6 +4,7 @@ ghost use mathlib.Core.Bool.{false};
 ghost use mathlib.Core.List.{_++_, _∷_, []};
 ghost use Prim.Native.Nat.{_+_, _^_, _≤_, _<_};
 ghost use lib.ListN.{length, getD, set, take};
+ghost use Rattle.rulebook.specs.Ledger as Ledger;
 ghost use Rattle.rulebook.specs.Ledger.{putDay, putHoldings, putWaiting, putSecurities, admitted, issuedOf, outsideOf, cashTotal};
 ghost use Rattle.rulebook.specs.Movements as movements;
 ghost use Rattle.rulebook.specs.Premise.{CashFits};
@@ -49,6 +50,7 @@ fn day_in(day: &[u64]) -> Day
     }
 }
 
+// The day goes into a region of 8 words.
 fn put_day_in(words: &mut [u64], day: Day)
     requires { ⌜ length (now words) ≡ 8 ⌝ }
     ensures { λ u. ⌜ (dayIn (now (words .exit)) ≡ day) × (getD (now (words .exit)) 1 0 ≤ 1) ⌝ }
@@ -66,7 +68,7 @@ pub fn day(book: &[u64]) -> Day
     day_in(&book[DAY..SECURITIES])
 }
 
-// Another day.
+// The book's day becomes `day`.
 pub fn put_day(book: &mut [u64], day: Day)
     requires { ⌜ Stored (now book) ⌝ }
     ensures { λ u. ⌜ Means (now (book .exit)) (putDay day (ledgerOf (now (book .entry)))) ⌝ }
@@ -90,6 +92,14 @@ pub fn balance(book: &[u64], account: Account) -> Shares
     ensures { λ r. ⌜ r .0 ≡ ledgerOf (now (book .entry)) .holdings .balance account ⌝ }
 {
     accounts::balance(&book[ACCOUNTS..CASH], account)
+}
+
+// Held: the sum of a security's accounts.
+pub fn held(book: &[u64], security: u64) -> Shares
+    requires { ⌜ Stored (now book) × (Ledger.held security (ledgerOf (now book) .holdings) < 2 ^ 64) ⌝ }
+    ensures { λ r. ⌜ r .0 ≡ Ledger.held security (ledgerOf (now (book .entry)) .holdings) ⌝ }
+{
+    accounts::held(&book[ACCOUNTS..CASH], security)
 }
 
 // More in the account.
