@@ -22,6 +22,7 @@ use Rattle.rulebook.proofs.RowCounts.{posting-length, legs-length}
 use Rattle.book.specs.Meaning.{ledgerOf}
 use Rattle.book.specs.Stored.{Means}
 use Rattle.book.specs.Handled.{Handled}
+use Rattle.book.proofs.Laws.{next}
 use Rattle.netting.specs.Marks.{itemIn, isOn, markedOf, countOn, rowsOf}
 use Rattle.cycle.specs.Counted.{oneMore}
 use Rattle.netting.proofs.Marking.{count-marked}
@@ -77,20 +78,19 @@ module _ (b : Ledger) (due marks : ℕ) (d : markedOf due b.waiting ≡ taken b.
       (held : Means first (putHoldings (booked (legs (withMark (markedOf marks b.waiting))) b.holdings) b))
       (left : Means second (putWaiting (withoutMark (markedOf marks (ledgerOf first .waiting))) (ledgerOf first)))
     where
-      stays : ledgerOf second ≡ putWaiting (withoutMark (markedOf marks b.waiting)) (putHoldings (booked (legs (withMark (markedOf marks b.waiting))) b.holdings) b)
-      unfolding putHoldings putWaiting
-      stays = left .ledger ∙ ap (λ (x : Ledger). putWaiting (withoutMark (markedOf marks (x .waiting))) x) (held .ledger)
+      stays : Means second (putWaiting (withoutMark (markedOf marks b.waiting)) (putHoldings (booked (legs (withMark (markedOf marks b.waiting))) b.holdings) b))
+      unfolding putHoldings
+      stays = next (λ x. putWaiting (withoutMark (markedOf marks (x .waiting))) x) held left
 
       pub same-day : ledgerOf second .day ≡ b.day
       unfolding putHoldings putWaiting
-      same-day = ap (λ (x : Ledger). x .day) stays
+      same-day = ap (λ (x : Ledger). x .day) (stays .ledger)
 
       module _ (third : List ℕ) (dated : Means third (putDay (oneMore (ledgerOf second .day)) (ledgerOf second))) where
         after : (order : Order) → ledgerOf third ≡ cycle b order .after
         unfolding putHoldings putWaiting putDay cycle outcome settled notSettled
         after order =
-            dated .ledger
-            ∙ ap (λ (x : Ledger). putDay (oneMore (x .day)) x) stays
+            next (λ x. putDay (oneMore (x .day)) x) stays dated .ledger
             ∙ ap (λ (ms : List Marked). putDay (oneMore b.day) (putWaiting (withoutMark ms) (putHoldings (booked (legs (withMark ms)) b.holdings) b))) all-rounds
 
         pub handled :
