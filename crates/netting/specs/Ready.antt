@@ -1,6 +1,5 @@
 -- What the cycle needs of a ledger, and what the rulebook's premise gives.
 use Prim.Native.Nat.{ℕ, _+_, _^_, _≤_, _<_}
-use mathlib.Core.List.{List}
 use lib.ListN.{length}
 use Rattle.rulebook.specs.Cycle.{seller, buyer}
 use Rattle.rulebook.specs.Ledger.{Ledger}
