@@ -1,67 +1,26 @@
+-- `exports::depository_call` meets its contract. Assumes nothing.
 use borrow.Author.Needs.{needs}
+use Rattle.exports.proofs.Laws.{accepted-told, refused-told}
 use Rattle.exports.proofs.depository_call.Statement.{statement}
 use Rattle.exports.proofs.depository_call.Tie as tie
-use Rattle.exports.proofs.depository_call.Reads as reads
-use Rattle.exports.proofs.depository_call.Lts as lts
-use Rattle.exports.proofs.put_counts.Reads as put-counts-reads
-use Rattle.ledger.proofs.call.Reads as call-reads
 
--- src/lib.rt:68:9
 call-requires : tie.Need-call-requires
-call-requires c κs = search needs
+call-requires c κs = c .before .before .before .before .before .before .pre .0
 
--- src/lib.rt:70:26
-enum-known-answer : tie.Need-enum-known-answer
-enum-known-answer c = search needs
-
--- src/lib.rt:71:13
-put-counts-requires : tie.Need-put-counts-requires
-put-counts-requires c κs = search needs
-
--- src/lib.rt:74:25
-enum-known-answer-2 : tie.Need-enum-known-answer-2
-enum-known-answer-2 c = search needs
-
--- src/lib.rt:58:1
-same-length : tie.Need-same-length
-same-length c = search needs
-
--- src/lib.rt:58:1
-same-length-2 : tie.Need-same-length-2
-same-length-2 c = search needs
-
--- src/lib.rt:58:1
-same-length-3 : tie.Need-same-length-3
-same-length-3 c = search needs
-
--- src/lib.rt:58:1
 returns : tie.Need-returns
-returns c = ?
+returns c =
+    let put = c .before .before in
+    let told = put .before .before .before in
+    let done = told .before .before .before .before .before .before in
+    let f = accepted-told (done .call .result) (done .before .before .before .before .before .before .before .args .counts .now) _ _ (told .answer .given .1) (put .put-counts .ensures) in
+    record { answer = done .call .result; called = done .call .ensures; numbered = f .0; counted = f .1 }
 
--- src/lib.rt:58:1
-same-length-4 : tie.Need-same-length-4
-same-length-4 c = search needs
-
--- src/lib.rt:58:1
-same-length-5 : tie.Need-same-length-5
-same-length-5 c = search needs
-
--- src/lib.rt:58:1
 returns-2 : tie.Need-returns-2
-returns-2 c = ?
+returns-2 c =
+    let told = c .before in
+    let done = told .before .before .before .before .before .before in
+    let f = refused-told (done .call .result) (done .before .before .before .before .before .before .before .args .counts .now) _ (told .answer2 .given .1) in
+    record { answer = done .call .result; called = done .call .ensures; numbered = f .0; counted = f .1 }
 
 pub depository-call-spec : {M : Type 1} → statement M
-depository-call-spec =
-    tie.close
-    (tie.spec
-    call-requires
-    enum-known-answer
-    put-counts-requires
-    enum-known-answer-2
-    same-length
-    same-length-2
-    same-length-3
-    returns
-    same-length-4
-    same-length-5
-    returns-2)
+depository-call-spec = tie.close (tie.spec call-requires (λ c. search needs) (λ c κs. c .before .before .before .before .before .before .before .before .before .before .before .before .before .before .before .pre .1) (λ c. search needs) (λ c. search needs) (λ c. search needs) (λ c. search needs) returns (λ c. search needs) (λ c. search needs) returns-2)

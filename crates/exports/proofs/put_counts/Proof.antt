@@ -1,25 +1,17 @@
+-- `exports::put_counts` meets its contract. Assumes nothing.
+use mathlib.Core.Path.{_∙_}
 use borrow.Author.Needs.{needs}
+use Rattle.rulebook.specs.Record.{fieldsOf}
+use Rattle.exports.specs.Words.{countsOf}
+use Rattle.exports.proofs.Laws.{whole}
 use Rattle.exports.proofs.put_counts.Statement.{statement}
 use Rattle.exports.proofs.put_counts.Tie as tie
-use Rattle.exports.proofs.put_counts.Reads as reads
-use Rattle.exports.proofs.put_counts.Lts as lts
-use Rattle.words.proofs.write.Reads as write-reads
 
--- src/lib.rt:54:28
-slice-aggregate-write : tie.Need-slice-aggregate-write
-slice-aggregate-write c = search needs
-
--- src/lib.rt:54:5
-write-requires : tie.Need-write-requires
-write-requires c κs = search needs
-
--- src/lib.rt:42:1
-same-length : tie.Need-same-length
-same-length c = search needs
-
--- src/lib.rt:42:1
 returns : tie.Need-returns
-returns c = ?
+unfolding countsOf
+returns c =
+    let s = c .before .before .before .before .before .before in
+    c .before .before .write .ensures ∙ whole (s .args .words .now) _ 6 (s .pre)
 
 pub put-counts-spec : {M : Type 1} → statement M
-put-counts-spec = tie.close (tie.spec slice-aggregate-write write-requires same-length returns)
+put-counts-spec = tie.close (tie.spec (λ c. search needs) (λ c κs. search needs) (λ c. search needs) returns)
