@@ -2,7 +2,7 @@
 use mathlib.Core.List.{[], _∷_}
 use mathlib.Core.Path.{_≡_, refl}
 use lib.ListN.{replicate}
-use Rattle.file.specs.Records.{parts, recordsOf, nextAt, found, walk}
+use Rattle.file.specs.Records.{parts, recordsOf, endOf, nextAt, found, walk}
 
 pub empty : recordsOf [] ≡ []
 unfolding recordsOf parts
@@ -13,5 +13,5 @@ unfolding recordsOf parts
 two-and-a-tail = refl
 
 pub two-walked : walk 3 (replicate 80 7) 0 ≡ replicate 40 7 ∷ replicate 40 7 ∷ []
-unfolding walk found nextAt
+unfolding walk found nextAt endOf
 two-walked = refl

@@ -27,7 +27,7 @@ first-record file some =
 
 -- the records from a place on are the one that a walk finds there, and those from its next place on
 pub walk-step : (file : List ℕ) (at : ℕ) → recordsOf (drop at file) ≡ found file (λ place. recordsOf (drop place file)) (nextAt file at)
-unfolding nextAt found
+unfolding nextAt endOf found
 walk-step file at = here (at below length file) refl (length file - at below 40) refl
   where
     here : (inside : Bool) → (at below length file) ≡ inside → (short : Bool) → (length file - at below 40) ≡ short

@@ -16,7 +16,7 @@ unfoldable pub recordsOf : List ℕ → List (List ℕ)
 recordsOf file = parts ((length file + 39) / 40) file
 
 -- where the record at a place ends: 40 bytes on, or where the file ends before that
-abbrev pub endOf : List ℕ → ℕ → ℕ
+unfoldable pub endOf : List ℕ → ℕ → ℕ
 endOf file at = if length file - at below 40 then length file else at + 40
 
 -- what a walk finds at a place

@@ -1,4 +1,4 @@
--- `file::record_at` meets its contract: each answer is the one that its tests choose. Assumes nothing.
+-- `file::record_at` meets its contract: the test on the place chooses the answer. Assumes nothing.
 use borrow.Author.Needs.{needs}
 use borrow.Author.Tests.{le-ltb, lt-ltb}
 use Rattle.file.specs.Records.{nextAt}
@@ -11,11 +11,7 @@ returns c = simp (le-ltb _ _ (c .if1 .taken))
 
 returns-2 : tie.Need-returns-2
 unfolding nextAt
-returns-2 c = simp (lt-ltb _ _ (c .before .if1 .left), lt-ltb _ _ (c .if2 .taken))
-
-returns-3 : tie.Need-returns-3
-unfolding nextAt
-returns-3 c = simp (lt-ltb _ _ (c .before .if1 .left), le-ltb _ _ (c .if2 .left))
+returns-2 c = simp (lt-ltb _ _ (c .before .if1 .left), c .end-of .ensures)
 
 pub record-at-spec : {M : Type 1} → statement M
-record-at-spec = tie.close (tie.spec returns (λ c. search needs) returns-2 (λ c. search needs) returns-3)
+record-at-spec = tie.close (tie.spec returns (λ c κs. search needs) returns-2)
