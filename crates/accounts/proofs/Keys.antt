@@ -1,14 +1,14 @@
 -- Two accounts in range with one key are one account, and a key's security is the account's. Assumes nothing.
-use Prim.Native.Nat.{ℕ, _+_, _*_, _/_, _^_, _<_}
+use Prim.Native.Nat.{ℕ, _/_, _%_, _^_, _<_}
 use native.Mathlib.Omega.{arith}
 use mathlib.Core.Bool.{Bool, true, false, _&&_}
 use mathlib.Core.Path.{_≡_, refl, sym, ap, _∙_}
-use lib.Dec.{eqb, ltb}
-use borrow.Author.Tests.{lt-ltb, ltb-true, eq-eqb, eqb-true, eqb-false}
+use borrow.Author.Tests.{lt-ltb, ltb-true, eqb-true, eqb-false}
 use Rattle.rulebook.specs.Lists.{_is_, _below_}
 use Rattle.rulebook.specs.Ledger.{sameAccount}
 use Rattle.rulebook.specs.declared.Account.{Account}
-use Rattle.words.proofs.Tests.{both}
+use Rattle.rulebook.proofs.Held.{same-self}
+use Rattle.rulebook.proofs.Lists.{both}
 use Rattle.accounts.specs.Keys.{keyOf, securityOf, InRange, inRange}
 
 pub range-true : (a : Account) → InRange a → inRange a ≡ true
@@ -40,6 +40,16 @@ key-once a b p q e =
     let h : a.shareholder ≡ b.shareholder = omega arith in
     alike a b s m t h
 
+-- the account of a key
+abbrev pub accountOf : ℕ → Account
+accountOf key = record { security = key / 2 ^ 48; member = key / 2 ^ 38 % 2 ^ 10; typ = key / 2 ^ 30 % 2 ^ 8; shareholder = key % 2 ^ 30 }
+
+pub account-range : (key : ℕ) → key < 2 ^ 62 → InRange (accountOf key)
+account-range key l = record { security = omega arith; member = omega arith; typ = omega arith; shareholder = omega arith }
+
+pub key-back : (key : ℕ) → keyOf (accountOf key) ≡ key
+key-back key = omega arith
+
 -- one account where the test says so
 same-holds : (a b : Account) → sameAccount a b ≡ true → a ≡ b
 unfolding sameAccount
@@ -48,10 +58,6 @@ same-holds a b e =
     let t = both (a.security is b.security && a.member is b.member) (a.typ is b.typ) (h .0) in
     let s = both (a.security is b.security) (a.member is b.member) (t .0) in
     alike a b (eqb-true _ _ (s .0)) (eqb-true _ _ (s .1)) (eqb-true _ _ (t .1)) (eqb-true _ _ (h .1))
-
-same-self : (a : Account) → sameAccount a a ≡ true
-unfolding sameAccount
-same-self a = simp (eq-eqb a.security a.security refl, eq-eqb a.member a.member refl, eq-eqb a.typ a.typ refl, eq-eqb a.shareholder a.shareholder refl)
 
 -- the keys are equal where the accounts are the same
 pub key-test : (a b : Account) → InRange a → InRange b → (keyOf a is keyOf b) ≡ sameAccount a b

@@ -5,8 +5,8 @@ use mathlib.Core.Bool.{Bool, true, false}
 use mathlib.Core.List.{List}
 use mathlib.Core.Logic.{_≢_}
 use mathlib.Core.Path.{_≡_, refl, sym, ap, _∙_, fun-ext}
-use lib.ListN.{length, getD, set}
-use borrow.Author.Tests.{eq-eqb, ne-eqb, eqb-true, eqb-false, lt-ltb}
+use lib.ListN.{set}
+use borrow.Author.Tests.{eq-eqb, ne-eqb, eqb-true, lt-ltb}
 use Rattle.rulebook.specs.Lists.{if_then_else_, _is_, _below_}
 use Rattle.rulebook.specs.Ledger.{Holdings, counted, putBalance, sameAccount, sumBelow}
 use Rattle.rulebook.specs.Movements.{credit, debit}

@@ -6,14 +6,15 @@ use mathlib.Core.Bool.{Bool, true, false}
 use mathlib.Core.List.{List}
 use mathlib.Core.Logic.{_≢_}
 use mathlib.Core.Path.{_≡_, refl, sym, ap, _∙_}
-use lib.ListN.{length, getD, set, length-set}
+use lib.ListN.{length, set, length-set}
 use lib.Seq.{getD-set-same, getD-set-other}
-use borrow.Author.Tests.{eq-eqb, ne-eqb, eqb-true, eqb-false}
+use borrow.Author.Tests.{ne-eqb, eqb-false}
 use Rattle.rulebook.specs.Lists.{if_then_else_, _is_}
 use Rattle.rulebook.specs.Ledger.{counted, sumBelow}
 use Rattle.words.specs.Tables.{rows, keyAt, placeOf, sumOf, valueOf}
 use Rattle.words.specs.declared.Found.the-variants.{At, Nothing}
-use Rattle.words.proofs.Sums.{sum-same, sum-change, sum-last, sum-moved, sum-least}
+use Rattle.rulebook.proofs.Held.{sum-same}
+use Rattle.words.proofs.Sums.{sum-change, sum-last, sum-moved, sum-least}
 use Rattle.words.proofs.Tables.{place-at, value-at, value-none}
 use Rattle.accounts.specs.Map.{BALANCES, balanceAt, opened, removed, Kept}
 
@@ -31,11 +32,11 @@ pub record Put (a r : List ℕ) (key balance : ℕ) : Type 0 where
 adds-some : (figure : ℕ → ℕ → ℕ) (key balance : ℕ) → 0 < balance → adds figure key balance ≡ figure key balance
 adds-some figure key balance some = rw (ne-eqb balance 0 (λ z. omega (arith, z)))
 
-counted-some : (balance : ℕ) → 0 < balance → counted balance ≡ 1
+pub counted-some : (balance : ℕ) → 0 < balance → counted balance ≡ 1
 unfolding counted
 counted-some balance some = rw (ne-eqb balance 0 (λ z. omega (arith, z)))
 
-counted-none : counted 0 ≡ 0
+pub counted-none : counted 0 ≡ 0
 unfolding counted
 counted-none = refl
 

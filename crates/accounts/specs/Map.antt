@@ -1,6 +1,5 @@
 -- The accounts' words as a map from accounts to balances, and what is kept true of them.
 use Prim.Native.Nat.{ℕ, _+_, _-_, _^_, _≤_, _<_}
-use mathlib.Core.Bool.{Bool}
 use mathlib.Core.List.{List}
 use mathlib.Core.Path.{_≡_}
 use lib.ListN.{length, getD, set}
@@ -8,7 +7,7 @@ use Rattle.rulebook.specs.Lists.{if_then_else_, _is_, _below_}
 use Rattle.rulebook.specs.Ledger.{Holdings}
 use Rattle.rulebook.specs.declared.Account.{Account}
 use Rattle.words.specs.Tables.{rows, keyAt, sumOf, valueOf, KeysOnce}
-use Rattle.accounts.specs.Keys.{keyOf, securityOf, InRange, inRange}
+use Rattle.accounts.specs.Keys.{keyOf, InRange, inRange}
 
 -- the balances are the column that starts at word 257
 abbrev pub BALANCES : ℕ
@@ -28,10 +27,6 @@ removed accounts i =
 -- what an account holds: 0 where there is none
 unfoldable pub balanceOf : List ℕ → Account → ℕ
 balanceOf accounts a = if inRange a then valueOf BALANCES accounts (keyOf a) else 0
-
--- the sum of a security's balances
-unfoldable pub heldIn : ℕ → List ℕ → ℕ
-heldIn security accounts = sumOf BALANCES (λ key balance. if securityOf key is security then balance else 0) accounts
 
 -- the holdings with the accounts that the words hold
 abbrev pub withAccounts : List ℕ → Holdings → Holdings

@@ -2,24 +2,27 @@
 use Prim.Native.Nat.{ℕ, _≤_, _<_}
 use native.Mathlib.Omega.{arith}
 use mathlib.Core.List.{List}
-use mathlib.Core.Path.{_≡_, refl, sym, ap, _∙_, subst}
-use lib.ListN.{length, getD, length-take, length-drop}
+use mathlib.Core.Path.{_≡_, sym, ap, _∙_, subst}
+use lib.ListN.{length, getD, length-drop}
 use lib.Seq.{length-take-le}
 use Rattle.rulebook.specs.Lists.{if_then_else_, _is_}
 use Rattle.rulebook.specs.Ledger.{Ledger, Holdings, putDay, putHoldings, putWaiting}
 use Rattle.rulebook.specs.declared.Day.{Day}
 use Rattle.rulebook.specs.declared.Item.{Item}
-use Rattle.words.specs.Regions.{region, putRegion, startOf}
+use Rattle.rulebook.specs.Premise.{accountCount, withCode}
+use Rattle.words.specs.Regions.{putRegion}
 use Rattle.words.specs.Tables.{rows}
 use Rattle.words.proofs.Regions.{region-put, region-length, end-within}
 use Rattle.securities.specs.Admitted.{securitiesOf, withSecurities}
 use Rattle.securities.specs.Admitted as securities
+use Rattle.securities.proofs.Laws.{codes-once}
+use Rattle.accounts.proofs.HeldRows.{rows-counted}
 use Rattle.accounts.specs.Map.{balanceOf, withAccounts}
 use Rattle.accounts.specs.Map as accounts
 use Rattle.cash.specs.Amounts.{amountOf, withCash}
 use Rattle.items.specs.Waiting.{itemsOf}
 use Rattle.items.specs.Waiting as items
-use Rattle.book.specs.Meaning.{widths, DAY, SECURITIES, ACCOUNTS, CASH, ITEMS, part, dayIn, holdingsBy, ledgerBy, holdingsOf, waitingOf, ledgerOf}
+use Rattle.book.specs.Meaning.{widths, DAY, SECURITIES, ACCOUNTS, CASH, ITEMS, part, dayIn, ledgerBy, holdingsOf, waitingOf, ledgerOf}
 use Rattle.book.specs.Stored.{StoredBy, Stored, Means}
 
 -- ---- the region law at this book's widths: part r is changed
@@ -94,3 +97,15 @@ module _ (xs : List ℕ) (stored : Stored xs) (ys : List ℕ) where
   items-step l sized e =
       step ITEMS (omega arith) sized.long (putWaiting l (ledgerOf xs)) (record { opened = stored.parts.opened; securities = stored.parts.securities; accounts = stored.parts.accounts; items = sized })
       (ap (λ (x : List Item). putWaiting x (ledgerOf xs)) e)
+
+-- ---- what the words keep of the ledger
+
+-- the number of accounts is that of the accounts with a balance
+pub stored-counted : (xs : List ℕ) → Stored xs → holdingsOf xs .accounts ≡ accountCount (holdingsOf xs)
+unfolding holdingsOf
+stored-counted xs stored = rows-counted (part ACCOUNTS xs) stored.parts.accounts (holdingsOf xs)
+
+-- no two securities have one code
+pub stored-codes : (xs : List ℕ) → Stored xs → (code : ℕ) → withCode code (holdingsOf xs .securities) ≤ 1
+unfolding holdingsOf
+stored-codes xs stored code = codes-once (part SECURITIES xs) stored.parts.securities code

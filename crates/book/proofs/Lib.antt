@@ -1,3 +1,4 @@
 -- The laws of a book's parts.
 pub mod Laws
 pub mod Zeros
+pub mod Admission

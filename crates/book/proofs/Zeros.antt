@@ -1,15 +1,16 @@
 -- The zero words are stored right and mean the fresh ledger. Assumes nothing.
-use Prim.Native.Nat.{ℕ, zero, suc, _+_, _≤_, _<_}
+use Prim.Native.Nat.{ℕ, zero, suc, _+_, _<_}
 use native.Mathlib.Numerals.{add-one}
 use native.Mathlib.Omega.{arith}
 use mathlib.Core.Bool.{Bool, true, false}
 use mathlib.Core.List.{List, [], _∷_, _++_}
-use mathlib.Core.Path.{_≡_, refl, sym, ap, _∙_, fun-ext}
+use mathlib.Core.Path.{_≡_, refl, ap, _∙_, fun-ext}
 use lib.ListN.{length, getD, set, take, replicate, replicate-append-replicate}
 use lib.Seq.{take-suc-set}
 use Rattle.rulebook.specs.Lists.{if_then_else_}
-use Rattle.rulebook.specs.Ledger.{Ledger, fresh, sumBelow}
+use Rattle.rulebook.specs.Ledger.{fresh, sumBelow}
 use Rattle.rulebook.specs.declared.Account.{Account}
+use Rattle.rulebook.proofs.EveryCall.{fresh-premise}
 use Rattle.words.specs.Places.{listFrom}
 use Rattle.words.specs.Tables.{sumOf, valueOf}
 use Rattle.securities.specs.Admitted.{securitiesOf}
@@ -18,7 +19,7 @@ use Rattle.accounts.specs.Map.{balanceOf}
 use Rattle.cash.specs.Amounts.{kept, place, amountOf}
 use Rattle.items.specs.Waiting.{itemsOf}
 use Rattle.book.specs.Meaning.{ACCOUNTS, CASH, part, holdingsOf, waitingOf, ledgerOf}
-use Rattle.book.specs.Stored.{Stored, Means}
+use Rattle.book.specs.Stored.{Stored, Kept, Means}
 use Rattle.book.specs.Zeros.{zeros}
 
 zero-word : (n i : ℕ) → _≡_ {A = ℕ} (getD (replicate n 0) i 0) 0
@@ -65,6 +66,10 @@ ledger = λ i. record {
 
 pub zeros-mean : Means zeros fresh
 zeros-mean = record { stored = stored; ledger = ledger }
+
+-- and what every call keeps
+pub zeros-kept : Kept zeros
+zeros-kept = record { stored = stored; premise = rw ledger fresh-premise }
 
 -- ---- the words so far
 

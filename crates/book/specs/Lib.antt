@@ -2,3 +2,4 @@
 pub mod Meaning
 pub mod Stored
 pub mod Zeros
+pub mod Handled

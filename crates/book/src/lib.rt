@@ -4,6 +4,7 @@ ghost use mathlib.Core.Bool.{false};
 ghost use mathlib.Core.List.{_++_, _∷_, []};
 ghost use Prim.Native.Nat.{_+_, _^_, _≤_, _<_};
 ghost use lib.ListN.{length, getD, set};
+ghost use Rattle.rulebook.specs.Ledger as Ledger;
 ghost use Rattle.rulebook.specs.Ledger.{putDay, putHoldings, putWaiting, putSecurities, admitted, issuedOf, outsideOf, cashTotal};
 ghost use Rattle.rulebook.specs.Movements as movements;
 ghost use Rattle.rulebook.specs.Premise.{CashFits};
@@ -90,6 +91,14 @@ pub fn balance(book: &[u64], account: Account) -> Shares
     ensures { λ r. ⌜ r .0 ≡ ledgerOf (now (book .entry)) .holdings .balance account ⌝ }
 {
     accounts::balance(&book[ACCOUNTS..CASH], account)
+}
+
+// Held: the sum of a security's accounts.
+pub fn held(book: &[u64], security: u64) -> Shares
+    requires { ⌜ Stored (now book) × (Ledger.held security (ledgerOf (now book) .holdings) < 2 ^ 64) ⌝ }
+    ensures { λ r. ⌜ r .0 ≡ Ledger.held security (ledgerOf (now (book .entry)) .holdings) ⌝ }
+{
+    accounts::held(&book[ACCOUNTS..CASH], security)
 }
 
 // More in the account.

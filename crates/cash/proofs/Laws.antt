@@ -11,7 +11,7 @@ use Rattle.rulebook.specs.Lists.{if_then_else_, _is_, _atMost_, within}
 use Rattle.rulebook.specs.Ledger.{Holdings, putCash, sumBelow}
 use Rattle.rulebook.specs.Movements.{credit, debit, cashOf}
 use Rattle.rulebook.specs.Premise.{CashFits}
-use Rattle.words.proofs.Tests.{both}
+use Rattle.rulebook.proofs.Lists.{both}
 use Rattle.words.proofs.Sums.{sum-last, sum-grows}
 use Rattle.cash.specs.Amounts.{place, kept, amountOf, totalIn, withCash}
 

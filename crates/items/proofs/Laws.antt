@@ -1,11 +1,11 @@
 -- What is put into a row is what is read from it; the list of items after a row is put last, and after the rows behind one come down. Assumes nothing.
-use Prim.Native.Nat.{ℕ, zero, suc, _+_, _-_, _*_, _≤_, _<_}
+use Prim.Native.Nat.{ℕ, suc, _+_, _-_, _*_, _≤_, _<_}
 use native.Mathlib.Numerals.{add-one}
 use native.Mathlib.Omega.{arith}
 use mathlib.Core.Bool.{Bool, true, false}
 use mathlib.Core.List.{List, [], _∷_, _++_}
 use mathlib.Core.Path.{_≡_, refl, sym, ap, _∙_}
-use lib.Dec.{eqb, ltb}
+use lib.Dec.{ltb}
 use borrow.Author.Tests.{ltb-true, ltb-false}
 use lib.ListN.{length, getD, set, take, drop, length-set, length-drop, take-append-drop}
 use lib.Seq.{drop-set-lt, getD-set-same, drop-drop, length-take-le, drop-append-le, take-append-le}
@@ -17,7 +17,6 @@ use Rattle.words.proofs.Regions.{part-same, part-before, word-before, part-behi
 use Rattle.items.specs.Waiting.{stateWords, stateOf, itemOf, wordsOf, rowAt, itemAt, putRow, itemsOf, Sized}
 use Rattle.rulebook.specs.declared.State.{State}
 use Rattle.rulebook.specs.declared.State.the-variants.{Single, Pair, Trade}
-use Rattle.items.specs.declared.StateWords.{StateWords}
 use Rattle.rulebook.specs.declared.Item.{Item}
 
 -- ---- an item's words hold the item

@@ -9,18 +9,20 @@ use mathlib.Core.Logic.{_≢_}
 use mathlib.Core.Path.{_≡_, refl, sym, ap, _∙_}
 use lib.ListN.{length, getD, set, length-set}
 use lib.Seq.{getD-set-same, getD-set-other}
-use borrow.Author.Tests.{eq-eqb, ne-eqb, eqb-true, eqb-false}
-use Rattle.rulebook.specs.Lists.{if_then_else_, _is_, some}
+use borrow.Author.Tests.{eq-eqb, ne-eqb, eqb-true}
+use Rattle.rulebook.specs.Lists.{if_then_else_, _is_}
 use Rattle.rulebook.specs.Ledger.{Holdings, fresh, admitted, issuedOf, outsideOf, putOutside, putSecurities, sumBelow}
 use Rattle.rulebook.specs.Movements.{credit, debit, type91}
+use Rattle.rulebook.specs.Premise.{withCode}
 use Rattle.rulebook.specs.declared.Security.{Security}
-use Rattle.words.specs.Places.{listFrom, firstFrom}
+use Rattle.words.specs.Places.{listFrom}
 use Rattle.words.specs.Tables.{rows, keyAt, placeOf, sumOf, valueOf, KeysOnce}
 use Rattle.words.specs.declared.Found.{Found}
 use Rattle.words.specs.declared.Found.the-variants.{At, Nothing}
 use Rattle.words.proofs.Places.{isFound, length-from, from-get, from-same, from-push, from-map, from-some, from-total}
-use Rattle.words.proofs.Sums.{sum-same, sum-none, sum-last}
-use Rattle.words.proofs.Tables.{place-at, place-none, value-at, value-none, key-once}
+use Rattle.rulebook.proofs.Held.{sum-same}
+use Rattle.words.proofs.Sums.{sum-none, sum-last}
+use Rattle.words.proofs.Tables.{place-at, place-none, value-at, key-once}
 use Rattle.securities.specs.Admitted.{ISSUED, OUTSIDE, security, securityAt, securitiesOf, withSecurities, Kept}
 
 pub how-many : (s : List ℕ) → length (securitiesOf s) ≡ rows s
@@ -30,6 +32,11 @@ how-many s = length-from (securityAt s) 0 (rows s)
 pub security-there : (s : List ℕ) (i : ℕ) (d : Security) → i < rows s → securityAt s i ≡ getD (securitiesOf s) i d
 unfolding securitiesOf
 security-there s i d h = let z : i ≡ 0 + i = omega arith in ap (securityAt s) z ∙ sym (from-get (securityAt s) 0 (rows s) i d h)
+
+-- no two have one code
+pub codes-once : (s : List ℕ) → Kept s → (code : ℕ) → withCode code (securitiesOf s) ≤ 1
+unfolding securitiesOf
+codes-once s kept code = rw (from-total (λ x. if x.code is code then 1 else 0) (securityAt s) (rows s)) (kept.once code)
 
 module _ (s : List ℕ) (code : ℕ) where
   -- it is admitted where a search finds it

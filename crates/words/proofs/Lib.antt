@@ -1,5 +1,4 @@
--- Tests, sums, lists by places, tables and regions of words.
-pub mod Tests
+-- Sums, lists by places, tables and regions of words.
 pub mod Sums
 pub mod Places
 pub mod Tables

@@ -6,10 +6,11 @@ use mathlib.Core.Bool.{Bool, true, false, _||_}
 use mathlib.Core.List.{List, [], _∷_, _++_, map}
 use mathlib.Core.Path.{_≡_, refl, sym, ap, _∙_, subst}
 use lib.Dec.{eqb}
-use lib.ListN.{length, getD, set, take, drop}
+use lib.ListN.{length, getD, set}
 use borrow.Author.Tests.{eqb-true, eqb-false}
 use Rattle.rulebook.specs.Lists.{if_then_else_, some, total}
 use Rattle.rulebook.specs.Ledger.{sumBelow}
+use Rattle.rulebook.proofs.Lists.{total-append}
 use Rattle.words.specs.Places.{firstFrom, listFrom, removeAt}
 use Rattle.words.specs.declared.Found.{Found}
 use Rattle.words.specs.declared.Found.the-variants.{At, Nothing}
@@ -172,8 +173,4 @@ module _ {A : Type 0} where
   from-total figure f (suc n) =
       let z : 0 + n ≡ n = omega arith in
       let last : figure (f (0 + n)) ≡ figure (f n) = ap (λ (k : ℕ). figure (f k)) z in
-      ap (total figure) (from-push f f 0 n (λ k l. refl)) ∙ total-append (listFrom f 0 n) (f (0 + n)) ∙ omega (arith, last, from-total figure f n)
-    where
-      total-append : (l : List A) (x : A) → total figure (l ++ (x ∷ [])) ≡ total figure l + figure x
-      total-append [] x = omega arith
-      total-append (y ∷ l) x = omega (arith, total-append l x)
+      ap (total figure) (from-push f f 0 n (λ k l. refl)) ∙ total-append figure (listFrom f 0 n) (f (0 + n) ∷ []) ∙ omega (arith, last, from-total figure f n)

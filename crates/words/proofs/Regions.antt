@@ -6,10 +6,10 @@ use mathlib.Core.Bool.{Bool, true, false}
 use mathlib.Core.List.{List, [], _∷_, _++_, append-assoc}
 use mathlib.Core.Path.{_≡_, refl, sym, ap, _∙_}
 use lib.Dec.{eqb, ltb}
-use lib.ListN.{length, getD, set, take, drop, length-append, length-take, length-drop, take-append-drop, List·getD-append}
+use lib.ListN.{length, getD, set, take, drop, length-append, length-drop, take-append-drop, List·getD-append}
 use lib.Seq.{length-take-le, take-at, drop-at, drop-drop, take-append-le, drop-append-le, paste, paste-zero, paste-suc, drop-paste, getD-take, getD-drop}
 use borrow.Author.Tests.{eqb-true, eqb-false, ltb-true, ltb-false}
-use borrow.Rule.Slice.PartMut.{putMid, take-put, same-len-mid}
+use borrow.Rule.Slice.PartMut.{putMid}
 use Rattle.rulebook.specs.Lists.{if_then_else_, _is_}
 use Rattle.words.specs.Regions.{startOf, whole, region, putRegion}
 

@@ -5,16 +5,11 @@ use native.Mathlib.Decide.{ℕ-discrete}
 use native.Mathlib.Omega.{arith}
 use mathlib.Core.Bool.{Bool, true, false}
 use mathlib.Core.Logic.{_≢_}
-use mathlib.Core.Path.{_≡_, refl, sym, ap, _∙_}
+use mathlib.Core.Path.{_≡_, refl, sym}
 use borrow.Author.Tests.{eq-eqb, ne-eqb}
 use Rattle.rulebook.specs.Lists.{if_then_else_, _is_}
 use Rattle.rulebook.specs.Ledger.{sumBelow}
-
--- the same figures have the same sum
-pub sum-same : (n : ℕ) (f g : ℕ → ℕ) → ((k : ℕ) → k < n → g k ≡ f k) → sumBelow n g ≡ sumBelow n f
-unfolding sumBelow
-sum-same zero f g e = refl
-sum-same (suc n) f g e = let z : g n ≡ f n = e n (omega arith) in omega (arith, sum-same n f g (λ k l. e k (omega arith)))
+use Rattle.rulebook.proofs.Held.{sum-same}
 
 pub sum-none : (n : ℕ) (f : ℕ → ℕ) → ((k : ℕ) → k < n → f k ≡ 0) → sumBelow n f ≡ 0
 unfolding sumBelow
@@ -32,9 +27,12 @@ sum-change (suc n) j f g l e = go (ℕ-discrete j n) (λ m. sum-change n j f g m
     go (no d) earlier = omega (arith, e n (omega arith) (λ q. d (sym q)), earlier (omega (arith, d)))
 
 -- one figure more
-pub sum-last : (n : ℕ) (f : ℕ → ℕ) → sumBelow (n + 1) f ≡ sumBelow n f + f n
+pub sum-suc : (n : ℕ) (f : ℕ → ℕ) → sumBelow (suc n) f ≡ sumBelow n f + f n
 unfolding sumBelow
-sum-last n f = rw add-one
+sum-suc n f = refl
+
+pub sum-last : (n : ℕ) (f : ℕ → ℕ) → sumBelow (n + 1) f ≡ sumBelow n f + f n
+sum-last n f = rw add-one (sum-suc n f)
 
 -- the figure at j is taken out, and the last one comes into its place
 pub sum-moved : (n j : ℕ) (f g : ℕ → ℕ) → j ≤ n → ((k : ℕ) → k < n → k ≢ j → g k ≡ f k) → (j < n → g j ≡ f n) → sumBelow n g + f j ≡ sumBelow (n + 1) f

@@ -14,9 +14,13 @@ rows table = getD table 0 0
 abbrev pub keyAt : List ℕ → ℕ → ℕ
 keyAt table i = getD table (i + 1) 0
 
+-- row i has the key
+abbrev pub isKey : List ℕ → (key i : ℕ) → Bool
+isKey table key i = keyAt table i is key
+
 -- where the row of a key stands
 unfoldable pub placeOf : ℕ → List ℕ → Found
-placeOf key table = firstFrom (λ i. keyAt table i is key) 0 (rows table)
+placeOf key table = firstFrom (isKey table key) 0 (rows table)
 
 -- the sum over the rows of a figure of a row's key and its value in the column that starts at c
 unfoldable pub sumOf : (c : ℕ) → (ℕ → ℕ → ℕ) → List ℕ → ℕ

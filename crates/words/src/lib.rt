@@ -1,11 +1,11 @@
 // What the regions of a book of words need: a table's rows, a search by key, copies of words.
 ghost use mathlib.Core.Path.{_≡_};
-ghost use Prim.Native.Nat.{_+_, _≤_, _<_};
+ghost use Prim.Native.Nat.{_+_, _-_, _≤_, _<_};
 ghost use lib.ListN.{length, take, drop};
 ghost use borrow.Rule.Slice.PartMut.{putMid};
-ghost use Rattle.words.specs.Places.{bit};
+ghost use Rattle.words.specs.Places.{bit, firstFrom};
 ghost use Rattle.words.specs.Tables as Tables;
-ghost use Rattle.words.specs.Tables.{rows, placeOf, valueOf, KeysOnce};
+ghost use Rattle.words.specs.Tables.{rows, isKey, placeOf, valueOf, KeysOnce};
 
 // What a search for a place finds.
 pub enum Found {
@@ -32,13 +32,37 @@ pub fn rows(table: &[u64]) -> u64
     table[0]
 }
 
+// How many of the first `n` rows may be passed over, none of which has `key`: four at a time, for a table is read from its start at each search.
+fn passed(table: &[u64], key: u64, n: usize) -> usize
+    requires { ⌜ n < length (now table) ⌝ }
+    ensures { λ r. ⌜ (r ≤ n) × (firstFrom (isKey (now (table .entry)) key) 0 n ≡ firstFrom (isKey (now (table .entry)) key) r (n - r)) ⌝ }
+{
+    let mut i: usize = 0;
+    while i + 4 <= n {
+        if table[i + 1] == key {
+            return i;
+        }
+        if table[i + 2] == key {
+            return i;
+        }
+        if table[i + 3] == key {
+            return i;
+        }
+        if table[i + 4] == key {
+            return i;
+        }
+        i += 4;
+    }
+    i
+}
+
 // Where the row of `key` stands in a table, whose keys are the words behind its first.
 pub fn find(table: &[u64], key: u64) -> Found
     requires { ⌜ rows (now table) < length (now table) ⌝ }
     ensures { λ r. ⌜ r ≡ placeOf key (now (table .entry)) ⌝ }
 {
     let n = table[0] as usize;
-    let mut i: usize = 0;
+    let mut i = passed(table, key, n);
     while i < n {
         if table[i + 1] == key {
             return Found::At(i);

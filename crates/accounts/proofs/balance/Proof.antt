@@ -1,6 +1,5 @@
 -- `accounts::balance` meets its contract: what the row of the account's key has. Assumes nothing.
 use mathlib.Core.Path.{sym, ap, _∙_}
-use Prim.Native.Nat.{ℕ}
 use borrow.Author.Needs.{needs}
 use Rattle.words.specs.Tables.{valueOf}
 use Rattle.accounts.specs.Map.{BALANCES}

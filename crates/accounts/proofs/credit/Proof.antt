@@ -7,7 +7,7 @@ use native.Mathlib.Omega.{arith}
 use Rattle.rulebook.specs.Ledger.{Holdings}
 use Rattle.rulebook.specs.Movements as movements
 use Rattle.words.specs.Tables.{rows, placeOf}
-use Rattle.words.specs.declared.Found.the-variants.{At, Nothing}
+use Rattle.words.specs.declared.Found.the-variants.{Nothing}
 use Rattle.accounts.specs.Keys.{keyOf}
 use Rattle.accounts.specs.Map.{balanceOf, balanceAt, withAccounts, Kept}
 use Rattle.accounts.proofs.Map.{balance-none, balance-here, credited-at, credited-new}

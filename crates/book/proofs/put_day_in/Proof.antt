@@ -1,13 +1,11 @@
 -- `book::put_day_in` meets its contract. Assumes nothing.
 use Prim.Native.Nat.{ℕ, _≤_}
 use mathlib.Core.Bool.{Bool, true, false}
-use mathlib.Core.Path.{_≡_, refl, sym, ap, subst, _∙_}
+use mathlib.Core.Path.{_≡_, sym, subst}
 use mathlib.Core.List.{List}
-use native.Mathlib.Omega.{arith}
 use borrow.Author.Needs.{needs}
 use lib.ListN.{getD}
 use Rattle.rulebook.specs.Lists.{_is_}
-use Rattle.rulebook.specs.declared.Day.{Day}
 use Rattle.words.specs.Places.{bit}
 use Rattle.book.specs.Meaning.{dayIn}
 use Rattle.book.proofs.put_day_in.Statement.{statement}

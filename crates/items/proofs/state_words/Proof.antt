@@ -1,11 +1,9 @@
 -- `items::state_words` meets its contract. Assumes nothing.
-use mathlib.Core.Path.{_≡_, refl, sym, ap, _∙_}
+use mathlib.Core.Path.{_≡_, sym, ap, _∙_}
 use Prim.Native.Nat.{ℕ, _+_, _*_}
 use borrow.Author.Needs.{needs}
 use Rattle.words.specs.Places.{bit}
 use Rattle.items.specs.Waiting.{stateWords}
-use Rattle.rulebook.specs.declared.State.{State}
-use Rattle.rulebook.specs.declared.State.the-variants.{Single, Pair, Trade}
 use Rattle.items.specs.declared.StateWords.{StateWords}
 use Rattle.items.proofs.state_words.Statement.{statement}
 use Rattle.items.proofs.state_words.Tie as tie

@@ -1,21 +1,14 @@
 -- `words::find` meets its contract. The invariant: what is found from the first place on is what is found from place i on. Assumes nothing.
-use mathlib.Core.Path.{_≡_, refl, sym, _∙_}
-use Prim.Native.Nat.{ℕ, _≤_, _-_}
-use mathlib.Core.Bool.{Bool}
-use mathlib.Core.List.{List}
-use Rattle.rulebook.specs.Lists.{_is_}
+use mathlib.Core.Path.{_≡_, sym, _∙_}
+use Prim.Native.Nat.{_≤_, _-_}
 use borrow.Author.Needs.{needs}
 use borrow.Author.Tests.{eq-eqb, ne-eqb}
 use native.Mathlib.Omega.{arith}
-use lib.ListN.{getD}
 use Rattle.words.specs.Places.{firstFrom}
-use Rattle.words.proofs.Places.{first-here, first-next, first-none, first-start}
-use Rattle.words.specs.Tables.{placeOf, keyAt}
+use Rattle.words.proofs.Places.{first-here, first-next, first-none}
+use Rattle.words.specs.Tables.{placeOf, isKey}
 use Rattle.words.proofs.find.Statement.{statement}
 use Rattle.words.proofs.find.Tie as tie
-
-abbrev isKey : List ℕ → ℕ → ℕ → Bool
-isKey table key i = keyAt table i is key
 
 abbrev Inv-loop : tie.InvT-loop
 Inv-loop table key n i₀ i = (i ≤ n) × (firstFrom (isKey table key) 0 n ≡ firstFrom (isKey table key) i (n - i))
@@ -25,16 +18,22 @@ abbrev μ-loop : tie.MeasureT-loop
 
 returns : tie.Need-returns Inv-loop μ-loop
 unfolding placeOf
-returns c = sym (c .before .before .before .loop .inv .1 ∙ first-here (isKey (c .before .before .before .before .before .args .table .now) (c .before .before .before .before .before .args .key)) _ _ (c .before .before .loop-test .taken) (eq-eqb _ _ (c .if1 .taken)))
+returns c =
+    let l = c .before .before .before .loop in
+    let a = c .before .before .before .before .before .before .before .args in
+    sym (l .inv .1 ∙ first-here (isKey (a .table .now) (a .key)) _ _ (c .before .before .loop-test .taken) (eq-eqb _ _ (c .if1 .taken)))
 
 loop-again : tie.Need-loop-again Inv-loop μ-loop
-loop-again c = (omega arith, c .before .before .before .loop .inv .1 ∙ first-next (isKey (c .before .before .before .before .before .args .table .now) (c .before .before .before .before .before .args .key)) _ _ (c .before .before .loop-test .taken) (ne-eqb _ _ (c .if1 .left)))
+loop-again c =
+    let l = c .before .before .before .loop in
+    let a = c .before .before .before .before .before .before .before .args in
+    (omega arith, l .inv .1 ∙ first-next (isKey (a .table .now) (a .key)) _ _ (c .before .before .loop-test .taken) (ne-eqb _ _ (c .if1 .left)))
 
 returns-2 : tie.Need-returns-2 Inv-loop μ-loop
 unfolding placeOf
-returns-2 c = sym (c .before .loop .inv .1 ∙ first-none (isKey (c .before .before .before .args .table .now) (c .before .before .before .args .key)) _ _ (c .loop-test .left))
+returns-2 c = let a = c .before .before .before .before .before .args in sym (c .before .loop .inv .1 ∙ first-none (isKey (a .table .now) (a .key)) _ _ (c .loop-test .left))
 
 pub find-spec : {M : Type 1} → statement M
 find-spec =
     tie.close
-    (tie.spec Inv-loop μ-loop (λ c. search needs) (λ c. (omega arith, first-start (isKey (c .before .args .table .now) (c .before .args .key)) _)) (λ c. omega arith) (λ c. omega arith) (λ c. omega arith) returns (λ c. omega arith) (λ c. omega arith) loop-again returns-2)
+    (tie.spec Inv-loop μ-loop (λ c. search needs) (λ c κs. search needs) (λ c. c .passed .ensures) (λ c. omega arith) (λ c. omega arith) (λ c. omega arith) returns (λ c. omega arith) (λ c. omega arith) loop-again returns-2)

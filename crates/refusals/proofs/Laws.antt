@@ -1,0 +1,108 @@
+-- The item that a cancel names is the only one that waits under its sender's reference. Assumes nothing.
+use Prim.Native.Nat.{ℕ, zero, suc, _≤_, _<_}
+use mathlib.Core.Path.{_≡_, refl, sym, ap, subst, _∙_}
+use mathlib.Core.Bool.{Bool, true, false, _&&_, _||_, false≢true, or-true}
+use mathlib.Core.List.{List, [], _∷_}
+use native.Mathlib.Omega.{arith}
+use borrow.Author.Tests.{eq-eqb, ne-eqb, leb-true, leb-false, lt-leb}
+use lib.Dec.{leb}
+use lib.ListN.{length, getD}
+use Rattle.rulebook.specs.Lists.{_is_, within, some, first}
+use Rattle.rulebook.specs.Ledger.{Ledger}
+use Rattle.rulebook.specs.Premise.{Premise}
+use Rattle.rulebook.specs.Waiting.{senderOf, sentBy, notCancellable}
+use Rattle.rulebook.specs.Refusals.{wrongCancel}
+use Rattle.rulebook.specs.declared.Order.{Order}
+use Rattle.rulebook.specs.declared.Item.{Item}
+use Rattle.rulebook.proofs.ByIndex.{reference-once}
+use Rattle.words.specs.declared.Found.{Found}
+use Rattle.words.specs.declared.Found.the-variants.{At, Nothing}
+use Rattle.search.specs.Place.{placeIn, isFound}
+use Rattle.search.proofs.Laws.{Passes, found-some, found-passes}
+
+-- where none passes one test, none passes it together with another
+pub none-both : {A : Type 0} (one other : A → Bool) (l : List A) → some one l ≡ false → some (λ x. one x && other x) l ≡ false
+none-both one other [] e = refl
+none-both one other (x ∷ rest) e = go (one x) e (none-both one other rest)
+  where
+    go : (t : Bool) → (t || some one rest) ≡ false → (some one rest ≡ false → some (λ y. one y && other y) rest ≡ false) → (t && other x || some (λ y. one y && other y) rest) ≡ false
+    go true p later = absurd (false≢true (sym p))
+    go false p later = later p
+
+-- a list with an element that passes
+pub some-at : {A : Type 0} (test : A → Bool) (l : List A) (i : ℕ) (d : A) → i < length l → test (getD l i d) ≡ true → some test l ≡ true
+some-at test [] i d h e = absurd (omega arith)
+some-at test (x ∷ rest) zero d h e = rw e
+some-at test (x ∷ rest) (suc i) d h e = rw (some-at test rest i d (omega arith) e) (or-true (test x))
+
+both-left : (a b : Bool) → (a && b) ≡ true → a ≡ true
+both-left true b e = refl
+both-left false b e = e
+
+both-right : (a b : Bool) → (a && b) ≡ true → b ≡ true
+both-right true b e = e
+both-right false b e = absurd (false≢true e)
+
+module _ (b : Ledger) (p : Premise b) (s r i : ℕ) (at : Passes (sentBy s r) b.waiting i) (x : Item) (here : x ≡ getD b.waiting i x) where
+  both : Item → Bool
+  both item = sentBy s r item && notCancellable s item
+
+  -- whether that sender can't cancel it is told by that item alone
+  pub cancel-one : some (λ item. sentBy s r item && notCancellable s item) b.waiting ≡ notCancellable s x
+  unfolding both
+  cancel-one = go (notCancellable s x) refl (placeIn both b.waiting) refl
+    where
+      sent : sentBy s r x ≡ true
+      sent = ap (sentBy s r) here ∙ at.passes x
+
+      go : (t : Bool) → notCancellable s x ≡ t → (f : Found) → placeIn both b.waiting ≡ f → some both b.waiting ≡ t
+      go true e f q = some-at both b.waiting i x at.inside (ap both (sym here) ∙ rw (sent, e))
+      go false e Nothing q = sym (found-some both 0 b.waiting) ∙ ap isFound q
+      go false e (At j) q =
+          let there = found-passes both b.waiting j q in
+          let same : i ≡ j = reference-once b p s r i j x at.inside there.inside (at.passes x) (both-left (sentBy s r (getD b.waiting j x)) (notCancellable s (getD b.waiting j x)) (there.passes x)) in
+          let y : notCancellable s (getD b.waiting i x) ≡ true = subst (λ (k : ℕ). notCancellable s (getD b.waiting k x) ≡ true) (sym same) (both-right (sentBy s r (getD b.waiting j x)) (notCancellable s (getD b.waiting j x)) (there.passes x)) in
+          absurd (false≢true (sym e ∙ ap (notCancellable s) here ∙ y))
+
+-- ---- ranges of forms
+
+pub within-parts : (a b n : ℕ) → within a b n ≡ true → (a ≤ n) × (n ≤ b)
+within-parts a b n e = (leb-true a n (both-left (leb a n) (leb n b) e), leb-true n b (both-right (leb a n) (leb n b) e))
+
+pub within-not : (a b n k : ℕ) → b < k → within a b n ≡ true → (n is k) ≡ false
+within-not a b n k l e = ne-eqb n k (λ p. omega (arith, within-parts a b n e .1))
+
+-- a form that is none of 12 to 15
+pub not-waiting : (n : ℕ) → within 12 15 n ≡ false → (within 12 14 n ≡ false) × ((n is 15) ≡ false)
+not-waiting n e = go (leb 12 n) refl e
+  where
+    go : (t : Bool) → leb 12 n ≡ t → (t && leb n 15) ≡ false → ((leb 12 n && leb n 14) ≡ false) × ((n is 15) ≡ false)
+    go true p q = let l = leb-false n 15 q in (rw (p, lt-leb n 14 (omega arith)), ne-eqb n 15 (λ r. omega arith))
+    go false p q = let l = leb-false 12 n p in (rw p, ne-eqb n 15 (λ r. omega arith))
+
+-- ---- test 15, by what the search for the item finds
+
+module _ (b : Ledger) (o : Order) (s : ℕ) (f : Found) (form : o.form ≡ 15) (sender : s ≡ senderOf o) (found : f ≡ placeIn (sentBy s o.reference) b.waiting) where
+  pub cancel-nothing : f ≡ Nothing → wrongCancel b.waiting o ≡ false
+  unfolding wrongCancel
+  cancel-nothing e =
+      rw (eq-eqb o.form 15 form, ← sender)
+      (none-both (sentBy s o.reference) (notCancellable s) b.waiting (sym (found-some (sentBy s o.reference) 0 b.waiting) ∙ ap isFound (sym found ∙ e)))
+
+  module _ (i : ℕ) (e : f ≡ At i) where
+    pub cancel-inside : i < length b.waiting
+    cancel-inside = found-passes (sentBy s o.reference) b.waiting i (sym found ∙ e) .inside
+
+    pub cancel-at : Premise b → (x : Item) → x ≡ getD b.waiting i x → wrongCancel b.waiting o ≡ notCancellable s x
+    unfolding wrongCancel
+    cancel-at p x here =
+        rw (eq-eqb o.form 15 form, ← sender)
+        (cancel-one b p s o.reference i (found-passes (sentBy s o.reference) b.waiting i (sym found ∙ e)) x here)
+
+-- ---- one step in a checking order
+
+pub first-hit : (n : ℕ) (t : Bool) (rest : List (ℕ × Bool)) → t ≡ true → first ((n, t) ∷ rest) ≡ n
+first-hit n t rest e = rw e
+
+pub first-skip : (n : ℕ) (t : Bool) (rest : List (ℕ × Bool)) → t ≡ false → first ((n, t) ∷ rest) ≡ first rest
+first-skip n t rest e = rw e

@@ -1,0 +1,248 @@
+//! What the calls of a run have reached. A wanted cell that stays empty
+//! fails the run.
+
+mod arrivals;
+pub mod couples;
+mod cycles;
+mod damages;
+mod edges;
+mod endings;
+pub mod table;
+
+use std::collections::BTreeMap;
+
+use reference::book::{Book, CASH_CEILING, LAST_DAY};
+use reference::forms::AREA_BYTES;
+use reference::record::{self, Field, Order, RECORD_BYTES, highest, unpack};
+use reference::refusals::TESTS;
+
+use damages::Damage;
+use edges::Edge;
+
+#[derive(Clone, Copy, Debug, PartialEq, Eq, PartialOrd, Ord)]
+pub enum Cell {
+    Accepted {
+        form: u64,
+        kind: u64,
+    },
+    Refused {
+        form: u64,
+        refusal: u64,
+    },
+    /// A call with two faults, answered with the first.
+    Both {
+        first: u64,
+        second: u64,
+    },
+    /// A minute at an end of a window or one past it; the part tells the
+    /// windows of a form apart.
+    Edge {
+        form: u64,
+        kind: u64,
+        part: u64,
+        edge: Edge,
+    },
+    /// Receive amount less deliver amount, with all other terms equal.
+    Difference {
+        currency: u64,
+        arriving: u64,
+        step: arrivals::Step,
+    },
+    /// A single that fits but for one term.
+    NearMiss {
+        term: arrivals::Term,
+        arriving: u64,
+    },
+    Damage(Damage),
+    Event(&'static str),
+}
+
+const EVENTS: &[&[&str]] = &[SIZES, arrivals::EVENTS, cycles::EVENTS, endings::EVENTS];
+
+const SIZES: &[&str] = &[
+    "area of 0 bytes",
+    "area one byte short",
+    "area of 4,096 bytes",
+    "longer area",
+    "32 securities",
+    "256 accounts and no item",
+    "64 items",
+    "accounts and items together 256",
+    "USD total exactly at the ceiling",
+    "LBP total exactly at the ceiling",
+    "largest quantity accepted",
+    "largest amount accepted",
+    "largest security code, member and shareholder accepted",
+    "day 60,000 open",
+    "day 60,000 closed",
+    "form 1 refused on day 60,000",
+    "another form refused after day 60,000",
+];
+
+#[derive(Default)]
+pub struct Coverage {
+    reached: BTreeMap<Cell, u64>,
+    pub calls: u64,
+    pub accepted: u64,
+}
+
+impl Coverage {
+    pub fn reach(&mut self, cell: Cell) {
+        *self.reached.entry(cell).or_insert(0) += 1;
+    }
+
+    pub fn event(&mut self, name: &'static str) {
+        self.reach(Cell::Event(name));
+    }
+
+    pub fn count(&self, cell: &Cell) -> u64 {
+        self.reached.get(cell).copied().unwrap_or(0)
+    }
+
+    /// Looks at a call before it is made.
+    pub fn before_call(&mut self, book: &Book, bytes: &[u8], area: usize) {
+        self.calls += 1;
+        self.area(area);
+        let faults = faults(book, bytes, area);
+        let form = bytes.first().map_or(0, |byte| u64::from(byte >> 3));
+        let Some((first, later)) = faults.split_first() else {
+            self.accepted += 1;
+            return self.accepted_call(book, &Order::from_fields(unpack(bytes)));
+        };
+        self.reach(Cell::Refused { form, refusal: *first });
+        later.iter().for_each(|second| self.reach(Cell::Both { first: *first, second: *second }));
+        match first {
+            1 => {}
+            2..=5 => self.damaged(bytes),
+            _ => self.refused_order(book, &Order::from_fields(unpack(bytes)), *first),
+        }
+    }
+
+    fn area(&mut self, length: usize) {
+        match length {
+            0 => self.event("area of 0 bytes"),
+            AREA_BYTES => self.event("area of 4,096 bytes"),
+            _ if length == AREA_BYTES - 1 => self.event("area one byte short"),
+            _ if length > AREA_BYTES => self.event("longer area"),
+            _ => {}
+        }
+    }
+
+    fn accepted_call(&mut self, book: &Book, order: &Order) {
+        let kind = if order.form == 1 { order.quantity } else { book.day.kind };
+        self.reach(Cell::Accepted { form: order.form, kind });
+        self.edge(book, order, true);
+        self.extremes(order);
+        match order.form {
+            5..=9 => self.movement(book, order),
+            12 | 13 => self.arrival(book, order),
+            15 => self.cancellation(book, order),
+            16 => self.cycle(book),
+            17 => self.close(book),
+            _ => {}
+        }
+    }
+
+    fn extremes(&mut self, order: &Order) {
+        let largest = |field: Field| order.fields()[field as usize] == highest(order.form, field);
+        if order.form != 1 && largest(Field::Quantity) {
+            self.event("largest quantity accepted");
+        }
+        if largest(Field::Amount) {
+            self.event("largest amount accepted");
+        }
+        if [Field::Security, Field::CreditedMember, Field::CreditedShareholder].into_iter().all(largest) {
+            self.event("largest security code, member and shareholder accepted");
+        }
+    }
+
+    fn refused_order(&mut self, book: &Book, order: &Order, refusal: u64) {
+        match refusal {
+            6 if book.day.number == LAST_DAY && !book.day.open => match order.form {
+                1 => self.event("form 1 refused on day 60,000"),
+                _ => self.event("another form refused after day 60,000"),
+            },
+            9 => self.edge(book, order, false),
+            14 | 15 if order.form == 15 => self.refused_cancellation(book, order),
+            18 => self.refused_for_room(book, order),
+            _ => {}
+        }
+    }
+
+    /// Looks at the book after a call.
+    pub fn after_call(&mut self, book: &Book) {
+        let (accounts, items) = (book.accounts.len(), book.waiting.len());
+        let states = [
+            (book.securities.len() == 32, "32 securities"),
+            (accounts == 256, "256 accounts and no item"),
+            (items == 64, "64 items"),
+            (accounts + items == 256 && items > 0, "accounts and items together 256"),
+            (book.cash_total(1) == CASH_CEILING, "USD total exactly at the ceiling"),
+            (book.cash_total(2) == CASH_CEILING, "LBP total exactly at the ceiling"),
+            (book.day.number == LAST_DAY && book.day.open, "day 60,000 open"),
+            (book.day.number == LAST_DAY && !book.day.open, "day 60,000 closed"),
+        ];
+        states.into_iter().filter(|(holds, _)| *holds).for_each(|(_, name)| self.event(name));
+    }
+}
+
+/// All refusals that a call deserves, in their order. Of a record that
+/// cannot be read only what can still be said of it.
+fn faults(book: &Book, bytes: &[u8], area: usize) -> Vec<u64> {
+    let mut faults = Vec::new();
+    if area < AREA_BYTES {
+        faults.push(1);
+    }
+    if bytes.len() != RECORD_BYTES {
+        faults.push(2);
+        return faults;
+    }
+    let order = Order::from_fields(unpack(bytes));
+    // The tests past 9 are made for orders that have been read.
+    let asked = match record::read(bytes) {
+        Err(3) => &[],
+        Err(_) => &TESTS[..4],
+        Ok(_) => &TESTS[..],
+    };
+    faults.extend(record::read(bytes).err());
+    if faults.last() == Some(&4) && order.minute > 1439 {
+        faults.push(5);
+    }
+    faults.extend(asked.iter().filter(|(_, fails)| fails(book, &order)).map(|(number, _)| *number));
+    faults
+}
+
+/// The cells that a whole run must reach.
+pub fn wanted() -> Vec<Cell> {
+    let mut cells = Vec::new();
+    for form in 1..=17 {
+        cells.extend([1, 2].map(|kind| Cell::Accepted { form, kind }));
+        let possible = (1..=18).filter(|refusal| couples::impossible(form, *refusal).is_none());
+        cells.extend(possible.map(|refusal| Cell::Refused { form, refusal }));
+    }
+    cells.extend(wanted_pairs());
+    cells.extend(edges::wanted());
+    cells.extend(arrivals::wanted());
+    cells.extend(damages::wanted().into_iter().map(Cell::Damage));
+    cells.extend(EVENTS.iter().flat_map(|names| names.iter()).map(|name| Cell::Event(name)));
+    cells
+}
+
+fn wanted_pairs() -> Vec<Cell> {
+    let mut pairs: Vec<(u64, u64)> = (2..=18).map(|second| (1, second)).collect();
+    pairs.extend((5..=9).map(|second| (4, second)));
+    pairs.extend((6..=9).map(|second| (5, second)));
+    let couples = (6..=18).flat_map(|first| (first + 1..=18).map(move |second| (first, second)));
+    pairs.extend(couples.filter(|(first, second)| couples::never_together(*first, *second).is_none()));
+    pairs.into_iter().map(|(first, second)| Cell::Both { first, second }).collect()
+}
+
+/// What was reached although the paper rules it out.
+pub fn ruled_out(coverage: &Coverage) -> Vec<Cell> {
+    let refused_for_ever = |cell: &&Cell| match cell {
+        Cell::Refused { form, refusal } => (1..=17).contains(form) && couples::impossible(*form, *refusal).is_some(),
+        Cell::Both { first: first @ 6.., second } => couples::never_together(*first, *second).is_some(),
+        _ => false,
+    };
+    coverage.reached.keys().filter(refused_for_ever).copied().collect()
+}

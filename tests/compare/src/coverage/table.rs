@@ -1,0 +1,62 @@
+//! The table of what was reached.
+
+use std::fmt::Write;
+
+use super::{Cell, Coverage, couples, wanted};
+
+type Belongs = fn(&Cell) -> bool;
+
+/// Groups of cells, by the kind of cell.
+const GROUPS: [(&str, Belongs); 5] = [
+    ("two faults in one call", |cell| matches!(cell, Cell::Both { .. })),
+    ("ends of windows", |cell| matches!(cell, Cell::Edge { .. })),
+    ("ends of the tolerances", |cell| matches!(cell, Cell::Difference { .. })),
+    ("terms by which a single misses", |cell| matches!(cell, Cell::NearMiss { .. })),
+    ("kinds of damage to a record", |cell| matches!(cell, Cell::Damage(_))),
+];
+
+pub fn print(coverage: &Coverage) -> String {
+    let mut text = answers(coverage);
+    text.push_str("\nEvents:\n");
+    let wanted = wanted();
+    for cell in &wanted {
+        if let Cell::Event(name) = cell {
+            writeln!(text, "{:>10}  {name}", coverage.count(cell)).expect("a string takes all");
+        }
+    }
+    text.push_str("\nGroups (cells reached of cells wanted, and the least reached):\n");
+    for (name, belongs) in GROUPS {
+        let cells: Vec<&Cell> = wanted.iter().filter(|cell| belongs(cell)).collect();
+        let reached = cells.iter().filter(|cell| coverage.count(cell) > 0).count();
+        let least = cells.iter().min_by_key(|cell| coverage.count(cell)).expect("a group has cells");
+        let (count, total) = (coverage.count(least), cells.len());
+        writeln!(text, "{reached:>6} of {total:<4} {name}; least {count}: {least:?}").expect("a string takes all");
+    }
+    text
+}
+
+/// Forms by answers; a dash where the paper rules the couple out.
+fn answers(coverage: &Coverage) -> String {
+    let mut text = String::from("Calls by form and answer (- cannot be):\nform accepted");
+    (1..=18).for_each(|refusal| write!(text, " {refusal:>6}").expect("a string takes all"));
+    text.push('\n');
+    for form in 1..=17 {
+        let accepted: u64 = [1, 2].map(|kind| coverage.count(&Cell::Accepted { form, kind })).iter().sum();
+        write!(text, "{form:>4} {accepted:>8}").expect("a string takes all");
+        for refusal in 1..=18 {
+            let count = coverage.count(&Cell::Refused { form, refusal });
+            let shown = match couples::impossible(form, refusal) {
+                Some(_) if count == 0 => "-".to_string(),
+                _ => count.to_string(),
+            };
+            write!(text, " {shown:>6}").expect("a string takes all");
+        }
+        text.push('\n');
+    }
+    text
+}
+
+/// The cells that stayed empty.
+pub fn empty(coverage: &Coverage) -> Vec<Cell> {
+    wanted().into_iter().filter(|cell| coverage.count(cell) == 0).collect()
+}

@@ -1,0 +1,56 @@
+//! What the comparison and the benchmark ask of a depository.
+
+use std::borrow::Cow;
+
+use reference::book::Book;
+use reference::forms::Answer;
+use reference::record::{self, FIELD_COUNT};
+
+pub type Fields = [u64; FIELD_COUNT];
+
+/// An error is a fault at the boundary itself, such as a count changed by a
+/// refused call.
+pub trait Depository: Clone {
+    const NAME: &'static str;
+
+    fn fresh() -> Self;
+    fn call(&mut self, record: &[u8], area: &mut [u8]) -> Result<Answer, String>;
+    fn held(&self, security: u64) -> u64;
+    fn book(&self) -> Result<Cow<'_, Book>, String>;
+    fn read(record: &[u8]) -> Result<Result<Fields, u64>, String>;
+    fn write(fields: &Fields, area: &mut [u8]) -> Result<(), u64>;
+    /// What else the boundary promises, checked once.
+    fn boundary_checks() -> Vec<(&'static str, bool)>;
+}
+
+impl Depository for Book {
+    const NAME: &'static str = "the Rust reference";
+
+    fn fresh() -> Book {
+        Book::fresh()
+    }
+
+    fn call(&mut self, record: &[u8], area: &mut [u8]) -> Result<Answer, String> {
+        Ok(Book::call(self, record, area))
+    }
+
+    fn held(&self, security: u64) -> u64 {
+        Book::held(self, security)
+    }
+
+    fn book(&self) -> Result<Cow<'_, Book>, String> {
+        Ok(Cow::Borrowed(self))
+    }
+
+    fn read(record: &[u8]) -> Result<Result<Fields, u64>, String> {
+        Ok(record::read(record).map(|order| order.fields()))
+    }
+
+    fn write(fields: &Fields, area: &mut [u8]) -> Result<(), u64> {
+        record::write(fields, area)
+    }
+
+    fn boundary_checks() -> Vec<(&'static str, bool)> {
+        Vec::new()
+    }
+}

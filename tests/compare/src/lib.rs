@@ -1,0 +1,16 @@
+//! The comparison of the library under test with the reference: drawn lists
+//! of calls, the totals of document 01's "Lists of calls", and a table of
+//! what was reached.
+
+pub mod coverage;
+pub mod depository;
+pub mod difference;
+pub mod generator;
+#[cfg(library_linked)]
+pub mod proved;
+pub mod random;
+pub mod record_alone;
+pub mod run;
+pub mod streams;
+pub mod sweeps;
+pub mod totals;

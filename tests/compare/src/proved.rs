@@ -1,0 +1,128 @@
+//! The library under test behind its C boundary (depository.h). Every length
+//! is fixed here, so that no caller can give a wrong one.
+
+use std::borrow::Cow;
+
+use boundary::{BOOK_WORDS, COUNT_WORDS, decode};
+use reference::book::Book;
+use reference::forms::{Answer, Counts};
+use reference::record::FIELD_COUNT;
+
+use crate::depository::{Depository, Fields};
+
+unsafe extern "C" {
+    fn depository_fresh(book: *mut u64, words: usize) -> u64;
+    fn depository_call(
+        book: *mut u64,
+        words: usize,
+        record: *const u8,
+        record_bytes: usize,
+        area: *mut u8,
+        area_bytes: usize,
+        counts: *mut u64,
+        counts_words: usize,
+    ) -> u64;
+    fn depository_held(book: *const u64, words: usize, security: u64) -> u64;
+    fn depository_read(record: *const u8, record_bytes: usize, fields: *mut u64, fields_words: usize) -> u64;
+    fn depository_write(fields: *const u64, fields_words: usize, area: *mut u8, area_bytes: usize) -> u64;
+}
+
+/// Stands in result buffers before a call, to show that a refusal keeps them.
+const UNTOUCHED: u64 = 0xA5A5_5A5A_0123_FEDC;
+
+/// A book in this program's memory, moved only by the library.
+#[derive(Clone)]
+pub struct Proved {
+    words: Box<[u64; BOOK_WORDS]>,
+}
+
+impl Depository for Proved {
+    const NAME: &'static str = "the proved library";
+
+    fn fresh() -> Proved {
+        let mut words = Box::new([UNTOUCHED; BOOK_WORDS]);
+        assert!(fresh_in(&mut words[..]), "a buffer of the right length takes a fresh book");
+        Proved { words }
+    }
+
+    fn call(&mut self, record: &[u8], area: &mut [u8]) -> Result<Answer, String> {
+        let mut counts = [UNTOUCHED; COUNT_WORDS];
+        // SAFETY: each pointer comes from a live slice and goes with its own
+        // length; the slices are apart, as `&mut` says.
+        let number = unsafe {
+            depository_call(
+                self.words.as_mut_ptr(),
+                BOOK_WORDS,
+                record.as_ptr(),
+                record.len(),
+                area.as_mut_ptr(),
+                area.len(),
+                counts.as_mut_ptr(),
+                COUNT_WORDS,
+            )
+        };
+        if number == 0 {
+            return Ok(Answer::Accepted(counts_of(&counts)));
+        }
+        if counts != [UNTOUCHED; COUNT_WORDS] {
+            return Err(format!("refusal {number} changed the counts"));
+        }
+        Ok(Answer::Refused(number))
+    }
+
+    fn held(&self, security: u64) -> u64 {
+        // SAFETY: the pointer is good for BOOK_WORDS words.
+        unsafe { depository_held(self.words.as_ptr(), BOOK_WORDS, security) }
+    }
+
+    fn book(&self) -> Result<Cow<'_, Book>, String> {
+        decode(&self.words[..]).map(Cow::Owned)
+    }
+
+    fn read(record: &[u8]) -> Result<Result<Fields, u64>, String> {
+        let mut fields = [UNTOUCHED; FIELD_COUNT];
+        // SAFETY: as in `call`.
+        let number = unsafe { depository_read(record.as_ptr(), record.len(), fields.as_mut_ptr(), FIELD_COUNT) };
+        if number == 0 {
+            return Ok(Ok(fields));
+        }
+        if fields != [UNTOUCHED; FIELD_COUNT] {
+            return Err(format!("refusal {number} changed the fields"));
+        }
+        Ok(Err(number))
+    }
+
+    fn write(fields: &Fields, area: &mut [u8]) -> Result<(), u64> {
+        // SAFETY: as in `call`.
+        match unsafe { depository_write(fields.as_ptr(), FIELD_COUNT, area.as_mut_ptr(), area.len()) } {
+            0 => Ok(()),
+            number => Err(number),
+        }
+    }
+
+    fn boundary_checks() -> Vec<(&'static str, bool)> {
+        vec![
+            ("no fresh book in 0 words", keeps_wrong_length(0)),
+            ("no fresh book in one word less", keeps_wrong_length(BOOK_WORDS - 1)),
+            ("no fresh book in one word more", keeps_wrong_length(BOOK_WORDS + 1)),
+            ("a fresh book over any words", Proved::fresh().book().is_ok_and(|book| *book == Book::fresh())),
+        ]
+    }
+}
+
+fn fresh_in(words: &mut [u64]) -> bool {
+    // SAFETY: the pointer is good for the slice's length.
+    unsafe { depository_fresh(words.as_mut_ptr(), words.len()) == 1 }
+}
+
+/// "1 if the buffer has the right length, else 0 and the buffer is
+/// untouched".
+fn keeps_wrong_length(length: usize) -> bool {
+    let mut words = vec![UNTOUCHED; length];
+    !fresh_in(&mut words) && words.iter().all(|word| *word == UNTOUCHED)
+}
+
+fn counts_of(words: &[u64; COUNT_WORDS]) -> Counts {
+    let [rows, settled, cancelled, deleted, suspended, left] = *words;
+    Counts { rows, settled, cancelled, deleted, suspended, left }
+}

@@ -1,0 +1,163 @@
+//! The streams of calls that the benchmark times.
+
+use reference::book::Book;
+use reference::forms::{AREA_BYTES, Answer};
+use reference::record::{Order, RECORD_BYTES, pack};
+use reference::windows::next_cycle_minute;
+
+use crate::generator::Generator;
+use crate::generator::profile::profiles;
+
+const CODE: u64 = 101;
+
+pub type Record = [u8; RECORD_BYTES];
+
+/// Calls that bring the book into its state (not timed), then the calls that
+/// are timed, and how often from that same state.
+pub struct Stream {
+    pub name: &'static str,
+    pub before: Vec<Record>,
+    pub timed: Vec<Record>,
+    pub repeats: usize,
+}
+
+pub fn streams() -> Vec<Stream> {
+    vec![
+        busy_mix(),
+        full_book(),
+        full_cycle("cycle, 64 trades dropped one by one", false),
+        full_cycle("cycle, 64 trades settled", true),
+        unreadable_records(),
+        refused_orders(),
+    ]
+}
+
+fn record(order: Order) -> Record {
+    pack(&order.fields(), 0)
+}
+
+fn form(form: u64, minute: u64) -> Order {
+    Order { form, minute, ..Order::default() }
+}
+
+/// Makes calls that must be accepted.
+fn accept(book: &mut Book, records: &[Record]) {
+    for record in records {
+        let answer = book.call(record, &mut [0; AREA_BYTES]);
+        assert!(matches!(answer, Answer::Accepted(_)), "{record:02X?} is answered with {answer:?}");
+    }
+}
+
+fn first_day() -> Vec<Record> {
+    let open = Order { quantity: 1, ..form(1, 470) };
+    vec![record(open), record(Order { security: CODE, quantity: 1 << 39, ..form(2, 480) })]
+}
+
+/// The calls of the comparison's busy profile, as drawn.
+fn busy_mix() -> Stream {
+    let mut generator = Generator::new(profiles().swap_remove(0), 1);
+    let mut book = Book::fresh();
+    let mut timed = Vec::new();
+    while timed.len() < 20_000 {
+        let call = generator.next_call(&book);
+        if let Ok(record) = Record::try_from(&call.record[..])
+            && call.area.len() >= AREA_BYTES
+        {
+            book.call(&record, &mut [0; AREA_BYTES]);
+            timed.push(record);
+        }
+    }
+    Stream { name: "busy mix of all forms", before: Vec::new(), timed, repeats: 1 }
+}
+
+/// Credits account `place`: its member and shareholder, and type 10 or 20.
+fn credit(order: Order, place: u64, account_type: u64) -> Order {
+    let (credited_member, credited_shareholder) = (1 + place % 64, 1 + place);
+    Order { security: CODE, credited_member, credited_type: account_type, credited_shareholder, ..order }
+}
+
+fn debit(order: Order, place: u64, account_type: u64) -> Order {
+    let (debited_member, debited_shareholder) = (1 + place % 64, 1 + place);
+    Order { security: CODE, debited_member, debited_type: account_type, debited_shareholder, ..order }
+}
+
+fn deposit(place: u64, account_type: u64, quantity: u64) -> Record {
+    record(credit(Order { quantity, ..form(3, 540) }, place, account_type))
+}
+
+fn transfer(place: u64, from: u64, to: u64, quantity: u64) -> Order {
+    credit(debit(Order { quantity, settlement_day: 1, ..form(5, 540) }, place, from), place, to)
+}
+
+/// 256 accounts: types 10 and 20 of 128 shareholders.
+fn filled() -> Vec<Record> {
+    let mut records = first_day();
+    records.extend((0..128).flat_map(|place| [deposit(place, 10, 1000), deposit(place, 20, 1000)]));
+    records
+}
+
+/// Deposits into kept accounts, and transfers between two kept accounts.
+fn full_book() -> Stream {
+    let before = filled();
+    let mut timed = Vec::new();
+    for round in 0..5_000 {
+        let place = round * 37 % 128;
+        timed.push(deposit(place, 10, 1));
+        timed.push(record(transfer(place, 10, 20, 7)));
+        timed.push(deposit(place, 20, 1));
+        timed.push(record(transfer(place, 20, 10, 7)));
+    }
+    let mut book = Book::fresh();
+    accept(&mut book, &before);
+    accept(&mut book, &timed);
+    assert_eq!(book.accounts.len(), 256);
+    Stream { name: "deposits and transfers, 256 accounts", before, timed, repeats: 1 }
+}
+
+/// 64 due exchange trades, and 190 accounts besides.
+fn full_cycle(name: &'static str, settles: bool) -> Stream {
+    let mut before = first_day();
+    before.extend((0..190).map(|place| deposit(1000 + place, 20, 1000)));
+    before.extend((0..64).map(|place| record(trade(place, settles))));
+    let mut book = Book::fresh();
+    accept(&mut book, &before);
+    while book.day.number < 4 {
+        let next = match next_cycle_minute(&book.day) {
+            _ if !book.day.open => first_day()[0],
+            Some(minute) => record(form(16, minute)),
+            None => record(form(17, 960)),
+        };
+        accept(&mut book, &[next]);
+        before.push(next);
+    }
+    let cycle = record(form(16, 585));
+    let answer = book.call(&cycle, &mut [0; AREA_BYTES]);
+    let rows = if settles { 256 } else { 0 };
+    assert!(matches!(answer, Answer::Accepted(counts) if counts.rows == rows && counts.left == 64 - rows / 4));
+    Stream { name, before, timed: vec![cycle], repeats: 200 }
+}
+
+/// Forth and back between couples of empty accounts, which settles; or a
+/// chain of empty accounts without cash, which is dropped trade by trade.
+fn trade(place: u64, settles: bool) -> Order {
+    let to = if settles { place ^ 1 } else { place + 1 };
+    let terms = Order { currency: 1, amount: 5, quantity: 10, reference: 1 + place, ..form(14, 540) };
+    credit(debit(Order { trade_day: 1, settlement_day: 4, ..terms }, place, 10), to, 10)
+}
+
+/// An unused field that is set, and a used one out of its range.
+fn unreadable_records() -> Stream {
+    let good = credit(Order { quantity: 1, ..form(3, 540) }, 1, 20);
+    let unused = record(Order { currency: 1, ..good });
+    let range = record(Order { credited_member: 65, ..good });
+    let timed = [unused, range].repeat(10_000);
+    Stream { name: "records that cannot be read (4, 5)", before: first_day(), timed, repeats: 1 }
+}
+
+/// Orders refused by the last tests, in a full book.
+fn refused_orders() -> Stream {
+    let too_much = record(transfer(100, 10, 20, 1001));
+    let no_room = deposit(5000, 10, 1);
+    let timed = [too_much, no_room].repeat(10_000);
+    Stream { name: "orders refused in a full book (16, 18)", before: filled(), timed, repeats: 1 }
+}

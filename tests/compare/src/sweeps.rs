@@ -1,0 +1,217 @@
+//! Values that are few enough to be tried all: every type and couple of
+//! types for each form that names them, and every minute of the day for each
+//! form in each state of a day.
+
+use reference::forms::{AREA_BYTES, Answer};
+use reference::record::{Order, pack};
+use reference::windows::cycle_minutes;
+
+use crate::depository::Depository;
+use crate::generator::Call;
+use crate::run::Sides;
+
+const CODE: u64 = 101;
+
+/// Forms that name types, and how many values or couples the paper allows.
+const TYPES_ALLOWED: [(u64, u64); 10] =
+    [(3, 4), (4, 4), (5, 8), (6, 3), (7, 3), (8, 4), (9, 4), (12, 4), (13, 4), (14, 8)];
+
+fn send<D: Depository>(sides: &mut Sides<D>, order: &Order) -> Result<Answer, String> {
+    let call = Call { record: pack(&order.fields(), 0).to_vec(), area: vec![0x5A; AREA_BYTES] };
+    sides.call(&call).map_err(|what| format!("{order:?}\n  {what}"))
+}
+
+/// Sends an order that must be accepted.
+fn accepted<D: Depository>(sides: &mut Sides<D>, order: Order) -> Result<(), String> {
+    match send(sides, &order)? {
+        Answer::Accepted(_) => Ok(()),
+        Answer::Refused(number) => Err(format!("{order:?} is refused with {number}")),
+    }
+}
+
+fn form(form: u64, minute: u64) -> Order {
+    Order { form, minute, ..Order::default() }
+}
+
+/// Every type of each form; the forms whose allowed values are as many as
+/// the paper's.
+pub fn types<D: Depository>() -> Result<Vec<(u64, bool)>, String> {
+    let mut sides = Sides::<D>::fresh();
+    accepted(&mut sides, Order { quantity: 1, ..form(1, 0) })?;
+    accepted(&mut sides, Order { security: CODE, quantity: 1, ..form(2, 540) })?;
+    let mut checks = Vec::new();
+    for (number, allowed) in TYPES_ALLOWED {
+        let mut count = 0;
+        for debited in types_tried(number != 3 && number != 13) {
+            for credited in types_tried(number != 4 && number != 12) {
+                let order = Order { debited_type: debited, credited_type: credited, ..refused_later(number) };
+                let answer = send(&mut sides, &order)?;
+                count += u64::from(answer != Answer::Refused(11));
+            }
+        }
+        checks.push((number, count == allowed));
+    }
+    Ok(checks)
+}
+
+/// All types of a used field; 0 alone of an unused one.
+fn types_tried(used: bool) -> std::ops::RangeInclusive<u64> {
+    if used { 1..=255 } else { 0..=0 }
+}
+
+/// An order that is refused for its days (13) or balance (16) if its types
+/// are right, so that the book stays as it is.
+fn refused_later(number: u64) -> Order {
+    let order = order_between(number, 540);
+    match number {
+        3 => Order { quantity: 2, debited_member: 0, debited_shareholder: 0, settlement_day: 0, ..order },
+        4 => Order { credited_member: 0, credited_shareholder: 0, settlement_day: 0, ..order },
+        5..=9 => Order { settlement_day: 9, ..order },
+        _ => Order { currency: 1, amount: 1, trade_day: 2, settlement_day: 9, reference: 1, ..order },
+    }
+}
+
+/// Security and parties of a form; members 7 and 8 where they must differ.
+fn order_between(number: u64, minute: u64) -> Order {
+    Order {
+        security: CODE,
+        debited_member: 7,
+        credited_member: if matches!(number, 6..=9) { 7 } else { 8 },
+        debited_shareholder: 5,
+        credited_shareholder: 5,
+        quantity: 1,
+        ..form(number, minute)
+    }
+}
+
+/// A kind of day as the paper has it: how many of `good_orders` have each
+/// window (first and last minute), the earliest minutes of its cycles, and
+/// when it may close.
+struct Windows {
+    orders: [(u64, u64, u64); 3],
+    cycles: &'static [u64],
+    end: u64,
+}
+
+const MONDAY: Windows =
+    Windows { orders: [(7, 480, 960), (7, 510, 870), (2, 480, 825)], cycles: &[585, 705, 825], end: 960 };
+const FRIDAY: Windows =
+    Windows { orders: [(7, 480, 900), (7, 510, 750), (2, 480, 705)], cycles: &[585, 705], end: 900 };
+
+impl Windows {
+    /// The minutes allowed to all orders, summed over the states of the day;
+    /// each cycle runs in its first minute.
+    fn minutes(&self) -> u64 {
+        let from = |first: u64, last: u64, past: u64| (last + 1).saturating_sub(first.max(past));
+        let mut sum = 1440 - self.end;
+        let mut past = 0;
+        for cycles_run in 0..=self.cycles.len() {
+            sum += self.orders.iter().map(|(count, first, last)| count * from(*first, *last, past)).sum::<u64>();
+            if let Some(minute) = self.cycles.get(cycles_run) {
+                sum += from(*minute, self.end, past);
+                past = *minute;
+            }
+        }
+        sum
+    }
+}
+
+/// What the paper's windows allow, summed over all that `minutes` tries.
+pub fn minutes_allowed() -> u64 {
+    let open_day = 481;
+    open_day + MONDAY.minutes() + FRIDAY.minutes()
+}
+
+/// Every minute for each order, in each state of an open day of both kinds:
+/// how many calls were accepted.
+pub fn minutes<D: Depository>() -> Result<u64, String> {
+    let mut count = every_minute(&Sides::<D>::fresh(), &Order { quantity: 1, ..form(1, 0) })?;
+    let closed = prepared_day::<D>()?;
+    for kind in [1, 2] {
+        let mut open = closed.clone();
+        accepted(&mut open, Order { quantity: kind, ..form(1, 0) })?;
+        for cycles_run in 0..=cycle_minutes(kind).len() {
+            for order in good_orders() {
+                count += every_minute(&open, &order)?;
+            }
+            if let Some(minute) = cycle_minutes(kind).get(cycles_run) {
+                accepted(&mut open, form(16, *minute))?;
+            }
+        }
+    }
+    Ok(count)
+}
+
+fn every_minute<D: Depository>(before: &Sides<D>, order: &Order) -> Result<u64, String> {
+    let mut sides = before.clone();
+    let mut count = 0;
+    for minute in 0..=1439 {
+        if let Answer::Accepted(_) = send(&mut sides, &Order { minute, ..*order })? {
+            count += 1;
+            sides = before.clone();
+        }
+    }
+    Ok(count)
+}
+
+/// A first day, closed, that leaves shares, cash and a pair for every form.
+fn prepared_day<D: Depository>() -> Result<Sides<D>, String> {
+    let mut sides = Sides::<D>::fresh();
+    accepted(&mut sides, Order { quantity: 1, ..form(1, 0) })?;
+    accepted(&mut sides, Order { security: CODE, quantity: 1_000, ..form(2, 500) })?;
+    let deposit = Order { debited_member: 0, debited_shareholder: 0, credited_member: 7, ..order_between(3, 540) };
+    accepted(&mut sides, Order { credited_type: 20, quantity: 100, ..deposit })?;
+    for (number, other) in [(6, 21), (8, 22)] {
+        let order = Order { debited_type: 20, credited_type: other, quantity: 10, ..order_between(number, 540) };
+        accepted(&mut sides, Order { settlement_day: 1, ..order })?;
+    }
+    accepted(&mut sides, Order { currency: 1, credited_member: 7, amount: 100, ..form(10, 540) })?;
+    let terms =
+        Order { currency: 1, amount: 50, trade_day: 1, settlement_day: 15, reference: 1, ..order_between(12, 540) };
+    accepted(&mut sides, Order { debited_type: 20, ..terms })?;
+    accepted(&mut sides, Order { form: 13, credited_type: 20, ..terms })?;
+    for minute in cycle_minutes(1) {
+        accepted(&mut sides, form(16, *minute))?;
+    }
+    accepted(&mut sides, form(17, 960))?;
+    Ok(sides)
+}
+
+/// Orders of every form that day 2 accepts in their windows.
+fn good_orders() -> Vec<Order> {
+    let typed = |number, debited, credited| Order {
+        debited_type: debited,
+        credited_type: credited,
+        settlement_day: 2,
+        ..order_between(number, 0)
+    };
+    let terms = |number, debited, credited, day| Order {
+        currency: 1,
+        amount: 1,
+        trade_day: 2,
+        settlement_day: day,
+        reference: 9,
+        ..typed(number, debited, credited)
+    };
+    vec![
+        Order { quantity: 1, ..form(1, 0) },
+        Order { security: 102, quantity: 1, ..form(2, 0) },
+        Order { debited_member: 0, debited_shareholder: 0, settlement_day: 0, ..typed(3, 0, 20) },
+        Order { credited_member: 0, credited_shareholder: 0, settlement_day: 0, ..typed(4, 20, 0) },
+        typed(5, 20, 10),
+        typed(6, 20, 21),
+        typed(7, 21, 20),
+        typed(8, 20, 22),
+        typed(9, 22, 20),
+        Order { currency: 2, credited_member: 7, amount: 1, ..form(10, 0) },
+        Order { currency: 1, debited_member: 7, amount: 1, ..form(11, 0) },
+        terms(12, 20, 0, 2),
+        terms(12, 20, 0, 3),
+        terms(13, 0, 20, 2),
+        terms(13, 0, 20, 22),
+        terms(14, 20, 10, 5),
+        Order { debited_member: 7, reference: 1, ..form(15, 0) },
+        form(16, 0),
+        form(17, 0),
+    ]
+}

@@ -1,0 +1,172 @@
+//! The totals of document 01's "Lists of calls", "taken over the accepted
+//! calls, from their records, answers and rows" alone, and what they say of
+//! the last book.
+
+use std::collections::{BTreeMap, BTreeSet};
+
+use reference::book::{Account, Book, Purse};
+use reference::forms::{Answer, Counts};
+use reference::record::{Order, unpack};
+
+/// "Pledged or blocked accounts have type 11, 21, 121, 12, 22, 112 or 122".
+const PLEDGED_OR_BLOCKED: [u64; 7] = [11, 21, 121, 12, 22, 112, 122];
+
+#[derive(Clone, Default)]
+pub struct Totals {
+    deposits: BTreeMap<u64, i128>,
+    withdrawals: BTreeMap<u64, i128>,
+    pay_ins: BTreeMap<u64, i128>,
+    pay_outs: BTreeMap<u64, i128>,
+    issued: BTreeMap<u64, i128>,
+    put_in: BTreeMap<Account, i128>,
+    released: BTreeMap<Account, i128>,
+    posted_shares: BTreeMap<Account, i128>,
+    posted_outside: BTreeMap<u64, i128>,
+    posted_cash: BTreeMap<Purse, i128>,
+    sides_taken_in: i128,
+    sides_gone: i128,
+}
+
+fn add<K: Ord>(totals: &mut BTreeMap<K, i128>, key: K, value: i128) {
+    *totals.entry(key).or_insert(0) += value;
+}
+
+/// "What the book does not keep is 0", and so is what was never posted.
+fn at<K: Ord>(totals: &BTreeMap<K, i128>, key: &K) -> i128 {
+    totals.get(key).copied().unwrap_or(0)
+}
+
+impl Totals {
+    /// Takes in one call of the list.
+    pub fn take(&mut self, record: &[u8], answer: &Answer, area: &[u8]) {
+        let Answer::Accepted(counts) = answer else {
+            return;
+        };
+        let order = Order::from_fields(unpack(record));
+        self.take_order(&order);
+        self.sides_gone += sides_gone(counts);
+        // "those of cancel and close are notices, the others posting rows"
+        if !matches!(order.form, 15 | 17) {
+            area.chunks_exact(16).take(counts.rows as usize).for_each(|row| self.take_posting(row));
+        }
+    }
+
+    fn take_order(&mut self, order: &Order) {
+        let (quantity, amount) = (i128::from(order.quantity), i128::from(order.amount));
+        match order.form {
+            2 => add(&mut self.issued, order.security, quantity),
+            3 => add(&mut self.deposits, order.security, quantity),
+            4 => add(&mut self.withdrawals, order.security, quantity),
+            6 | 8 => add(&mut self.put_in, credited(order), quantity),
+            7 | 9 => add(&mut self.released, debited(order), quantity),
+            10 => add(&mut self.pay_ins, order.currency, amount),
+            11 => add(&mut self.pay_outs, order.currency, amount),
+            // "An accepted 12 or 13 takes in one, a 14 two".
+            12 | 13 => self.sides_taken_in += 1,
+            14 => self.sides_taken_in += 2,
+            _ => {}
+        }
+    }
+
+    /// "A posting row counts for the account, outside count (type 91) or
+    /// member's cash that it names; rows of type 90 and cash rows of member 0
+    /// count for none."
+    fn take_posting(&mut self, row: &[u8]) {
+        let row = u128::from_be_bytes(row.try_into().expect("16 bytes"));
+        let bits = |from_right: u32, width: u32| (row >> from_right) as u64 & ((1 << width) - 1);
+        let (credit, cash, named) = (bits(127, 1) == 1, bits(126, 1) == 1, bits(112, 14));
+        let (member, account_type, shareholder) = (bits(102, 10), bits(94, 8), bits(64, 30));
+        let value = i128::from(row as u64);
+        let change = if credit { value } else { -value };
+        match (cash, member, account_type) {
+            (true, 0, _) | (false, _, 90) => {}
+            (true, _, _) => add(&mut self.posted_cash, Purse { member, currency: named }, change),
+            (false, _, 91) => add(&mut self.posted_outside, named, change),
+            (false, _, _) => {
+                let account = Account { security: named, member, account_type, shareholder };
+                add(&mut self.posted_shares, account, change);
+            }
+        }
+    }
+
+    /// Holds the totals against the last book; `held` is the library's own.
+    pub fn check(&self, book: &Book, held: impl Fn(u64) -> u64) -> Result<(), String> {
+        self.check_custody(book, held)?;
+        self.check_cash(book)?;
+        self.check_accounts(book)?;
+        let waiting: i128 = book.waiting.iter().map(|item| i128::from(item.sides())).sum();
+        same("sides taken in = gone + waiting", &"", self.sides_taken_in, self.sides_gone + waiting)
+    }
+
+    /// Issued is that of form 2; held is deposits less withdrawals; issued is
+    /// held plus outside.
+    fn check_custody(&self, book: &Book, held: impl Fn(u64) -> u64) -> Result<(), String> {
+        let codes: BTreeSet<u64> = book.securities.iter().map(|security| security.code).collect();
+        let named = codes.iter().chain(self.issued.keys()).chain(self.posted_outside.keys());
+        for code in named.collect::<BTreeSet<_>>() {
+            let kept = book.security(*code);
+            let issued = kept.map_or(0, |security| i128::from(security.issued));
+            let outside = kept.map_or(0, |security| i128::from(security.outside));
+            let held = i128::from(held(*code));
+            same("held by the library = sum of accounts", code, held, i128::from(book.held(*code)))?;
+            same("issued = quantity of form 2", code, issued, at(&self.issued, code))?;
+            let deposited = at(&self.deposits, code) - at(&self.withdrawals, code);
+            same("held = deposits - withdrawals", code, held, deposited)?;
+            same("issued = held + outside", code, issued, held + outside)?;
+            same("outside = posted rows of type 91", code, outside, at(&self.posted_outside, code))?;
+        }
+        Ok(())
+    }
+
+    fn check_cash(&self, book: &Book) -> Result<(), String> {
+        for currency in [1, 2] {
+            let paid = at(&self.pay_ins, &currency) - at(&self.pay_outs, &currency);
+            same("cash = pay-ins - pay-outs", &currency, i128::from(book.cash_total(currency)), paid)?;
+        }
+        for purse in book.cash.keys().chain(self.posted_cash.keys()).collect::<BTreeSet<_>>() {
+            same("cash = posted rows", purse, i128::from(book.cash_of(purse)), at(&self.posted_cash, purse))?;
+        }
+        Ok(())
+    }
+
+    fn check_accounts(&self, book: &Book) -> Result<(), String> {
+        let seen = self.put_in.keys().chain(self.released.keys()).chain(self.posted_shares.keys());
+        for account in book.accounts.keys().chain(seen).collect::<BTreeSet<_>>() {
+            let balance = i128::from(book.balance(account));
+            same("balance = posted rows", account, balance, at(&self.posted_shares, account))?;
+            if PLEDGED_OR_BLOCKED.contains(&account.account_type) {
+                let kept = at(&self.put_in, account) - at(&self.released, account);
+                same("pledged or blocked = put in - released", account, balance, kept)?;
+            }
+        }
+        Ok(())
+    }
+}
+
+/// "sides gone are the sums over the answers"
+fn sides_gone(counts: &Counts) -> i128 {
+    let all = [counts.settled, counts.cancelled, counts.deleted, counts.suspended];
+    all.into_iter().map(i128::from).sum()
+}
+
+fn debited(order: &Order) -> Account {
+    Account {
+        security: order.security,
+        member: order.debited_member,
+        account_type: order.debited_type,
+        shareholder: order.debited_shareholder,
+    }
+}
+
+fn credited(order: &Order) -> Account {
+    Account {
+        security: order.security,
+        member: order.credited_member,
+        account_type: order.credited_type,
+        shareholder: order.credited_shareholder,
+    }
+}
+
+fn same<K: std::fmt::Debug>(law: &str, key: &K, left: i128, right: i128) -> Result<(), String> {
+    if left == right { Ok(()) } else { Err(format!("{law}: {key:?} has {left} and {right}")) }
+}

@@ -1,0 +1,214 @@
+//! What the book keeps.
+
+use std::collections::BTreeMap;
+
+/// "up to 32 securities"
+pub const MOST_SECURITIES: usize = 32;
+/// "more than 64 items"
+pub const MOST_ITEMS: usize = 64;
+/// "accounts plus items above 256"
+pub const MOST_ACCOUNTS_AND_ITEMS: usize = 256;
+/// "on day 60,000"
+pub const LAST_DAY: u64 = 60_000;
+/// "A currency's total over all members", in hundredths.
+pub const CASH_CEILING: u64 = 1_000_000_000_000_000;
+
+#[derive(Clone, Debug, Default, PartialEq, Eq)]
+pub struct Day {
+    pub number: u64,
+    pub open: bool,
+    /// 1 Monday to Thursday, 2 Friday; 0 before the first day.
+    pub kind: u64,
+    pub cycles_run: u64,
+    pub last_minute: u64,
+}
+
+#[derive(Clone, Debug, PartialEq, Eq)]
+pub struct Security {
+    pub code: u64,
+    pub issued: u64,
+    pub outside: u64,
+}
+
+/// "accounts (security, member, type, shareholder)"
+#[derive(Clone, Copy, Debug, PartialEq, Eq, PartialOrd, Ord)]
+pub struct Account {
+    pub security: u64,
+    pub member: u64,
+    pub account_type: u64,
+    pub shareholder: u64,
+}
+
+/// "cash per member 1 to 64 and currency (1 USD, 2 LBP)"
+#[derive(Clone, Copy, Debug, PartialEq, Eq, PartialOrd, Ord)]
+pub struct Purse {
+    pub member: u64,
+    pub currency: u64,
+}
+
+/// One side of a waiting item; a single's other side has type 0.
+#[derive(Clone, Copy, Debug, PartialEq, Eq)]
+pub struct Side {
+    pub member: u64,
+    pub account_type: u64,
+    pub shareholder: u64,
+}
+
+/// One instruction of a pair: its reference, and whether its sender has
+/// asked to cancel.
+#[derive(Clone, Copy, Debug, PartialEq, Eq)]
+pub struct Half {
+    pub reference: u64,
+    pub marked: bool,
+}
+
+#[derive(Clone, Copy, Debug, PartialEq, Eq)]
+pub enum State {
+    Deliver { reference: u64 },
+    Receive { reference: u64 },
+    Pair { deliver: Half, receive: Half },
+    ExchangeTrade { reference: u64 },
+}
+
+/// "A waiting item is a single instruction, a matched pair or an exchange
+/// trade."
+#[derive(Clone, Copy, Debug, PartialEq, Eq)]
+pub struct Item {
+    pub security: u64,
+    pub currency: u64,
+    pub deliverer: Side,
+    pub receiver: Side,
+    pub quantity: u64,
+    pub amount: u64,
+    pub trade_day: u64,
+    pub settlement_day: u64,
+    pub state: State,
+}
+
+/// Who sent an instruction; "exchange trades form one sender".
+#[derive(Clone, Copy, Debug, PartialEq, Eq)]
+pub enum Sender {
+    Member(u64),
+    Exchange,
+}
+
+impl Item {
+    pub fn is_single(&self) -> bool {
+        matches!(self.state, State::Deliver { .. } | State::Receive { .. })
+    }
+
+    /// "A single is one side; a pair or exchange trade two."
+    pub fn sides(&self) -> u64 {
+        if self.is_single() { 1 } else { 2 }
+    }
+
+    /// The account that gives the shares of a pair or exchange trade.
+    pub fn debited_account(&self) -> Account {
+        self.account(&self.deliverer)
+    }
+
+    /// The account that gets the shares of a pair or exchange trade.
+    pub fn credited_account(&self) -> Account {
+        self.account(&self.receiver)
+    }
+
+    fn account(&self, side: &Side) -> Account {
+        Account {
+            security: self.security,
+            member: side.member,
+            account_type: side.account_type,
+            shareholder: side.shareholder,
+        }
+    }
+
+    /// The receiver pays.
+    pub fn debited_purse(&self) -> Purse {
+        Purse { member: self.receiver.member, currency: self.currency }
+    }
+
+    /// The deliverer is paid.
+    pub fn credited_purse(&self) -> Purse {
+        Purse { member: self.deliverer.member, currency: self.currency }
+    }
+
+    /// Whether the item waits under a sender's reference; a pair waits under
+    /// those of both its senders.
+    pub fn waits_under(&self, sender: Sender, reference: u64) -> bool {
+        let deliverer = Sender::Member(self.deliverer.member);
+        let receiver = Sender::Member(self.receiver.member);
+        let wanted = (sender, reference);
+        match self.state {
+            State::Deliver { reference } => wanted == (deliverer, reference),
+            State::Receive { reference } => wanted == (receiver, reference),
+            State::Pair { deliver, receive } => {
+                wanted == (deliverer, deliver.reference) || wanted == (receiver, receive.reference)
+            }
+            State::ExchangeTrade { reference } => wanted == (Sender::Exchange, reference),
+        }
+    }
+}
+
+#[derive(Clone, Debug, Default, PartialEq, Eq)]
+pub struct Book {
+    pub day: Day,
+    /// In order of admission.
+    pub securities: Vec<Security>,
+    /// Non-zero balances only.
+    pub accounts: BTreeMap<Account, u64>,
+    /// Hundredths; an absent purse is empty.
+    pub cash: BTreeMap<Purse, u64>,
+    /// "in order of arrival"
+    pub waiting: Vec<Item>,
+}
+
+impl Book {
+    /// "A fresh book has day 0, closed, nothing else."
+    pub fn fresh() -> Book {
+        Book::default()
+    }
+
+    pub fn security(&self, code: u64) -> Option<&Security> {
+        self.securities.iter().find(|security| security.code == code)
+    }
+
+    pub fn balance(&self, account: &Account) -> u64 {
+        self.accounts.get(account).copied().unwrap_or(0)
+    }
+
+    /// An account of balance 0 is not kept.
+    pub fn set_balance(&mut self, account: Account, balance: u64) {
+        if balance == 0 {
+            self.accounts.remove(&account);
+        } else {
+            self.accounts.insert(account, balance);
+        }
+    }
+
+    pub fn cash_of(&self, purse: &Purse) -> u64 {
+        self.cash.get(purse).copied().unwrap_or(0)
+    }
+
+    pub fn set_cash(&mut self, purse: Purse, amount: u64) {
+        if amount == 0 {
+            self.cash.remove(&purse);
+        } else {
+            self.cash.insert(purse, amount);
+        }
+    }
+
+    /// "A currency's total over all members".
+    pub fn cash_total(&self, currency: u64) -> u64 {
+        self.cash.iter().filter(|(purse, _)| purse.currency == currency).map(|(_, amount)| amount).sum()
+    }
+
+    /// "Held is the sum of a security's accounts."
+    pub fn held(&self, security: u64) -> u64 {
+        let of_security = |account: &Account| account.security == security;
+        self.accounts.iter().filter(|(account, _)| of_security(account)).map(|(_, balance)| balance).sum()
+    }
+
+    /// The waiting item that a sender's reference names.
+    pub fn find_waiting(&self, sender: Sender, reference: u64) -> Option<usize> {
+        self.waiting.iter().position(|item| item.waits_under(sender, reference))
+    }
+}

@@ -1,0 +1,101 @@
+//! The netted settlement cycle.
+
+use std::collections::{BTreeMap, BTreeSet};
+
+use crate::book::{Account, Book, Item, Purse};
+use crate::forms::Counts;
+use crate::rows::Rows;
+
+/// "An account, or a member's cash".
+#[derive(Clone, Copy, Debug, PartialEq, Eq, PartialOrd, Ord)]
+pub enum Holding {
+    Shares(Account),
+    Cash(Purse),
+}
+
+/// What a trade takes, and from where.
+pub fn debits(trade: &Item) -> [(Holding, u64); 2] {
+    [(Holding::Shares(trade.debited_account()), trade.quantity), (Holding::Cash(trade.debited_purse()), trade.amount)]
+}
+
+/// What a trade brings, and to where.
+pub fn credits(trade: &Item) -> [(Holding, u64); 2] {
+    [(Holding::Shares(trade.credited_account()), trade.quantity), (Holding::Cash(trade.credited_purse()), trade.amount)]
+}
+
+/// "take all pairs and exchange trades whose settlement day has come": their
+/// places in the list, in list order.
+pub fn due(book: &Book) -> Vec<usize> {
+    let is_due = |place: &usize| {
+        let item = &book.waiting[*place];
+        !item.is_single() && item.settlement_day <= book.day.number
+    };
+    (0..book.waiting.len()).filter(is_due).collect()
+}
+
+/// What each holding would be: "balance plus what the taken trades bring
+/// less what they take".
+fn outcome(book: &Book, taken: &[usize]) -> BTreeMap<Holding, i128> {
+    let mut outcome = BTreeMap::new();
+    let start = |holding: &Holding| i128::from(balance(book, holding));
+    for trade in taken.iter().map(|place| &book.waiting[*place]) {
+        for (holding, value) in credits(trade) {
+            *outcome.entry(holding).or_insert_with(|| start(&holding)) += i128::from(value);
+        }
+        for (holding, value) in debits(trade) {
+            *outcome.entry(holding).or_insert_with(|| start(&holding)) -= i128::from(value);
+        }
+    }
+    outcome
+}
+
+pub fn balance(book: &Book, holding: &Holding) -> u64 {
+    match holding {
+        Holding::Shares(account) => book.balance(account),
+        Holding::Cash(purse) => book.cash_of(purse),
+    }
+}
+
+/// The holdings that are short, "below zero".
+pub fn short(book: &Book, taken: &[usize]) -> BTreeSet<Holding> {
+    outcome(book, taken).into_iter().filter(|(_, value)| *value < 0).map(|(holding, _)| holding).collect()
+}
+
+/// "While any is short, drop the last taken trade in list order that debits
+/// a short one." What is left of the taken trades.
+pub fn settling(book: &Book) -> Vec<usize> {
+    let mut taken = due(book);
+    loop {
+        let short = short(book, &taken);
+        let debits_short = |place: &usize| debits(&book.waiting[*place]).iter().any(|(at, _)| short.contains(at));
+        match taken.iter().rposition(debits_short) {
+            Some(last) => taken.remove(last),
+            None => return taken,
+        };
+    }
+}
+
+/// "Settle the rest; each settled trade's four rows go into the area behind
+/// those before it: shares, then cash. Dropped trades are left waiting."
+pub fn run(book: &mut Book, rows: &mut Rows) -> Counts {
+    let due = due(book).len() as u64;
+    let settled = settling(book);
+    for trade in settled.iter().map(|place| &book.waiting[*place]) {
+        rows.share_movement(&trade.debited_account(), &trade.credited_account(), trade.quantity);
+        rows.cash_movement(&trade.debited_purse(), &trade.credited_purse(), trade.amount);
+    }
+    for (holding, value) in outcome(book, &settled) {
+        let value = u64::try_from(value).expect("nothing is short");
+        match holding {
+            Holding::Shares(account) => book.set_balance(account, value),
+            Holding::Cash(purse) => book.set_cash(purse, value),
+        }
+    }
+    let trades = settled.len() as u64;
+    for place in settled.into_iter().rev() {
+        book.waiting.remove(place);
+    }
+    // "a cycle adds 1 to cycles run"
+    book.day.cycles_run += 1;
+    Counts { settled: 2 * trades, left: due - trades, ..Counts::default() }
+}

@@ -1,0 +1,18 @@
+//! The depository ledger of document 01, written from the paper alone.
+//!
+//! It serves as the other side of the comparison and is never linked into
+//! the product. Every number is a plain `u64` and every table a plain
+//! collection, so that each function can be read beside its sentence.
+
+pub mod account_types;
+pub mod book;
+pub mod cancel;
+pub mod close;
+pub mod cycle;
+pub mod forms;
+pub mod matching;
+pub mod printing;
+pub mod record;
+pub mod refusals;
+pub mod rows;
+pub mod windows;

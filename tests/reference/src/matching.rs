@@ -1,0 +1,109 @@
+//! Deliver and receive instructions: how they wait and how they pair.
+
+use crate::account_types::same_nature;
+use crate::book::{Book, Half, Item, Side, State};
+use crate::record::Order;
+
+/// "between 0 and 2,000 (USD) or 3,015,000 (LBP)"
+pub fn tolerance(currency: u64) -> u64 {
+    if currency == 1 { 2_000 } else { 3_015_000 }
+}
+
+/// "An arriving 12 or 13 pairs with the first waiting single of the other
+/// form" that fits: its place in the list.
+pub fn partner(book: &Book, order: &Order) -> Option<usize> {
+    let arrival = waiting_item(order);
+    book.waiting.iter().position(|waiting| match (waiting.state, arrival.state) {
+        (State::Deliver { .. }, State::Receive { .. }) => fit(waiting, &arrival),
+        (State::Receive { .. }, State::Deliver { .. }) => fit(&arrival, waiting),
+        _ => false,
+    })
+}
+
+fn fit(deliver: &Item, receive: &Item) -> bool {
+    same_terms(deliver, receive) && amounts_agree(deliver, receive)
+}
+
+/// "receive amount less deliver amount between 0 and" the tolerance
+pub fn amounts_agree(deliver: &Item, receive: &Item) -> bool {
+    receive.amount >= deliver.amount && receive.amount - deliver.amount <= tolerance(deliver.currency)
+}
+
+/// "equal in security, shareholder, days, quantity, currency, both members
+/// naming each other, both types book entry or both physical"; the
+/// shareholder of an instruction is the same on both of its sides.
+pub fn same_terms(deliver: &Item, receive: &Item) -> bool {
+    deliver.security == receive.security
+        && deliver.deliverer.shareholder == receive.receiver.shareholder
+        && deliver.trade_day == receive.trade_day
+        && deliver.settlement_day == receive.settlement_day
+        && deliver.quantity == receive.quantity
+        && deliver.currency == receive.currency
+        && deliver.deliverer.member == receive.deliverer.member
+        && deliver.receiver.member == receive.receiver.member
+        && same_nature(deliver.deliverer.account_type, receive.receiver.account_type)
+}
+
+/// "The pair takes the receiver's amount; the earlier single is removed and
+/// the pair goes last. Otherwise the single goes last." An exchange trade
+/// goes last as it is.
+pub fn arrive(book: &mut Book, order: &Order) {
+    let arrival = waiting_item(order);
+    let item = match partner(book, order) {
+        None => arrival,
+        Some(place) => {
+            let earlier = book.waiting.remove(place);
+            match arrival.state {
+                State::Deliver { .. } => pair(&arrival, &earlier),
+                _ => pair(&earlier, &arrival),
+            }
+        }
+    };
+    book.waiting.push(item);
+}
+
+fn pair(deliver: &Item, receive: &Item) -> Item {
+    Item {
+        deliverer: deliver.deliverer,
+        receiver: receive.receiver,
+        amount: receive.amount,
+        state: State::Pair { deliver: half(deliver), receive: half(receive) },
+        ..*deliver
+    }
+}
+
+fn half(single: &Item) -> Half {
+    let reference = match single.state {
+        State::Deliver { reference } | State::Receive { reference } => reference,
+        _ => unreachable!("only singles pair"),
+    };
+    Half { reference, marked: false }
+}
+
+/// The item that an order of form 12, 13 or 14 would be by itself.
+pub fn waiting_item(order: &Order) -> Item {
+    let reference = order.reference;
+    Item {
+        security: order.security,
+        currency: order.currency,
+        deliverer: Side {
+            member: order.debited_member,
+            account_type: order.debited_type,
+            shareholder: order.debited_shareholder,
+        },
+        receiver: Side {
+            member: order.credited_member,
+            account_type: order.credited_type,
+            shareholder: order.credited_shareholder,
+        },
+        quantity: order.quantity,
+        amount: order.amount,
+        trade_day: order.trade_day,
+        settlement_day: order.settlement_day,
+        state: match order.form {
+            12 => State::Deliver { reference },
+            13 => State::Receive { reference },
+            _ => State::ExchangeTrade { reference },
+        },
+    }
+}

@@ -1,0 +1,32 @@
+//! The printing example of document 01.
+
+mod common;
+
+use common::*;
+use reference::printing::print;
+
+fn example() -> Vec<u8> {
+    let holder = account(7, 20, 5);
+    [open(1, 470), admit(101, 1_000, 500), deposit(holder, 400, 540), withdraw(holder, 401, 541)]
+        .iter()
+        .flat_map(record)
+        .collect()
+}
+
+#[test]
+fn the_example_prints_as_in_the_paper() {
+    let expected = "1 0 0\n2 0 2\n3 0 2\n4 16 0\nCUSTODY 101 ISSUED 1000 HELD 400 OUTSIDE 600\n";
+    assert_eq!(print(&example()), expected);
+}
+
+#[test]
+fn a_short_tail_is_one_record() {
+    let mut input = example();
+    input.truncate(2 * 40 + 39);
+    assert_eq!(print(&input), "1 0 0\n2 0 2\n3 2 0\nCUSTODY 101 ISSUED 1000 HELD 0 OUTSIDE 1000\n");
+}
+
+#[test]
+fn empty_input_prints_nothing() {
+    assert_eq!(print(&[]), "");
+}

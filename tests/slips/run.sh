@@ -1,0 +1,56 @@
+#!/bin/sh
+# Shows that the comparison finds deliberate changes: each patch here is put
+# into a copy of the reference, which then stands in for the library under
+# test. The last line is "N found, M missed"; names pick single slips.
+set -eu
+cd "$(dirname "$0")/.."
+tests=$PWD
+work=$tests/target/slips
+export CARGO_BUILD_JOBS=1
+
+# copy: these sources, where a patch may change them.
+copy() {
+    rm -rf "$work/source"
+    mkdir -p "$work/source"
+    cp -R Cargo.toml Cargo.lock reference boundary compare standin "$work/source/"
+}
+
+# build: the stand-in from the copy. A slip may leave a name unused.
+build() {
+    (cd "$work/source" &&
+        RUSTFLAGS='-A warnings' cargo --offline build --quiet --release -p standin --target-dir "$work/build")
+}
+
+copy
+build
+DEPOSITORY_LIB=$work/build/release/libstandin.so \
+    cargo --offline build --quiet --release -p compare --target-dir "$work/compare"
+
+# try: runs the comparison with the stand-in built last.
+try() {
+    LD_LIBRARY_PATH=$work/build/release "$work/compare/release/compare" --seed 1 > "$work/output" 2>&1
+}
+
+if [ $# -eq 0 ]; then
+    echo "unchanged stand-in:"
+    try || { cat "$work/output"; exit 1; }
+    echo "    $(tail -n 1 "$work/output")"
+    set -- slips/*.patch
+fi
+found=0
+missed=0
+for patch in "$@"; do
+    name=$(basename "$patch" .patch)
+    copy
+    patch --quiet --directory="$work/source" -p1 < "slips/$name.patch"
+    build
+    if try || ! grep -q -E '^FAILED: ' "$work/output"; then
+        echo "$name: MISSED"
+        missed=$((missed + 1))
+    else
+        echo "$name: $(grep -m 1 '^FAILED: ' "$work/output" | cut -c 9-140)"
+        found=$((found + 1))
+    fi
+done
+echo "$found found, $missed missed"
+[ "$missed" -eq 0 ]

@@ -1,0 +1,110 @@
+//! The reference behind the C boundary of depository.h.
+//!
+//! It stands in place of the library under test, to try the comparison
+//! itself: as it is, no difference may be found; with one deliberate change
+//! (../slips), the change must be found.
+
+use std::slice::{from_raw_parts, from_raw_parts_mut};
+
+use boundary::{BOOK_WORDS, COUNT_WORDS, decode, encode};
+use reference::book::Book;
+use reference::forms::{Answer, Counts};
+use reference::record::{self, FIELD_COUNT};
+
+/// A pointer of length 0 may be anything, so it is not looked at.
+///
+/// # Safety
+/// `start` must be good for `length` elements.
+unsafe fn shared<'a, T>(start: *const T, length: usize) -> &'a [T] {
+    if length == 0 { &[] } else { unsafe { from_raw_parts(start, length) } }
+}
+
+/// # Safety
+/// As for `shared`, and nothing else may use the elements.
+unsafe fn unique<'a, T>(start: *mut T, length: usize) -> &'a mut [T] {
+    if length == 0 { &mut [] } else { unsafe { from_raw_parts_mut(start, length) } }
+}
+
+/// # Safety
+/// See depository.h.
+#[unsafe(no_mangle)]
+pub unsafe extern "C" fn depository_fresh(book: *mut u64, words: usize) -> u64 {
+    if words != BOOK_WORDS {
+        return 0;
+    }
+    encode(&Book::fresh(), unsafe { unique(book, words) });
+    1
+}
+
+/// # Safety
+/// See depository.h.
+#[unsafe(no_mangle)]
+pub unsafe extern "C" fn depository_call(
+    book: *mut u64,
+    words: usize,
+    record: *const u8,
+    record_bytes: usize,
+    area: *mut u8,
+    area_bytes: usize,
+    counts: *mut u64,
+    counts_words: usize,
+) -> u64 {
+    let words = unsafe { unique(book, words) };
+    let (record, area) = unsafe { (shared(record, record_bytes), unique(area, area_bytes)) };
+    let counts = unsafe { unique(counts, counts_words) };
+    assert_eq!(counts.len(), COUNT_WORDS);
+    let mut book = decode(words).expect("a book of this library");
+    let answer = book.call(record, area);
+    encode(&book, words);
+    match answer {
+        Answer::Refused(number) => number,
+        Answer::Accepted(answer) => {
+            counts.copy_from_slice(&count_words(&answer));
+            0
+        }
+    }
+}
+
+fn count_words(counts: &Counts) -> [u64; COUNT_WORDS] {
+    [counts.rows, counts.settled, counts.cancelled, counts.deleted, counts.suspended, counts.left]
+}
+
+/// # Safety
+/// See depository.h.
+#[unsafe(no_mangle)]
+pub unsafe extern "C" fn depository_held(book: *const u64, words: usize, security: u64) -> u64 {
+    decode(unsafe { shared(book, words) }).expect("a book of this library").held(security)
+}
+
+/// # Safety
+/// See depository.h.
+#[unsafe(no_mangle)]
+pub unsafe extern "C" fn depository_read(
+    record: *const u8,
+    record_bytes: usize,
+    fields: *mut u64,
+    fields_words: usize,
+) -> u64 {
+    let (record, fields) = unsafe { (shared(record, record_bytes), unique(fields, fields_words)) };
+    match record::read(record) {
+        Err(number) => number,
+        Ok(order) => {
+            fields.copy_from_slice(&order.fields());
+            0
+        }
+    }
+}
+
+/// # Safety
+/// See depository.h.
+#[unsafe(no_mangle)]
+pub unsafe extern "C" fn depository_write(
+    fields: *const u64,
+    fields_words: usize,
+    area: *mut u8,
+    area_bytes: usize,
+) -> u64 {
+    let (fields, area) = unsafe { (shared(fields, fields_words), unique(area, area_bytes)) };
+    let fields: &[u64; FIELD_COUNT] = fields.try_into().expect("15 fields");
+    record::write(fields, area).err().unwrap_or(0)
+}
