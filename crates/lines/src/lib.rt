@@ -76,6 +76,7 @@ fn rows_of(answer: Answer) -> u64
 pub fn put_answer_line(out: &mut [u8], at: usize, number: u64, answer: Answer) -> usize
     requires { ⌜ at + 63 ≤ length (now out) ⌝ }
     ensures { λ r. ⌜ Put (now (out .entry)) at (answerLine number answer) (now (out .exit)) r ⌝ }
+    ensures { λ r. ⌜ r ≤ at + 63 ⌝ }
 {
     let mut next = put_number(out, at, number);
     next = put_figure(out, next, b" ", number_of(answer));
@@ -87,6 +88,7 @@ pub fn put_answer_line(out: &mut [u8], at: usize, number: u64, answer: Answer) -
 pub fn put_custody_line(out: &mut [u8], at: usize, security: Security, held: Shares) -> usize
     requires { ⌜ at + 112 ≤ length (now out) ⌝ }
     ensures { λ r. ⌜ Put (now (out .entry)) at (custodyLine security held) (now (out .exit)) r ⌝ }
+    ensures { λ r. ⌜ r ≤ at + 112 ⌝ }
 {
     let mut next = put_figure(out, at, b"CUSTODY ", security.code);
     next = put_figure(out, next, b" ISSUED ", security.issued.0);

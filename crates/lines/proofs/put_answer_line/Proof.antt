@@ -20,7 +20,8 @@ unfolding answerLine
 returns c =
     let first = put-then (c .before .before .before .before .before .before .before .before .before .before .before .before .before .before .before .before .before .before .before .put-number .ensures .0) (c .before .before .before .before .before .before .before .before .before .before .before .before .before .put-figure .ensures .0) in
     let second = put-then first (c .before .before .before .before .before .before .before .put-figure2 .ensures .0) in
-    rw (← c .before .before .before .before .before .before .before .before .before .before .before .before .before .before .number-of .ensures, ← c .before .before .before .before .before .before .before .before .rows-of .ensures) (put-then second (c .before .before .put-bytes .ensures))
+    let all = put-then second (c .before .before .put-bytes .ensures) in
+    (rw (← c .before .before .before .before .before .before .before .before .before .before .before .before .before .before .number-of .ensures, ← c .before .before .before .before .before .before .before .before .rows-of .ensures) all, omega (arith, c .before .before .put-bytes .ensures .place))
 
 pub put-answer-line-spec : {M : Type 1} → statement M
 put-answer-line-spec =

@@ -25,7 +25,7 @@ returns c =
     let issued = put-then (c .before .before .before .before .before .before .before .before .before .before .before .before .before .before .before .before .before .before .before .before .before .before .put-figure .ensures .0) (c .before .before .before .before .before .before .before .before .before .before .before .before .before .before .before .before .before .put-figure2 .ensures .0) in
     let held = put-then issued (c .before .before .before .before .before .before .before .before .before .before .before .before .put-figure3 .ensures .0) in
     let outside = put-then held (c .before .before .before .before .before .before .before .put-figure4 .ensures .0) in
-    put-then outside (c .before .before .put-bytes .ensures)
+    (put-then outside (c .before .before .put-bytes .ensures), omega (arith, c .before .before .put-bytes .ensures .place))
 
 pub put-custody-line-spec : {M : Type 1} → statement M
 put-custody-line-spec =
