@@ -2,9 +2,9 @@
 use Prim.Native.Nat.{ℕ, _+_, _≤_, _<_}
 use native.Mathlib.Omega.{arith}
 use native.Mathlib.Numerals.{add-one}
-use mathlib.Core.List.{List, [], _∷_, _++_, append-assoc}
+use mathlib.Core.List.{List, [], _∷_, _++_, append-assoc, append-nil}
 use mathlib.Core.Path.{_≡_, refl, sym, ap, _∙_, subst}
-use lib.ListN.{length, getD, take, drop, set, length-append, length-drop}
+use lib.ListN.{length, getD, take, drop, set, length-append, length-drop, take-append-drop}
 use lib.Seq.{length-take-le, take-at, drop-append-add, drop-drop, set-split, append-snoc, paste, paste-suc, take-length}
 use Rattle.lines.specs.Text.{put, Put}
 
@@ -27,6 +27,14 @@ module _ (out : List ℕ) (at : ℕ) (bytes : List ℕ) (room : at + length byte
       in
       let both : at + length bytes + length more ≡ at + length (bytes ++ more) = rw (length-append bytes more) (omega arith) in
       rw (take-at (take at out ++ bytes) (drop (at + length bytes) out) (at + length bytes) head-length, behind, append-assoc (take at out) bytes more, both)
+
+-- nothing leaves the buffer as it is
+pub put-none : (out : List ℕ) (at : ℕ) → at ≤ length out → Put out at [] out at
+unfolding put
+put-none out at inside = record { room = omega arith; contents = as-it-was; place = omega arith }
+  where
+    as-it-was : out ≡ put out at []
+    as-it-was = let none : at + 0 ≡ at = omega arith in sym (rw (none, append-nil (take at out)) (take-append-drop at out))
 
 -- one part behind the other is both in one
 pub put-then :

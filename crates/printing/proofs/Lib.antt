@@ -1,0 +1,2 @@
+-- the lines of the first securities, and one more
+mod CustodyLines
