@@ -10,6 +10,7 @@ use lib.Seq.{take-all, drop-drop, take-append-le, drop-append-le}
 use borrow.Author.Tests.{ltb-true, ltb-false}
 use Rattle.rulebook.specs.Lists.{if_then_else_, _below_}
 use Rattle.file.specs.Records.{parts, recordsOf, endOf, nextAt, found, walk}
+use Rattle.file.specs.declared.Cursor.{Cursor}
 use Rattle.file.specs.declared.Next.{Next}
 use Rattle.file.specs.declared.Next.the-variants.{Record, End}
 
@@ -47,6 +48,24 @@ walk-step file at = here (at below length file) refl (length file - at below 40)
         let wide : at + 40 - at ≡ 40 = omega arith in
         first-record (drop at file) (omega (arith, length-drop at file)) ∙ rw (wide, drop-drop 40 at file)
 
+-- a record that a walk finds lies inside the file
+pub inside : (file : List ℕ) (at start end : ℕ) (next : Cursor) → nextAt file at ≡ Record start end next → (start ≤ end) × (end ≤ length file)
+unfolding nextAt endOf
+inside file at start end next e = here (at below length file) refl (length file - at below 40) refl e
+  where
+    here : (within : Bool) → (at below length file) ≡ within → (short : Bool) → (length file - at below 40) ≡ short
+        → (if within then Record at (if short then length file else at + 40) (record { at = if short then length file else at + 40 }) else End) ≡ Record start end next
+        → (start ≤ end) × (end ≤ length file)
+    here false a short b e = let z : _≡_ {A = ℕ} 0 1 = cc in absurd (omega arith)
+    here true a true b e =
+        let s : at ≡ start = cc in
+        let t : length file ≡ end = cc in
+        (omega (arith, ltb-true at (length file) a), omega arith)
+    here true a false b e =
+        let s : at ≡ start = cc in
+        let t : at + 40 ≡ end = cc in
+        (omega arith, omega (arith, ltb-true at (length file) a, ltb-false (length file - at) 40 b))
+
 -- so a walk of steps enough meets the records of the file, no more and no fewer
 pub walk-all : (n : ℕ) (file : List ℕ) → length (recordsOf file) ≤ n → walk n file 0 ≡ recordsOf file
 unfolding walk found
@@ -65,6 +84,16 @@ walk-all n file = from n 0
             → found file (walk n file) a ≡ recordsOf (drop at file)
         answer End e rest = sym e
         answer (Record start end next) e rest = rw (rest (next .at) (omega (arith, ap length e))) (sym e)
+
+parts-length : (n : ℕ) (file : List ℕ) → length (parts n file) ≡ n
+unfolding parts
+parts-length zero file = refl
+parts-length (suc n) file = ap suc (parts-length n (drop 40 file))
+
+-- how many records a file has
+pub records-length : (file : List ℕ) → length (recordsOf file) ≡ (length file + 39) / 40
+unfolding recordsOf
+records-length file = parts-length ((length file + 39) / 40) file
 
 -- a file that is read in blocks: whole records first, then the rest, has the records of both
 pub records-append : (n : ℕ) (block rest : List ℕ) → length block ≡ 40 * n → recordsOf (block ++ rest) ≡ recordsOf block ++ recordsOf rest

@@ -1,9 +1,33 @@
--- What is printed of a book.
-use Prim.Native.Nat.{ℕ}
+-- What is printed of records and of a book.
+use Prim.Native.Nat.{ℕ, _+_}
 use mathlib.Core.List.{List, [], _∷_, _++_}
-use Rattle.rulebook.specs.Ledger.{Holdings, held}
+use mathlib.Core.Path.{_≡_}
+use Rattle.rulebook.specs.Call.{Result, callOf}
+use Rattle.rulebook.specs.Ledger.{Ledger, Holdings, held}
 use Rattle.rulebook.specs.declared.Security.{Security}
-use Rattle.lines.specs.Lines.{custodyLine}
+use Rattle.book.specs.Meaning.{ledgerOf}
+use Rattle.book.specs.Stored.{Kept}
+use Rattle.lines.specs.Lines.{answerLine, custodyLine}
+use Rattle.lines.specs.Text.{Put}
+
+-- each record is a call on the book and with the area that the one before it returned; its line has its number
+unfoldable pub answerLines : (number : ℕ) → Ledger → (area : List ℕ) → List (List ℕ) → List ℕ
+answerLines number book area [] = []
+answerLines number book area (octets ∷ rest) =
+    let result : Result = callOf book octets area in
+    answerLine number result.answer ++ answerLines (number + 1) result.book result.area rest
+
+unfoldable pub bookAfter : Ledger → (area : List ℕ) → List (List ℕ) → Ledger
+bookAfter book area [] = book
+bookAfter book area (octets ∷ rest) =
+    let result : Result = callOf book octets area in
+    bookAfter result.book result.area rest
+
+unfoldable pub areaAfter : Ledger → (area : List ℕ) → List (List ℕ) → List ℕ
+areaAfter book area [] = area
+areaAfter book area (octets ∷ rest) =
+    let result : Result = callOf book octets area in
+    areaAfter result.book result.area rest
 
 -- a security's line: its held count is the sum of its accounts
 unfoldable pub custodyOf : Holdings → Security → List ℕ
@@ -16,3 +40,20 @@ custodyFrom h (security ∷ rest) = custodyOf h security ++ custodyFrom h rest
 -- per security, in order of admission
 unfoldable pub custodyLines : Holdings → List ℕ
 custodyLines h = custodyFrom h h.securities
+
+-- what is lent: a book, an area, and a buffer with its next free place
+pub record Lent : Type 0 where
+  pub book : List ℕ
+  pub area : List ℕ
+  pub out : List ℕ
+  pub at : ℕ
+
+abbrev pub lent : (book area out : List ℕ) → ℕ → Lent
+lent book area out at = record { book = book; area = area; out = out; at = at }
+
+-- records were called one after the other, and their lines, numbered from a number on, were put into the buffer
+pub record Answered (number : ℕ) (records : List (List ℕ)) (before after : Lent) : Type 0 where
+  pub kept : Kept after.book
+  pub ledger : ledgerOf after.book ≡ bookAfter (ledgerOf before.book) before.area records
+  pub area : after.area ≡ areaAfter (ledgerOf before.book) before.area records
+  pub lines : Put before.out before.at (answerLines number (ledgerOf before.book) before.area records) after.out after.at
