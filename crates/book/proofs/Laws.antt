@@ -98,6 +98,11 @@ module _ (xs : List ℕ) (stored : Stored xs) (ys : List ℕ) where
       step ITEMS (omega arith) sized.long (putWaiting l (ledgerOf xs)) (record { opened = stored.parts.opened; securities = stored.parts.securities; accounts = stored.parts.accounts; items = sized })
       (ap (λ (x : List Item). putWaiting x (ledgerOf xs)) e)
 
+-- ---- one function after another: what the second makes of the book that the first left
+
+pub next : (f : Ledger → Ledger) {xs ys : List ℕ} {b : Ledger} → Means xs b → Means ys (f (ledgerOf xs)) → Means ys (f b)
+next f first second = record { stored = second.stored; ledger = second.ledger ∙ ap f first.ledger }
+
 -- ---- what the words keep of the ledger
 
 -- the number of accounts is that of the accounts with a balance

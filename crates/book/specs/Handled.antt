@@ -20,7 +20,13 @@ pub record WasRead (order : Order) : Type 0 where
   pub octets : List ℕ
   pub read : readOf octets ≡ Read.Order order
 
--- a book and an area, and an order that was read and that no refusal applies to
+-- a book, and an order that was read and that no refusal applies to: for a form that writes no row
+pub record Given (book : List ℕ) (order : Order) : Type 0 where
+  pub kept : Kept book
+  pub read : WasRead order
+  pub passes : first (refusals (ledgerOf book) order) ≡ 0
+
+-- the same with an area
 pub record Accepted (book : List ℕ) (order : Order) (area : List ℕ) : Type 0 where
   pub kept : Kept book
   pub read : WasRead order

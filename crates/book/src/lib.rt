@@ -3,8 +3,11 @@ ghost use mathlib.Core.Path.{_≡_};
 ghost use mathlib.Core.Bool.{false};
 ghost use mathlib.Core.List.{_++_, _∷_, []};
 ghost use Prim.Native.Nat.{_+_, _^_, _≤_, _<_};
-ghost use lib.ListN.{length, getD, set};
+ghost use lib.ListN.{length, getD, set, take};
+<<<<<<< HEAD
 ghost use Rattle.rulebook.specs.Ledger as Ledger;
+=======
+>>>>>>> instructions
 ghost use Rattle.rulebook.specs.Ledger.{putDay, putHoldings, putWaiting, putSecurities, admitted, issuedOf, outsideOf, cashTotal};
 ghost use Rattle.rulebook.specs.Movements as movements;
 ghost use Rattle.rulebook.specs.Premise.{CashFits};
@@ -50,6 +53,7 @@ fn day_in(day: &[u64]) -> Day
     }
 }
 
+// The day goes into a region of 8 words.
 fn put_day_in(words: &mut [u64], day: Day)
     requires { ⌜ length (now words) ≡ 8 ⌝ }
     ensures { λ u. ⌜ (dayIn (now (words .exit)) ≡ day) × (getD (now (words .exit)) 1 0 ≤ 1) ⌝ }
@@ -67,7 +71,7 @@ pub fn day(book: &[u64]) -> Day
     day_in(&book[DAY..SECURITIES])
 }
 
-// Another day.
+// The book's day becomes `day`.
 pub fn put_day(book: &mut [u64], day: Day)
     requires { ⌜ Stored (now book) ⌝ }
     ensures { λ u. ⌜ Means (now (book .exit)) (putDay day (ledgerOf (now (book .entry)))) ⌝ }
@@ -157,6 +161,14 @@ pub fn remove(book: &mut [u64], i: usize)
     ensures { λ u. ⌜ Means (now (book .exit)) (putWaiting (removeAt i (ledgerOf (now (book .entry)) .waiting)) (ledgerOf (now (book .entry)))) ⌝ }
 {
     items::remove(&mut book[ITEMS..END], i);
+}
+
+// The first `n` items alone.
+pub fn keep_first(book: &mut [u64], n: usize)
+    requires { ⌜ Stored (now book) × (n ≤ length (ledgerOf (now book) .waiting)) ⌝ }
+    ensures { λ u. ⌜ Means (now (book .exit)) (putWaiting (take n (ledgerOf (now (book .entry)) .waiting)) (ledgerOf (now (book .entry)))) ⌝ }
+{
+    items::keep_first(&mut book[ITEMS..END], n);
 }
 
 // ---- cash

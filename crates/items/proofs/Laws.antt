@@ -12,7 +12,7 @@ use lib.Seq.{drop-set-lt, getD-set-same, drop-drop, length-take-le, drop-append-
 use borrow.Rule.Slice.PartMut.{putMid}
 use Rattle.words.specs.Places.{listFrom, removeAt}
 use Rattle.words.specs.Tables.{rows}
-use Rattle.words.proofs.Places.{from-get, from-set, from-push, from-remove, length-from}
+use Rattle.words.proofs.Places.{from-get, from-same, from-set, from-push, from-remove, length-from}
 use Rattle.words.proofs.Regions.{part-same, part-before, word-before, part-behind, part-inside, part-length}
 use Rattle.items.specs.Waiting.{stateWords, stateOf, itemOf, wordsOf, rowAt, itemAt, putRow, itemsOf, Sized}
 use Rattle.rulebook.specs.declared.State.{State}
@@ -155,6 +155,22 @@ module _ (w : List ℕ) (sized : Sized w) (at : ℕ) (low : at < rows w) where
 
       fall : (k : ℕ) → at ≤ k → k < rows w - 1 → itemAt (down w at) (0 + k) ≡ itemAt w (0 + suc k)
       fall k h l = let e : 0 + k ≡ k = omega arith in let f : 0 + suc k ≡ suc k = omega arith in rw (e, f) (ap itemOf (behind k h l))
+
+-- ---- the first rows alone
+
+from-take : (f : ℕ → Item) (i m n : ℕ) → n ≤ m → take n (listFrom f i m) ≡ listFrom f i n
+unfolding listFrom
+from-take f i m zero l = refl
+from-take f i zero (suc n) l = absurd (omega arith)
+from-take f i (suc m) (suc n) l = ap (λ (r : List Item). f i ∷ r) (from-take f (suc i) m n (omega arith))
+
+pub cut-down : (w : List ℕ) (n : ℕ) → Sized w → n ≤ rows w → Sized (set w 0 n) × (itemsOf (set w 0 n) ≡ take n (itemsOf w))
+unfolding itemsOf
+cut-down w n sized low =
+    let size : getD (set w 0 n) 0 0 ≡ n = getD-set-same w 0 n 0 (omega (arith, sized .long)) in (
+      record { long = length-set w 0 n ∙ sized .long; size = rw size (omega (arith, sized .size)) },
+      ap (listFrom (itemAt (set w 0 n)) 0) size ∙ from-same (itemAt w) (itemAt (set w 0 n)) 0 0 n (λ k h. counted w n (0 + k)) ∙ sym (from-take (itemAt w) 0 (rows w) n low),
+    )
 
 pub how-many : (w : List ℕ) → length (itemsOf w) ≡ rows w
 unfolding itemsOf

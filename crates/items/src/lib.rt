@@ -2,7 +2,7 @@
 ghost use mathlib.Core.Path.{_≡_};
 ghost use mathlib.Core.List.{_++_, _∷_, []};
 ghost use Prim.Native.Nat.{_+_, _*_, _≤_, _<_};
-ghost use lib.ListN.{length, getD, set};
+ghost use lib.ListN.{length, getD, set, take};
 ghost use Rattle.words.specs.Places.{removeAt};
 ghost use Rattle.words.specs.Tables.{rows};
 ghost use Rattle.items.specs.Waiting.{Sized, stateOf, stateWords, itemOf, wordsOf, putRow, itemsOf};
@@ -168,4 +168,12 @@ pub fn remove(items: &mut [u64], i: usize)
     let last = n as usize;
     words::shift_down(items, i * 16 + 1, 16, (last - i) * 16);
     items[0] = n;
+}
+
+// The first `n` items alone.
+pub fn keep_first(items: &mut [u64], n: usize)
+    requires { ⌜ Sized (now items) × (n ≤ rows (now items)) ⌝ }
+    ensures { λ u. ⌜ Sized (now (items .exit)) × (itemsOf (now (items .exit)) ≡ take n (itemsOf (now (items .entry)))) ⌝ }
+{
+    items[0] = n as u64;
 }

@@ -222,7 +222,7 @@ module _ (b : Ledger) (o : Order) (z : Sizes b) where
 
 -- ---- the two accounts of an accepted form 5 to 9 differ
 
-same-sym : (a b : Account) → sameAccount a b ≡ sameAccount b a
+pub same-sym : (a b : Account) → sameAccount a b ≡ sameAccount b a
 unfolding sameAccount
 same-sym a b = simp (is-sym a.security b.security, is-sym a.member b.member, is-sym a.typ b.typ, is-sym a.shareholder b.shareholder)
 

@@ -1,0 +1,59 @@
+-- What the rulebook's premise gives the cycle. Assumes nothing.
+use Prim.Native.Nat.{ℕ, _+_, _^_, _≤_, _<_}
+use native.Mathlib.Omega.{arith}
+use mathlib.Core.Bool.{Bool, true, false}
+use mathlib.Core.List.{[], _∷_}
+use lib.ListN.{length}
+use Rattle.rulebook.specs.Lists.{if_then_else_, _is_}
+use Rattle.rulebook.specs.Cycle.{seller, buyer}
+use Rattle.rulebook.specs.Ledger.{Ledger, accountOf}
+use Rattle.rulebook.specs.Premise.{ItemFits, today, CashFits, Premise}
+use Rattle.rulebook.specs.Windows.{cycleMinutes, byKind}
+use Rattle.rulebook.specs.declared.Item.{Item}
+use Rattle.rulebook.specs.declared.Party.{Party}
+use Rattle.rulebook.proofs.Bounds.{balance-fits, cash-fits}
+use Rattle.rulebook.proofs.ByIndex.{item-at}
+use Rattle.rulebook.proofs.EveryCall.Items.{PartyPosts, item-posts}
+use Rattle.accounts.specs.Keys.{InRange}
+use Rattle.cycle.specs.Marks.{noItem}
+use Rattle.cycle.specs.Ready.{Bookable, Ready}
+
+named : (security : ℕ) (p : Party) → security < 2 ^ 14 → PartyPosts p → InRange (accountOf security p)
+unfolding accountOf
+named security p s f = record { security = s; member = omega (arith, f .most); typ = f .typ; shareholder = f .shareholder }
+
+fits-bookable : (b : Ledger) (t : Item) → ItemFits b.day.number (today b.day) b.holdings t → Bookable t
+unfolding seller buyer
+fits-bookable b t f =
+    let p = item-posts b.day.number (today b.day) b.holdings t f in
+    record {
+      sells = named t.security t.debited f.security-most (p .debited);
+      buys = named t.security t.credited f.security-most (p .credited);
+      some = omega (arith, f.quantity-least);
+      quantity = f.quantity;
+      pays = record { member-least = p .credited .least; member-most = p .credited .most; currency-least = f.currency-least; currency-most = f.currency-most };
+      paid = record { member-least = p .debited .least; member-most = p .debited .most; currency-least = f.currency-least; currency-most = f.currency-most };
+      amount = f.amount;
+    }
+
+-- a day has at most three cycles
+few : (kind : ℕ) → length (cycleMinutes kind) ≤ 3
+unfolding cycleMinutes byKind
+few kind = go (kind is 1)
+  where
+    go : (t : Bool) → length {A = ℕ} (if t then 585 ∷ 705 ∷ 825 ∷ [] else 585 ∷ 705 ∷ []) ≤ 3
+    go true = omega arith
+    go false = omega arith
+
+module _ (b : Ledger) (p : Premise b) where
+  pub premise-ready : Ready b
+  premise-ready = record {
+    size = p .sizes .items;
+    room = p .sizes .accounts;
+    bookable = λ k l. fits-bookable b _ (item-at b p k noItem l);
+    balances = λ a. omega (arith, balance-fits b p a);
+    amounts = λ m c. omega (arith, cash-fits b p m c);
+  }
+
+  pub premise-cycles : b.day.cycles < 2 ^ 63
+  premise-cycles = omega (arith, p .day .cycles, few b.day.kind)

@@ -1,0 +1,175 @@
+-- The loops that book the marked trades: the book means the ledger with what the first i bring, or take. Assumes nothing.
+use Prim.Native.Nat.{ℕ, _+_, _-_, _*_, _^_, _≤_, _<_}
+use native.Mathlib.Omega.{arith}
+use mathlib.Core.Bool.{Bool, true, false, _&&_}
+use mathlib.Core.List.{List, [], _∷_}
+use mathlib.Core.Path.{_≡_, refl, sym, ap, subst, _∙_}
+use lib.ListN.{length}
+use Rattle.rulebook.specs.Lists.{if_then_else_, _is_}
+use Rattle.rulebook.specs.Ledger.{Ledger, Holdings, sameAccount, putHoldings, sumBelow}
+use Rattle.rulebook.specs.Movements.{Movement, credits, debits}
+use Rattle.rulebook.specs.Cycle.{Marked, seller, buyer, over, bringsShares, takesShares, bringsCash, takesCash, sharesBrought, sharesTaken, cashBrought, cashTaken, anyShort, withMark, legs}
+use Rattle.rulebook.specs.declared.Account.{Account}
+use Rattle.rulebook.specs.declared.Item.{Item}
+use Rattle.rulebook.proofs.Rounds.{enough-shares, enough-cash}
+use Rattle.rulebook.proofs.Sizes.{credits-accounts, legs-opened}
+use Rattle.words.proofs.Sums.{sum-last, sum-grows}
+use Rattle.book.specs.Meaning.{ledgerOf}
+use Rattle.book.specs.Stored.{Stored, Means}
+use Rattle.cycle.specs.Marks.{itemIn, isOn, markedOf}
+use Rattle.cycle.specs.Ready.{Bookable, Ready, CanCredit, CanDebit, Covered}
+use Rattle.cycle.proofs.Marking.{marking, over-sum, count-marked}
+use Rattle.cycle.proofs.Netting.{sum-most, if-below}
+use Rattle.cycle.proofs.Running.{count-most}
+use Rattle.cycle.proofs.Posting.{first, ifMarked, credits-none, credits-next, debits-none, debits-next, own-brought, own-taken, own-paid, own-pays, credited-balance, credited-cash, debited-balance, debited-cash}
+
+-- ---- a book with other holdings
+
+module _ (b : Ledger) (book : List ℕ) (h : Holdings) (m : Means book (putHoldings h b)) where
+  pub holdings-now : ledgerOf book .holdings ≡ h
+  unfolding putHoldings
+  holdings-now = ap (λ (x : Ledger). x .holdings) (m .ledger)
+
+  pub waiting-now : ledgerOf book .waiting ≡ b.waiting
+  unfolding putHoldings
+  waiting-now = ap (λ (x : Ledger). x .waiting) (m .ledger)
+
+  -- and then with others again
+  pub then-holdings : (f : Holdings → Holdings) (after : List ℕ) → Means after (putHoldings (f (ledgerOf book .holdings)) (ledgerOf book)) → Means after (putHoldings (f h) b)
+  unfolding putHoldings
+  then-holdings f after k = record { stored = k .stored; ledger = k .ledger ∙ ap (λ (x : Ledger). putHoldings (f (x .holdings)) x) (m .ledger) }
+
+-- ---- a loop over the marked trades
+
+module _
+    (act : List Movement → Holdings → Holdings)
+    (nothing : (h : Holdings) → act (legs []) h ≡ h)
+    (item : ℕ → Item)
+    (on : ℕ → Bool)
+    (next : (i : ℕ) (h : Holdings) → act (legs (first item on (i + 1))) h ≡ act (legs (ifMarked (on i) (item i))) (act (legs (first item on i)) h))
+    (b : Ledger)
+  where
+    -- the book after the first i
+    abbrev pub Acted : ℕ → List ℕ → Type 0
+    Acted i book = Means book (putHoldings (act (legs (first item on i)) b.holdings) b)
+
+    module _ (i : ℕ) (book : List ℕ) (m : Acted i book) where
+      pub acted-off : on i ≡ false → Acted (i + 1) book
+      acted-off e =
+          let s : act (legs (first item on (i + 1))) b.holdings ≡ act (legs (first item on i)) b.holdings =
+          next i b.holdings ∙ ap (λ (x : Bool). act (legs (ifMarked x (item i))) (act (legs (first item on i)) b.holdings)) e ∙ nothing (act (legs (first item on i)) b.holdings)
+          in
+          subst (λ (h : Holdings). Means book (putHoldings h b)) (sym s) m
+
+      pub acted-on : on i ≡ true → (t : Item) → t ≡ item i → (after : List ℕ) → Means after (putHoldings (act (legs (t ∷ [])) (ledgerOf book .holdings)) (ledgerOf book)) → Acted (i + 1) after
+      acted-on e t same after k =
+          let s : act (legs (first item on (i + 1))) b.holdings ≡ act (legs (t ∷ [])) (act (legs (first item on i)) b.holdings) =
+          next i b.holdings ∙ ap (λ (x : Bool). act (legs (ifMarked x (item i))) (act (legs (first item on i)) b.holdings)) e ∙ ap (λ (x : Item). act (legs (x ∷ [])) (act (legs (first item on i)) b.holdings)) (sym same)
+          in
+          subst (λ (h : Holdings). Means after (putHoldings h b)) (sym s) (then-holdings b book (act (legs (first item on i)) b.holdings) m (act (legs (t ∷ []))) after k)
+
+-- ---- what the marked trades of a ledger bring and take
+
+brings-small : (a : Account) (t : Item) → Bookable t → bringsShares a t < 2 ^ 40
+unfolding bringsShares
+brings-small a t k = if-below (sameAccount (buyer t) a) t.quantity.0 (k .quantity)
+
+pays-small : (m c : ℕ) (t : Item) → Bookable t → bringsCash m c t < 2 ^ 40
+unfolding bringsCash
+pays-small m c t k = if-below (t.debited.member is m && t.currency is c) t.amount.0 (k .amount)
+
+module _ (b : Ledger) (marks : ℕ) where
+  abbrev item : ℕ → Item
+  item k = itemIn b.waiting k
+
+  abbrev n : ℕ
+  n = length b.waiting
+
+  abbrev on : ℕ → Bool
+  on k = isOn marks k
+
+  abbrev pub Credited : ℕ → List ℕ → Type 0
+  Credited i book = Means book (putHoldings (credits (legs (first item on i)) b.holdings) b)
+
+  abbrev pub Debited : ℕ → List ℕ → Type 0
+  Debited i book = Means book (putHoldings (debits (legs (first item on i)) b.holdings) b)
+
+  module _ (i : ℕ) (l : i < n) (marked : isOn marks i ≡ true) where
+    -- the sum of a figure over the first i, which is bounded, and grows by the one at i
+    small : (f : Item → ℕ) → ((t : Item) → Bookable t → f t < 2 ^ 40) → Ready b → sumBelow i (λ k. if on k then f (item k) else 0) ≤ i * 1_099_511_627_776
+    small f e r = sum-most i (λ k. if on k then f (item k) else 0) (λ k h. if-below (on k) _ (e (item k) (r .bookable k (omega arith))))
+
+    grows : (f : Item → ℕ) → sumBelow i (λ k. if on k then f (item k) else 0) + f (item i) ≤ over f (marking on item n)
+    grows f =
+        let s = rw marked at (sum-last i (λ k. if on k then f (item k) else 0)) in
+        omega (arith, s, sum-grows (i + 1) n (λ k. if on k then f (item k) else 0) (omega arith), over-sum item n f on)
+
+    pub can-credit : Ready b → CanCredit (item i) (credits (legs (first item on i)) b.holdings)
+    can-credit r =
+        let t = item i in
+        record {
+          bookable = r .bookable i l;
+          room = omega (arith, credits-accounts (legs (first item on i)) b.holdings, legs-opened (first item on i), count-marked item i on, count-most on i, r .room);
+          shares = omega (arith, credited-balance item on (buyer t) b.holdings i, small (bringsShares (buyer t)) (brings-small (buyer t)) r, r .balances (buyer t), r .bookable i l .quantity, r .size);
+          cash = omega (arith, credited-cash item on (t .debited .member) (t .currency) b.holdings i, small (bringsCash (t .debited .member) (t .currency)) (pays-small (t .debited .member) (t .currency)) r, r .amounts (t .debited .member) (t .currency), r .bookable i l .amount, r .size);
+        }
+
+    pub can-debit : Covered b (markedOf marks b.waiting) → CanDebit (item i) (debits (legs (first item on i)) b.holdings)
+    unfolding markedOf sharesTaken cashTaken
+    can-debit r =
+        let t = item i in
+        record {
+          bookable = r .bookable i l;
+          shares = omega (arith, debited-balance item on (seller t) b.holdings i, grows (takesShares (seller t)), own-taken t, r .shares (seller t));
+          cash = omega (arith, debited-cash item on (t .credited .member) (t .currency) b.holdings i, grows (takesCash (t .credited .member) (t .currency)), own-pays t, r .cash (t .credited .member) (t .currency));
+        }
+
+  -- nothing is short: so after all credits there is enough for all debits
+  pub covered : Ready b → anyShort b.holdings (markedOf marks b.waiting) ≡ false → Covered (putHoldings (credits (legs (withMark (markedOf marks b.waiting))) b.holdings) b) (markedOf marks b.waiting)
+  unfolding putHoldings markedOf sharesBrought cashBrought
+  covered r none = record {
+    size = r .size;
+    bookable = r .bookable;
+    shares = λ a. omega (arith, credited-balance item on a b.holdings n, over-sum item n (bringsShares a) on, enough-shares b.holdings (marking on item n) none a);
+    cash = λ m c. omega (arith, credited-cash item on m c b.holdings n, over-sum item n (bringsCash m c) on, enough-cash b.holdings (marking on item n) none m c);
+  }
+
+  -- ---- the loops
+
+  credit-nothing : (h : Holdings) → credits (legs []) h ≡ h
+  unfolding credits legs
+  credit-nothing h = refl
+
+  debit-nothing : (h : Holdings) → debits (legs []) h ≡ h
+  unfolding debits legs
+  debit-nothing h = refl
+
+  module _ (i : ℕ) (book : List ℕ) where
+    pub credit-off : Credited i book → isOn marks i ≡ false → Credited (i + 1) book
+    credit-off m = acted-off credits credit-nothing item on (credits-next item on) b i book m
+
+    pub credit-on : Credited i book → isOn marks i ≡ true → (t : Item) → t ≡ item i → (after : List ℕ) → Means after (putHoldings (credits (legs (t ∷ [])) (ledgerOf book .holdings)) (ledgerOf book)) → Credited (i + 1) after
+    credit-on m = acted-on credits credit-nothing item on (credits-next item on) b i book m
+
+    pub debit-off : Debited i book → isOn marks i ≡ false → Debited (i + 1) book
+    debit-off m = acted-off debits debit-nothing item on (debits-next item on) b i book m
+
+    pub debit-on : Debited i book → isOn marks i ≡ true → (t : Item) → t ≡ item i → (after : List ℕ) → Means after (putHoldings (debits (legs (t ∷ [])) (ledgerOf book .holdings)) (ledgerOf book)) → Debited (i + 1) after
+    debit-on m = acted-on debits debit-nothing item on (debits-next item on) b i book m
+
+  pub credit-done : (i : ℕ) (book : List ℕ) → i ≡ n → Credited i book → Means book (putHoldings (credits (legs (withMark (markedOf marks b.waiting))) b.holdings) b)
+  unfolding markedOf
+  credit-done i book e m = subst (λ (k : ℕ). Credited k book) e m
+
+  pub debit-done : (i : ℕ) (book : List ℕ) → i ≡ n → Debited i book → Means book (putHoldings (debits (legs (withMark (markedOf marks b.waiting))) b.holdings) b)
+  unfolding markedOf
+  debit-done i book e m = subst (λ (k : ℕ). Debited k book) e m
+
+module _ (marks : ℕ) (book : List ℕ) (s : Stored book) where
+  pub credit-start : Credited (ledgerOf book) marks 0 book
+  unfolding putHoldings
+  credit-start = record { stored = s; ledger = ap (λ (h : Holdings). putHoldings h (ledgerOf book)) (sym (credits-none (itemIn (ledgerOf book .waiting)) (isOn marks) (ledgerOf book .holdings))) }
+
+  pub debit-start : Debited (ledgerOf book) marks 0 book
+  unfolding putHoldings
+  debit-start = record { stored = s; ledger = ap (λ (h : Holdings). putHoldings h (ledgerOf book)) (sym (debits-none (itemIn (ledgerOf book .waiting)) (isOn marks) (ledgerOf book .holdings))) }

@@ -1,0 +1,106 @@
+-- The whole cycle: what its parts leave is the rulebook's outcome. Assumes nothing.
+use Prim.Native.Nat.{ℕ, _+_, _-_, _*_, _≤_, _<_}
+use native.Mathlib.Omega.{arith}
+use mathlib.Core.Bool.{Bool, true, false, false≢true}
+use mathlib.Core.List.{List, [], _∷_, _++_}
+use mathlib.Core.Path.{_≡_, refl, sym, ap, subst, _∙_}
+use lib.ListN.{length, drop}
+use Rattle.rulebook.specs.Ledger.{Ledger, Holdings, putDay, putHoldings, putWaiting}
+use Rattle.rulebook.specs.Movements.{booked}
+use Rattle.rulebook.specs.Rows.{postingRows, rowsBytes}
+use Rattle.rulebook.specs.Waiting.{isTrade, sidesOf, sides}
+use Rattle.rulebook.specs.Cycle.{Marked, taken, anyShort, rounds, settlingOf, settling, withMark, withoutMark, settled, notSettled, dropped, legs}
+use Rattle.rulebook.specs.Forms.{Outcome, counts, outcome, cycle}
+use Rattle.rulebook.specs.Premise.{Each}
+use Rattle.rulebook.specs.declared.Counts.{Counts}
+use Rattle.rulebook.specs.declared.Item.{Item}
+use Rattle.rulebook.specs.declared.Order.{Order}
+use Rattle.rulebook.specs.declared.State.{State}
+use Rattle.rulebook.specs.declared.State.the-variants.{Single, Pair, Trade}
+use Rattle.rulebook.proofs.Rounds.{Due, settling-done, settled-due}
+use Rattle.rulebook.proofs.RowCounts.{posting-length, legs-length}
+use Rattle.book.specs.Meaning.{ledgerOf}
+use Rattle.book.specs.Stored.{Means}
+use Rattle.book.specs.Handled.{Handled}
+use Rattle.cycle.specs.Marks.{itemIn, isOn, markedOf, countOn, rowsOf}
+use Rattle.cycle.specs.Counted.{oneMore}
+use Rattle.cycle.proofs.Marking.{count-marked}
+
+-- ---- a trade has two sides
+
+two : (s : State) → isTrade s ≡ true → sidesOf s ≡ 2
+unfolding isTrade sidesOf
+two (Single delivers reference) e = absurd (false≢true e)
+two (Pair d r dm rm) e = refl
+two (Trade reference) e = refl
+
+sides-two : (day : ℕ) (ts : List Item) → Each (Due day) ts → sides ts ≡ 2 * length ts
+unfolding sides
+sides-two day [] e = refl
+sides-two day (t ∷ rest) e = omega (arith, two t.state (e .0 .0), sides-two day rest (e .1))
+
+module _ (b : Ledger) (due marks : ℕ) (d : markedOf due b.waiting ≡ taken b.day.number b.waiting) (m : markedOf marks b.waiting ≡ rounds (length b.waiting) b.holdings (markedOf due b.waiting)) where
+  -- the marks are those of the trades that settle
+  pub all-rounds : markedOf marks b.waiting ≡ settling b
+  unfolding settling settlingOf
+  all-rounds = m ∙ ap (rounds (length b.waiting) b.holdings) d
+
+  -- so nothing is short
+  pub none-short : anyShort b.holdings (markedOf marks b.waiting) ≡ false
+  unfolding settling
+  none-short = subst (λ (ms : List Marked). anyShort b.holdings ms ≡ false) (sym all-rounds) (settling-done b.day.number b.holdings b.waiting)
+
+  -- ---- the counts
+
+  on-settled : countOn (isOn marks) (length b.waiting) ≡ length (settled b)
+  unfolding settled markedOf
+  on-settled = sym (count-marked (itemIn b.waiting) (length b.waiting) (isOn marks)) ∙ ap (λ (ms : List Marked). length (withMark ms)) all-rounds
+
+  on-due : countOn (isOn due) (length b.waiting) ≡ length (withMark (taken b.day.number b.waiting))
+  unfolding markedOf
+  on-due = sym (count-marked (itemIn b.waiting) (length b.waiting) (isOn due)) ∙ ap (λ (ms : List Marked). length (withMark ms)) d
+
+  same-counts :
+      counts (4 * countOn (isOn marks) (length b.waiting)) (2 * countOn (isOn marks) (length b.waiting)) 0 0 0 (countOn (isOn due) (length b.waiting) - countOn (isOn marks) (length b.waiting))
+      ≡ counts (length (postingRows (legs (settled b)))) (sides (settled b)) 0 0 0 (dropped b)
+  unfolding dropped counts
+  same-counts =
+      let rows : 4 * countOn (isOn marks) (length b.waiting) ≡ length (postingRows (legs (settled b))) = omega (arith, on-settled, posting-length (legs (settled b)), legs-length (settled b)) in
+      let both : 2 * countOn (isOn marks) (length b.waiting) ≡ sides (settled b) = omega (arith, on-settled, sides-two b.day.number (settled b) (settled-due b)) in
+      let left : countOn (isOn due) (length b.waiting) - countOn (isOn marks) (length b.waiting) ≡ length (withMark (taken b.day.number b.waiting)) - length (settled b) = omega (arith, on-settled, on-due) in
+      λ i. record { rows = rows i; settled = both i; cancelled = 0; deleted = 0; suspended = 0; left = left i }
+
+  -- ---- the book, after its holdings, its waiting list and its day are changed
+
+  module _
+      (first second : List ℕ)
+      (held : Means first (putHoldings (booked (legs (withMark (markedOf marks b.waiting))) b.holdings) b))
+      (left : Means second (putWaiting (withoutMark (markedOf marks (ledgerOf first .waiting))) (ledgerOf first)))
+    where
+      stays : ledgerOf second ≡ putWaiting (withoutMark (markedOf marks b.waiting)) (putHoldings (booked (legs (withMark (markedOf marks b.waiting))) b.holdings) b)
+      unfolding putHoldings putWaiting
+      stays = left .ledger ∙ ap (λ (x : Ledger). putWaiting (withoutMark (markedOf marks (x .waiting))) x) (held .ledger)
+
+      pub same-day : ledgerOf second .day ≡ b.day
+      unfolding putHoldings putWaiting
+      same-day = ap (λ (x : Ledger). x .day) stays
+
+      module _ (third : List ℕ) (dated : Means third (putDay (oneMore (ledgerOf second .day)) (ledgerOf second))) where
+        after : (order : Order) → ledgerOf third ≡ cycle b order .after
+        unfolding putHoldings putWaiting putDay cycle outcome settled notSettled
+        after order =
+            dated .ledger
+            ∙ ap (λ (x : Ledger). putDay (oneMore (x .day)) x) stays
+            ∙ ap (λ (ms : List Marked). putDay (oneMore b.day) (putWaiting (withoutMark ms) (putHoldings (booked (legs (withMark ms)) b.holdings) b))) all-rounds
+
+        pub handled :
+            (order : Order) (area area′ : List ℕ) (r : Counts) → area′ ≡ rowsBytes (rowsOf (markedOf marks b.waiting)) ++ drop (16 * length (rowsOf (markedOf marks b.waiting))) area
+            → r ≡ counts (4 * countOn (isOn marks) (length b.waiting)) (2 * countOn (isOn marks) (length b.waiting)) 0 0 0 (countOn (isOn due) (length b.waiting) - countOn (isOn marks) (length b.waiting))
+            → Handled (cycle b order) third area area′ r
+        unfolding cycle outcome settled
+        handled order area area′ r w e = record {
+          stored = dated .stored;
+          ledger = after order;
+          counted = e ∙ same-counts;
+          written = w ∙ ap (λ (ms : List Marked). rowsBytes (rowsOf ms) ++ drop (16 * length (rowsOf ms)) area) all-rounds;
+        }

@@ -1,0 +1,46 @@
+-- Marks on a waiting list's items: a mask of 64 bits, the first item's the most significant.
+use Prim.Native.Nat.{ℕ, _-_, _/_, _%_, _^_}
+use mathlib.Core.Bool.{Bool, false}
+use mathlib.Core.List.{List}
+use lib.ListN.{length, getD}
+use Rattle.rulebook.specs.Lists.{if_then_else_, _is_}
+use Rattle.rulebook.specs.Ledger.{sumBelow}
+use Rattle.rulebook.specs.Cycle.{Marked, withMark, legs}
+use Rattle.rulebook.specs.Rows.{Row, postingRows}
+use Rattle.rulebook.specs.declared.Item.{Item}
+use Rattle.rulebook.specs.declared.State.the-variants.{Single}
+use Rattle.words.specs.Places.{listFrom}
+
+-- the item at k; past the end of the list stands an item of zeros
+abbrev pub noItem : Item
+noItem =
+    record {
+      security = 0;
+      currency = 0;
+      debited = record { member = 0; typ = 0; shareholder = 0 };
+      credited = record { member = 0; typ = 0; shareholder = 0 };
+      quantity = record { 0 = 0 };
+      amount = record { 0 = 0 };
+      «trade_day» = 0;
+      «settlement_day» = 0;
+      state = Single false 0;
+    }
+
+abbrev pub itemIn : List Item → ℕ → Item
+itemIn waiting k = getD waiting k noItem
+
+-- the item at k has a mark
+unfoldable pub isOn : (marks k : ℕ) → Bool
+isOn marks k = (marks / 2 ^ (63 - k) % 2) is 1
+
+-- the waiting list with its marks
+unfoldable pub markedOf : (marks : ℕ) → List Item → List Marked
+markedOf marks waiting = listFrom (λ k. (isOn marks k, itemIn waiting k)) 0 (length waiting)
+
+-- how many of the first n are marked
+abbrev pub countOn : (ℕ → Bool) → ℕ → ℕ
+countOn on n = sumBelow n (λ k. if on k then 1 else 0)
+
+-- the rows of the marked trades
+abbrev pub rowsOf : List Marked → List Row
+rowsOf marked = postingRows (legs (withMark marked))

@@ -1,0 +1,28 @@
+// The waiting list without the settled trades.
+ghost use Prim.Native.Nat.{_≤_};
+ghost use lib.ListN.{length};
+ghost use Rattle.rulebook.specs.Ledger.{putWaiting};
+ghost use Rattle.rulebook.specs.Cycle.{withoutMark};
+ghost use Rattle.book.specs.Meaning.{ledgerOf};
+ghost use Rattle.book.specs.Stored.{Stored, Means};
+ghost use Rattle.cycle.specs.Marks.{markedOf};
+use crate::marks;
+
+// The items without a mark stay, in their order.
+pub fn leave_marked(book: &mut [u64], marks: u64)
+    requires { ⌜ Stored (now book) × (length (ledgerOf (now book) .waiting) ≤ 64) ⌝ }
+    ensures { λ u. ⌜ Means (now (book .exit)) (putWaiting (withoutMark (markedOf marks (ledgerOf (now (book .entry)) .waiting))) (ledgerOf (now (book .entry)))) ⌝ }
+{
+    let n = book::items(book);
+    let mut j: usize = 0;
+    let mut i: usize = 0;
+    while i < n {
+        if !marks::is_on(marks, i) {
+            let item = book::item_at(book, i);
+            book::put_item(book, j, item);
+            j += 1;
+        }
+        i += 1;
+    }
+    book::keep_first(book, j);
+}

@@ -1,0 +1,137 @@
+-- The waiting list once a single has arrived, by the place of the one that it pairs with, and forms 12 and 13 by that place. Assumes nothing.
+use Prim.Native.Nat.{ℕ, zero, suc, _+_, _<_}
+use native.Mathlib.Omega.{arith}
+use mathlib.Core.Bool.{Bool, true, false}
+use mathlib.Core.List.{List, [], _∷_, _++_}
+use mathlib.Core.Path.{_≡_, refl, sym, ap, _∙_}
+use borrow.Author.Tests.{ltb-false}
+use lib.ListN.{length, getD, length-append, length-drop}
+use lib.Seq.{length-take-le}
+use Rattle.rulebook.specs.Lists.{_is_, _below_, _oneOf_, some}
+use Rattle.rulebook.specs.Ledger.{Ledger, putWaiting}
+use Rattle.rulebook.specs.Waiting.{itemOf}
+use Rattle.rulebook.specs.Matching.{tolerance, pairsWith, arrive}
+use Rattle.rulebook.specs.Forms.{counts, instruct}
+use Rattle.rulebook.specs.declared.Counts.{Counts}
+use Rattle.rulebook.specs.declared.Item.{Item}
+use Rattle.rulebook.specs.declared.Order.{Order}
+use Rattle.rulebook.specs.declared.State.the-variants.{Single}
+use Rattle.rulebook.proofs.Space.{instruct-space}
+use Rattle.words.specs.Places.{removeAt}
+use Rattle.words.specs.declared.Found.{Found}
+use Rattle.words.specs.declared.Found.the-variants.{At, Nothing}
+use Rattle.book.specs.Meaning.{ledgerOf}
+use Rattle.book.specs.Stored.{Means}
+use Rattle.book.specs.Handled.{Handled}
+use Rattle.instructions.specs.Given.{Given}
+use Rattle.instructions.specs.Search.{placeFrom, placeIn}
+use Rattle.instructions.specs.Paired.{paired}
+use Rattle.instructions.proofs.Search.{place-hit, none-found}
+use Rattle.instructions.proofs.Handling.{silent-handled, means-so, first-false, known}
+
+module _ (limit : ℕ) (new : Item) (d : Item) where
+  arrive-from :
+      (ws : List Item) (k i : ℕ) → placeFrom (pairsWith limit new) k ws ≡ At (k + i)
+      → arrive limit new ws ≡ removeAt i ws ++ (paired new (getD ws i d) ∷ [])
+  unfolding arrive placeFrom paired
+  arrive-from [] k i e = let z : _≡_ {A = ℕ} 0 1 = cc in absurd (omega arith)
+  arrive-from (w ∷ rest) k zero e = go (pairsWith limit new w) refl
+    where
+      go : (b : Bool) → pairsWith limit new w ≡ b → arrive limit new (w ∷ rest) ≡ removeAt zero (w ∷ rest) ++ (paired new w ∷ [])
+      go true t = rw t
+      go false t =
+          let r = place-hit (pairsWith limit new) rest (suc k) (k + zero) (rw t at e) in
+          absurd (omega (arith, r .0))
+  arrive-from (w ∷ rest) k (suc i) e = go (pairsWith limit new w) refl (arrive-from rest (suc k) i)
+    where
+      go :
+          (b : Bool) → pairsWith limit new w ≡ b
+          → (placeFrom (pairsWith limit new) (suc k) rest ≡ At (suc k + i) → arrive limit new rest ≡ removeAt i rest ++ (paired new (getD rest i d) ∷ []))
+          → arrive limit new (w ∷ rest) ≡ removeAt (suc i) (w ∷ rest) ++ (paired new (getD rest i d) ∷ [])
+      go true t later =
+          let f : At k ≡ At (k + suc i) = rw t at e in
+          let s : k ≡ k + suc i = cc in
+          absurd (omega (arith, s))
+      go false t later =
+          let s : k + suc i ≡ suc k + i = omega arith in
+          rw t (ap (λ (l : List Item). w ∷ l) (later (rw t at e ∙ ap At s)))
+
+  -- with the one at that place; it is removed and the pair goes last
+  pub arrive-pair : (ws : List Item) (i : ℕ) → placeIn (pairsWith limit new) ws ≡ At i → arrive limit new ws ≡ removeAt i ws ++ (paired new (getD ws i d) ∷ [])
+  arrive-pair ws i e = let s : i ≡ 0 + i = omega arith in arrive-from ws 0 i (e ∙ ap At s)
+
+  -- where none pairs, the single goes last
+  pub arrive-alone : (ws : List Item) → some (pairsWith limit new) ws ≡ false → arrive limit new ws ≡ ws ++ (new ∷ [])
+  unfolding arrive
+  arrive-alone [] e = refl
+  arrive-alone (w ∷ rest) e = go (pairsWith limit new w) refl (arrive-alone rest)
+    where
+      go :
+          (b : Bool) → pairsWith limit new w ≡ b → (some (pairsWith limit new) rest ≡ false → arrive limit new rest ≡ rest ++ (new ∷ []))
+          → arrive limit new (w ∷ rest) ≡ (w ∷ rest) ++ (new ∷ [])
+      go true t later =
+          let f : true ≡ false = rw t at e in
+          let z : _≡_ {A = ℕ} 0 1 = cc in
+          absurd (omega arith)
+      go false t later = rw t (ap (λ (l : List Item). w ∷ l) (later (rw t at e)))
+
+-- ---- forms 12 and 13 by the place that the search answers
+
+-- one item less
+removed-length : (ws : List Item) (i : ℕ) → i < length ws → length (removeAt i ws) < length ws
+removed-length ws i l = simp (length-append, length-take-le i ws (omega arith), length-drop) (omega arith)
+
+module _ (book : List ℕ) (order : Order) where
+  abbrev b : Ledger
+  b = ledgerOf book
+
+  abbrev pub limit : ℕ
+  limit = tolerance order.currency
+
+  abbrev pub arriving : Item
+  arriving = itemOf (Single (order.form is 12) order.reference) order
+
+  -- the place found
+  abbrev pub place : Found
+  place = placeIn (pairsWith limit arriving) (b .waiting)
+
+  -- once the earlier single is removed there is room for the pair
+  pub pair-room : (i : ℕ) → Given book order → i < length (b .waiting) → (mid : List ℕ) → Means mid (putWaiting (removeAt i (b .waiting)) b) → length (ledgerOf mid .waiting) < 64
+  pair-room i given l mid m =
+      let e : length (ledgerOf mid .waiting) ≡ length (removeAt i (b .waiting)) = unfold putWaiting in ap (λ (x : Ledger). length x.waiting) m.ledger in
+      omega (arith, e, removed-length (b .waiting) i l, given.kept.premise.sizes.items)
+
+  pub pair-made :
+      (i : ℕ) (waits new pair : Item) (mid after : List ℕ) (r : Counts) → place ≡ At i → ((d : Item) → waits ≡ getD (b .waiting) i d) → new ≡ arriving → pair ≡ paired new waits
+      → Means mid (putWaiting (removeAt i (b .waiting)) b) → Means after (putWaiting (ledgerOf mid .waiting ++ (pair ∷ [])) (ledgerOf mid)) → r ≡ counts 0 0 0 0 0 0
+      → (area : List ℕ) → Handled (instruct b order) after area area r
+  unfolding instruct putWaiting
+  pair-made i waits new pair mid after r e w n p m a c =
+      let q : pair ≡ paired arriving (getD (b .waiting) i waits) = p ∙ ap (λ (x : Item). paired x waits) n ∙ ap (paired arriving) (w waits) in
+      silent-handled _ after r
+      (means-so after _ _ a
+      (ap (λ (x : Ledger). putWaiting (x .waiting ++ (pair ∷ [])) x) m.ledger
+      ∙ ap (λ (x : Item). putWaiting (removeAt i (b .waiting) ++ (x ∷ [])) b) q
+      ∙ ap (λ (l : List Item). putWaiting l b) (sym (arrive-pair limit arriving waits (b .waiting) i e))))
+      c
+
+  module _ (given : Given book order) (e : place ≡ Nothing) where
+    none : some (pairsWith limit arriving) (b .waiting) ≡ false
+    none = none-found (pairsWith limit arriving) (b .waiting) 0 e
+
+    -- refusal 18 does not apply
+    pub alone-room : (order.form oneOf (12 ∷ 13 ∷ [])) ≡ true → length (b .waiting) < 64
+    alone-room t =
+        let items : ℕ = length (b .waiting) in
+        let space = sym (instruct-space b order (given.kept.premise.sizes) t) ∙ known book order given .space in
+        omega (arith, ltb-false 63 items (first-false (63 below items) _ (simp none at space)))
+
+    pub alone-made :
+        (new : Item) (after : List ℕ) (r : Counts) → new ≡ arriving → Means after (putWaiting (b .waiting ++ (new ∷ [])) b) → r ≡ counts 0 0 0 0 0 0
+        → (area : List ℕ) → Handled (instruct b order) after area area r
+    unfolding instruct
+    alone-made new after r n a c =
+        silent-handled _ after r
+        (means-so after _ _ a
+        (ap (λ (x : Item). putWaiting (b .waiting ++ (x ∷ [])) b) n ∙ ap (λ (l : List Item). putWaiting l b) (sym (arrive-alone limit arriving arriving (b .waiting) none))))
+        c

@@ -1,0 +1,114 @@
+-- Form 15 by the place of the item that waits under the sender's reference. Assumes nothing.
+use Prim.Native.Nat.{ℕ, _*_, _<_}
+use native.Mathlib.Omega.{arith}
+use mathlib.Core.Bool.{Bool, true, false, not, _&&_, _||_, false≢true}
+use mathlib.Core.List.{List, [], _∷_, _++_, map}
+use mathlib.Core.Path.{_≡_, refl, sym, ap, subst, _∙_}
+use lib.ListN.{length, getD, set, drop}
+use Rattle.rulebook.specs.Lists.{some}
+use Rattle.rulebook.specs.Ledger.{Ledger, putWaiting}
+use Rattle.rulebook.specs.Premise.{today}
+use Rattle.rulebook.specs.Waiting.{sidesOf, sides, senderOf, sentBy, marked, bothMarked, marking, cancelled, staying}
+use Rattle.rulebook.specs.Rows.{Row, notice, noticeOf, rowsBytes}
+use Rattle.rulebook.specs.Refusals.{wrongReference}
+use Rattle.rulebook.specs.Forms.{counts, outcome, cancel}
+use Rattle.rulebook.specs.declared.Counts.{Counts}
+use Rattle.rulebook.specs.declared.Item.{Item}
+use Rattle.rulebook.specs.declared.Notice.{Notice}
+use Rattle.rulebook.specs.declared.Order.{Order}
+use Rattle.rulebook.specs.declared.State.{State}
+use Rattle.rulebook.specs.declared.State.the-variants.{Single, Pair, Trade}
+use Rattle.rulebook.proofs.Orders.{accepted}
+use Rattle.rulebook.proofs.ByIndex.{item-at, cancel-at}
+use Rattle.rows.specs.Widths.{NoticeFits}
+use Rattle.words.specs.Places.{removeAt}
+use Rattle.words.specs.declared.Found.{Found}
+use Rattle.words.specs.declared.Found.the-variants.{At, Nothing}
+use Rattle.book.specs.Meaning.{ledgerOf}
+use Rattle.book.specs.Stored.{Means}
+use Rattle.book.specs.Handled.{Accepted, Handled}
+use Rattle.instructions.specs.Search.{placeIn}
+use Rattle.instructions.proofs.Search.{found, none-found}
+use Rattle.instructions.proofs.Notices.{notice-fits, marked-notice}
+
+-- only a pair has two marks
+both-sides : (x : State) → bothMarked x ≡ true → sidesOf x ≡ 2
+unfolding bothMarked sidesOf
+both-sides (Single delivers reference) e = absurd (false≢true e)
+both-sides (Pair d r dm rm) e = refl
+both-sides (Trade reference) e = absurd (false≢true e)
+
+module _ (book : List ℕ) (order : Order) (area : List ℕ) (a : Accepted book order area) where
+  abbrev b : Ledger
+  b = ledgerOf book
+
+  abbrev sender : ℕ
+  sender = senderOf order
+
+  -- the place found
+  abbrev pub place : Found
+  place = placeIn (sentBy sender order.reference) (b .waiting)
+
+  -- refusal 14 does not apply
+  pub waits : order.form ≡ 15 → place ≡ Nothing → ⊥
+  unfolding wrongReference
+  waits form e =
+      let r = accepted b order (a.read.octets) (a.read.read) a.passes .reference in
+      false≢true (sym (simp form at r) ∙ ap not (none-found (sentBy sender order.reference) (b .waiting) 0 e))
+
+  module _ (i : ℕ) (e : place ≡ At i) (item m : Item) (there : (d : Item) → item ≡ getD (b .waiting) i d) (mark : m ≡ marked sender item) where
+    waits-at : (i < length (b .waiting)) × ((d : Item) → sentBy sender order.reference (getD (b .waiting) i d) ≡ true)
+    waits-at = found (sentBy sender order.reference) (b .waiting) i e
+
+    pub cancelled-fits : NoticeFits (noticeOf 4 m)
+    cancelled-fits =
+        subst NoticeFits (sym (ap (noticeOf 4) mark ∙ marked-notice sender 4 item ∙ ap (noticeOf 4) (there item)))
+        (notice-fits (b .day .number) (today (b .day)) (b .holdings) _ 4 (omega arith) (item-at b (a.kept.premise) i item (waits-at .0)))
+
+    -- the item marked is the one at that place
+    marked-there : marked sender (getD (b .waiting) i item) ≡ m
+    marked-there = sym (mark ∙ ap (marked sender) (there item))
+
+    abbrev now : List Item
+    now = marking sender order.reference (b .waiting)
+
+    -- its second half is marked
+    module _ (t : bothMarked m.state ≡ true) where
+      left : staying now ≡ removeAt i (b .waiting)
+      left = simp t at (rw marked-there at (cancel-at b (a.kept.premise) sender order.reference i item (waits-at .0) (waits-at .1 item) .0))
+
+      gone : cancelled now ≡ m ∷ []
+      gone = simp t at (rw marked-there at (cancel-at b (a.kept.premise) sender order.reference i item (waits-at .0) (waits-at .1 item) .1))
+
+      pub pair-leaves :
+          (after written : List ℕ) (r : Counts) → Means after (putWaiting (removeAt i (b .waiting)) b) → written ≡ rowsBytes (notice (noticeOf 4 m) ∷ []) ++ drop 16 area
+          → r ≡ counts 1 0 2 0 0 0 → Handled (cancel b order) after area written r
+      unfolding cancel outcome sides
+      pair-leaves after written r n w c =
+          let f : Item → Row = λ x. notice (noticeOf 4 x) in
+          let two : sidesOf m.state ≡ 2 = both-sides m.state t in
+          record {
+            stored = n.stored;
+            ledger = n.ledger ∙ ap (λ (l : List Item). putWaiting l b) (sym left);
+            counted = c ∙ ap (λ (k : ℕ). counts 1 0 k 0 0 0) (sym (omega (arith, two))) ∙ ap (λ (l : List Item). counts (length (map f l)) 0 (sides l) 0 0 0) (sym gone);
+            written = w ∙ ap (λ (l : List Item). rowsBytes (map f l) ++ drop (16 * length (map f l)) area) (sym gone);
+          }
+
+    -- only one half is marked
+    module _ (t : bothMarked m.state ≡ false) where
+      stays : staying now ≡ set (b .waiting) i m
+      stays = simp t at (rw marked-there at (cancel-at b (a.kept.premise) sender order.reference i item (waits-at .0) (waits-at .1 item) .0))
+
+      none-gone : cancelled now ≡ []
+      none-gone = simp t at (rw marked-there at (cancel-at b (a.kept.premise) sender order.reference i item (waits-at .0) (waits-at .1 item) .1))
+
+      pub pair-stays : (after : List ℕ) (r : Counts) → Means after (putWaiting (set (b .waiting) i m) b) → r ≡ counts 0 0 0 0 0 0 → Handled (cancel b order) after area area r
+      unfolding cancel outcome sides rowsBytes
+      pair-stays after r n c =
+          let f : Item → Row = λ x. notice (noticeOf 4 x) in
+          record {
+            stored = n.stored;
+            ledger = n.ledger ∙ ap (λ (l : List Item). putWaiting l b) (sym stays);
+            counted = c ∙ ap (λ (l : List Item). counts (length (map f l)) 0 (sides l) 0 0 0) (sym none-gone);
+            written = ap (λ (l : List Item). rowsBytes (map f l) ++ drop (16 * length (map f l)) area) (sym none-gone);
+          }

@@ -1,0 +1,9 @@
+-- Laws behind the proofs of the handlers.
+pub mod Handling
+pub mod Search
+pub mod Arriving
+pub mod Notices
+pub mod Cancels
+pub mod RowBytes
+pub mod Closing
+pub mod Closed

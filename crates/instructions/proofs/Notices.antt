@@ -1,0 +1,42 @@
+-- A waiting item's notice fits its row, and a mark leaves it as it is. Assumes nothing.
+use Prim.Native.Nat.{ℕ, _<_, _^_}
+use native.Mathlib.Omega.{arith}
+use mathlib.Core.Bool.{Bool, true, false}
+use mathlib.Core.Path.{_≡_, refl}
+use Rattle.rulebook.specs.Lists.{if_then_else_, _is_}
+use Rattle.rulebook.specs.Ledger.{Holdings}
+use Rattle.rulebook.specs.Premise.{StateFits, ItemFits}
+use Rattle.rulebook.specs.Rows.{noticeWidths, deliverReference, receiveReference, noticeOf}
+use Rattle.rulebook.specs.Waiting.{withState, marked}
+use Rattle.rulebook.specs.declared.Item.{Item}
+use Rattle.rulebook.specs.declared.Party.{Party}
+use Rattle.rulebook.specs.declared.State.{State}
+use Rattle.rulebook.specs.declared.State.the-variants.{Single, Pair, Trade}
+use Rattle.rows.specs.Widths.{NoticeFits}
+
+references-fit : (today day security : ℕ) (debited credited : Party) (x : State) → StateFits today day security debited credited x → (deliverReference x < 2 ^ 32) × (receiveReference x < 2 ^ 32)
+unfolding deliverReference receiveReference
+references-fit today day security debited credited (Single true reference) f = omega (arith, f .named .most)
+references-fit today day security debited credited (Single false reference) f = omega (arith, f .named .most)
+references-fit today day security debited credited (Pair d r dm rm) f = omega (arith, f .deliver-named .most, f .receive-named .most)
+references-fit today day security debited credited (Trade reference) f = omega (arith, f .named .most)
+
+pub notice-fits : (number today : ℕ) (h : Holdings) (item : Item) (kind : ℕ) → kind < 16 → ItemFits number today h item → NoticeFits (noticeOf kind item)
+unfolding noticeOf noticeWidths
+notice-fits number today h item kind l f =
+    let r = references-fit today item.«settlement_day» item.security item.debited item.credited item.state f.state in
+    omega (arith, f .debited .member, f .credited .member)
+
+marked-state : (sender kind : ℕ) (item : Item) (x : State) → noticeOf kind (marked sender (withState x item)) ≡ noticeOf kind (withState x item)
+unfolding noticeOf marked withState deliverReference receiveReference
+marked-state sender kind item (Single delivers reference) = refl
+marked-state sender kind item (Pair d r dm rm) = go (sender is item.debited.member)
+  where
+    go : (b : Bool) → noticeOf kind (withState (if b then Pair d r true rm else Pair d r dm true) item) ≡ noticeOf kind (withState (Pair d r dm rm) item)
+    go true = refl
+    go false = refl
+marked-state sender kind item (Trade reference) = refl
+
+pub marked-notice : (sender kind : ℕ) (item : Item) → noticeOf kind (marked sender item) ≡ noticeOf kind item
+unfolding withState
+marked-notice sender kind item = marked-state sender kind item item.state

@@ -1,0 +1,15 @@
+-- The place of the first element of a list that passes a test.
+use Prim.Native.Nat.{ℕ, suc}
+use mathlib.Core.Bool.{Bool}
+use mathlib.Core.List.{List, [], _∷_}
+use Rattle.rulebook.specs.Lists.{if_then_else_}
+use Rattle.words.specs.declared.Found.{Found}
+use Rattle.words.specs.declared.Found.the-variants.{At, Nothing}
+
+-- where the list starts at place i
+unfoldable pub placeFrom : {A : Type 0} → (A → Bool) → ℕ → List A → Found
+placeFrom test i [] = Nothing
+placeFrom test i (x ∷ rest) = if test x then At i else placeFrom test (suc i) rest
+
+abbrev pub placeIn : {A : Type 0} → (A → Bool) → List A → Found
+placeIn test list = placeFrom test 0 list

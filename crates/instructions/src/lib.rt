@@ -1,0 +1,236 @@
+// Forms 12 to 15 and 17, on a book of words: instructions and their matching, exchange trades, cancels, and the close of the day.
+// A form that writes no row is lent no area: what it does is said of any area, which stays as it is.
+ghost use mathlib.Core.Path.{_≡_};
+ghost use mathlib.Core.Bool.{true};
+ghost use mathlib.Core.List.{List, [], _∷_};
+ghost use Prim.Native.Nat.{ℕ, _≤_, _<_};
+ghost use lib.ListN.{length};
+ghost use Rattle.rulebook.specs.Lists.{_oneOf_};
+ghost use Rattle.rulebook.specs.Waiting.{sentBy};
+ghost use Rattle.rulebook.specs.Matching.{pairsWith};
+ghost use Rattle.rulebook.specs.Forms.{counts, instruct, trade, cancel, close};
+ghost use Rattle.book.specs.Meaning.{ledgerOf};
+ghost use Rattle.book.specs.Stored.{Stored, Kept};
+ghost use Rattle.book.specs.Handled.{Accepted, Handled};
+ghost use Rattle.instructions.specs.Given.{Given};
+ghost use Rattle.instructions.specs.Search.{placeIn};
+ghost use Rattle.instructions.specs.Paired.{paired};
+ghost use Rattle.instructions.specs.Closing.{CanCount, countedOne, itemsClosed};
+use rulebook::Counts;
+use rulebook::Day;
+use rulebook::Item;
+use rulebook::Order;
+use rulebook::State;
+use words::Found;
+
+// A form's counts before anything is counted.
+fn no_counts() -> Counts
+    ensures { λ r. ⌜ r ≡ counts 0 0 0 0 0 0 ⌝ }
+{
+    Counts {
+        rows: 0,
+        settled: 0,
+        cancelled: 0,
+        deleted: 0,
+        suspended: 0,
+        left: 0,
+    }
+}
+
+// ---- matching
+
+// The place of the first waiting single that pairs with the arriving one.
+fn first_pairing(book: &[u64], limit: u64, arriving: Item) -> Found
+    requires { ⌜ Stored (now book) ⌝ }
+    ensures { λ r. ⌜ r ≡ placeIn (pairsWith limit arriving) (ledgerOf (now (book .entry)) .waiting) ⌝ }
+{
+    let n = book::items(book);
+    let mut i: usize = 0;
+    while i < n {
+        if waiting::pairs_with(limit, arriving, book::item_at(book, i)) {
+            return Found::At(i);
+        }
+        i += 1;
+    }
+    Found::Nothing
+}
+
+// The pair of an arriving single with the one that waits.
+fn pair_of(arriving: Item, waits: Item) -> Item
+    ensures { λ r. ⌜ r ≡ paired arriving waits ⌝ }
+{
+    let state = waits.state;
+    if waiting::is_deliver(state) {
+        return waiting::pair_up(waits, arriving);
+    }
+    waiting::pair_up(arriving, waits)
+}
+
+// 12 and 13. The earlier single is removed and the pair goes last. Otherwise the single goes last.
+pub fn instruct(book: &mut [u64], order: Order) -> Counts
+    requires { ⌜ Given (now book) order × ((order .form oneOf (12 ∷ 13 ∷ [])) ≡ true) ⌝ }
+    ensures { λ r. ⌜ ((area : List ℕ) → Handled (instruct (ledgerOf (now (book .entry))) order) (now (book .exit)) area area r) ⌝ }
+{
+    let delivers = order.form == 12;
+    let state = State::Single {
+        delivers: delivers,
+        reference: order.reference,
+    };
+    let arriving = waiting::item_of(state, order);
+    let found = first_pairing(book, waiting::tolerance_of(order.currency), arriving);
+    match found {
+        Found::At(i) => {
+            let waits = book::item_at(book, i);
+            book::remove(book, i);
+            book::push(book, pair_of(arriving, waits));
+            no_counts()
+        }
+        Found::Nothing => {
+            book::push(book, arriving);
+            no_counts()
+        }
+    }
+}
+
+// ---- exchange trades
+
+// 14. An exchange trade goes last.
+pub fn trade(book: &mut [u64], order: Order) -> Counts
+    requires { ⌜ Given (now book) order × (order .form ≡ 14) ⌝ }
+    ensures { λ r. ⌜ ((area : List ℕ) → Handled (trade (ledgerOf (now (book .entry))) order) (now (book .exit)) area area r) ⌝ }
+{
+    let state = State::Trade {
+        reference: order.reference,
+    };
+    book::push(book, waiting::item_of(state, order));
+    no_counts()
+}
+
+// ---- cancels
+
+// The place of the item that waits under that sender's reference.
+fn place_of_sent(book: &[u64], sender: u64, reference: u64) -> Found
+    requires { ⌜ Stored (now book) ⌝ }
+    ensures { λ r. ⌜ r ≡ placeIn (sentBy sender reference) (ledgerOf (now (book .entry)) .waiting) ⌝ }
+{
+    let n = book::items(book);
+    let mut i: usize = 0;
+    while i < n {
+        if waiting::sent_by(sender, reference, book::item_at(book, i)) {
+            return Found::At(i);
+        }
+        i += 1;
+    }
+    Found::Nothing
+}
+
+// The counts of a cancel that removes a pair: its notice, and its two sides.
+fn pair_cancelled() -> Counts
+    ensures { λ r. ⌜ r ≡ counts 1 0 2 0 0 0 ⌝ }
+{
+    Counts {
+        rows: 1,
+        settled: 0,
+        cancelled: 2,
+        deleted: 0,
+        suspended: 0,
+        left: 0,
+    }
+}
+
+// 15. Cancel marks the sender's half; the second half removes the pair and writes its notice.
+pub fn cancel(book: &mut [u64], order: Order, area: &mut [u8]) -> Counts
+    requires { ⌜ Accepted (now book) order (now area) × (order .form ≡ 15) ⌝ }
+    ensures { λ r. ⌜ Handled (cancel (ledgerOf (now (book .entry))) order) (now (book .exit)) (now (area .entry)) (now (area .exit)) r ⌝ }
+{
+    let sender = waiting::sender_of(order);
+    let found = place_of_sent(book, sender, order.reference);
+    // refusal 14: there is one
+    let Found::At(i) = found else {
+        return no_counts();
+    };
+    let item = waiting::mark(sender, book::item_at(book, i));
+    let state = item.state;
+    if waiting::both_marked(state) {
+        book::remove(book, i);
+        rows::write_notice(area, 4, item);
+        return pair_cancelled();
+    }
+    book::put_item(book, i, item);
+    no_counts()
+}
+
+// ---- the close of the day
+
+// One item more that leaves: its notice, and its sides among those deleted or suspended.
+fn one_more(counted: Counts, kind: u64, state: State) -> Counts
+    requires { ⌜ CanCount counted ⌝ }
+    ensures { λ r. ⌜ r ≡ countedOne counted kind state ⌝ }
+{
+    let sides = waiting::sides_of(state);
+    if kind == 3 {
+        return Counts {
+            rows: counted.rows + 1,
+            settled: counted.settled,
+            cancelled: counted.cancelled,
+            deleted: counted.deleted,
+            suspended: counted.suspended + sides,
+            left: counted.left,
+        };
+    }
+    Counts {
+        rows: counted.rows + 1,
+        settled: counted.settled,
+        cancelled: counted.cancelled,
+        deleted: counted.deleted + sides,
+        suspended: counted.suspended,
+        left: counted.left,
+    }
+}
+
+// In list order: an item that leaves gets its notice, behind the one before; one that stays moves up, unmarked.
+fn close_items(book: &mut [u64], number: u64, area: &mut [u8]) -> Counts
+    requires { ⌜ Kept (now book) × (4096 ≤ length (now area)) ⌝ }
+    ensures { λ r. ⌜ Handled (itemsClosed number (ledgerOf (now (book .entry)))) (now (book .exit)) (now (area .entry)) (now (area .exit)) r ⌝ }
+{
+    let n = book::items(book);
+    let mut counted = no_counts();
+    let mut j: usize = 0;
+    let mut i: usize = 0;
+    while i < n {
+        let item = book::item_at(book, i);
+        let kind = waiting::close_kind(number, item);
+        if kind == 0 {
+            book::put_item(book, j, waiting::unmark(item));
+            j += 1;
+        } else {
+            let state = item.state;
+            let at = 16 * (counted.rows as usize);
+            rows::write_notice(&mut area[at..], kind, item);
+            counted = one_more(counted, kind, state);
+        }
+        i += 1;
+    }
+    book::keep_first(book, j);
+    counted
+}
+
+// 17. Close, in list order; then the day is closed.
+pub fn close(book: &mut [u64], order: Order, area: &mut [u8]) -> Counts
+    requires { ⌜ Accepted (now book) order (now area) × (order .form ≡ 17) ⌝ }
+    ensures { λ r. ⌜ Handled (close (ledgerOf (now (book .entry))) order) (now (book .exit)) (now (area .entry)) (now (area .exit)) r ⌝ }
+{
+    let day = book::day(book);
+    let counted = close_items(book, day.number, area);
+    book::put_day(
+        book,
+        Day {
+            number: day.number,
+            opened: false,
+            kind: day.kind,
+            cycles: day.cycles,
+            minute: day.minute,
+        },
+    );
+    counted
+}
