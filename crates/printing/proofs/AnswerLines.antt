@@ -16,13 +16,13 @@ use Rattle.file.specs.Records.{recordsOf, nextAt, found}
 use Rattle.file.specs.declared.Cursor.{Cursor}
 use Rattle.file.specs.declared.Next.{Next}
 use Rattle.file.specs.declared.Next.the-variants.{Record, End}
-use Rattle.file.proofs.Walking.{walk-step, records-append, records-length}
+use Rattle.file.proofs.Walking.{walk-step}
 use Rattle.printing.specs.Printed.{answerLines, bookAfter, areaAfter, Lent, lent, Answered}
 
 -- ---- some records, and more behind them
 
 module _ (more : List (List ℕ)) where
-  book-append : (book : Ledger) (area : List ℕ) (records : List (List ℕ)) → bookAfter book area (records ++ more) ≡ bookAfter (bookAfter book area records) (areaAfter book area records) more
+  pub book-append : (book : Ledger) (area : List ℕ) (records : List (List ℕ)) → bookAfter book area (records ++ more) ≡ bookAfter (bookAfter book area records) (areaAfter book area records) more
   unfolding bookAfter areaAfter
   book-append book area [] = refl
   book-append book area (octets ∷ records) = book-append (callOf book octets area .book) (callOf book octets area .area) records
@@ -32,7 +32,7 @@ module _ (more : List (List ℕ)) where
   area-append book area [] = refl
   area-append book area (octets ∷ records) = area-append (callOf book octets area .book) (callOf book octets area .area) records
 
-  lines-append :
+  pub lines-append :
       (number : ℕ) (book : Ledger) (area : List ℕ) (records : List (List ℕ))
       → answerLines number book area (records ++ more)
       ≡ answerLines number book area records ++ answerLines (number + length records) (bookAfter book area records) (areaAfter book area records) more
@@ -42,16 +42,6 @@ module _ (more : List (List ℕ)) where
       let result : Result = callOf book octets area in
       let n : number + 1 + length records ≡ number + length (octets ∷ records) = omega arith in
       rw (lines-append (number + 1) (result .book) (result .area) records, n, append-assoc)
-
--- a file that is read in blocks of whole records prints what it prints as one
-pub lines-in-blocks :
-    (n number : ℕ) (book : Ledger) (area block rest : List ℕ) → length block ≡ 40 * n
-    → answerLines number book area (recordsOf (block ++ rest))
-    ≡ answerLines number book area (recordsOf block)
-    ++ answerLines (number + n) (bookAfter book area (recordsOf block)) (areaAfter book area (recordsOf block)) (recordsOf rest)
-lines-in-blocks n number book area block rest e =
-    let all : length (recordsOf block) ≡ n = records-length block ∙ omega arith in
-    rw (records-append n block rest e, lines-append (recordsOf rest) number book area (recordsOf block), all)
 
 pub answered-none : (number : ℕ) (x : Lent) → Kept (x .book) → x .at ≤ length (x .out) → Answered number [] x x
 unfolding answerLines bookAfter areaAfter

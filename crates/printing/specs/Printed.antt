@@ -1,12 +1,14 @@
 -- What is printed of records and of a book.
-use Prim.Native.Nat.{ℕ, _+_}
+use Prim.Native.Nat.{ℕ, _+_, _%_}
 use mathlib.Core.List.{List, [], _∷_, _++_}
 use mathlib.Core.Path.{_≡_}
+use lib.ListN.{length}
 use Rattle.rulebook.specs.Call.{Result, callOf}
 use Rattle.rulebook.specs.Ledger.{Ledger, Holdings, held}
 use Rattle.rulebook.specs.declared.Security.{Security}
 use Rattle.book.specs.Meaning.{ledgerOf}
 use Rattle.book.specs.Stored.{Kept}
+use Rattle.file.specs.Records.{recordsOf}
 use Rattle.lines.specs.Lines.{answerLine, custodyLine}
 use Rattle.lines.specs.Text.{Put}
 
@@ -40,6 +42,29 @@ custodyFrom h (security ∷ rest) = custodyOf h security ++ custodyFrom h rest
 -- per security, in order of admission
 unfoldable pub custodyLines : Holdings → List ℕ
 custodyLines h = custodyFrom h h.securities
+
+-- what the program prints of a record file, on a book and with an area: the answer lines from a number on, then the custody lines
+unfoldable pub printed : (number : ℕ) → Ledger → (area : List ℕ) → (file : List ℕ) → List ℕ
+printed number book area file =
+    let after : Ledger = bookAfter book area (recordsOf file) in
+    answerLines number book area (recordsOf file) ++ custodyLines after.holdings
+
+-- what it prints of a file that it reads block after block
+unfoldable pub printedInBlocks : (number : ℕ) → Ledger → (area : List ℕ) → (blocks : List (List ℕ)) → List ℕ
+printedInBlocks number book area [] = custodyLines book.holdings
+printedInBlocks number book area (block ∷ rest) =
+    let records = recordsOf block in
+    answerLines number book area records ++ printedInBlocks (number + length records) (bookAfter book area records) (areaAfter book area records) rest
+
+-- the blocks joined; each but the last has whole records
+abbrev pub joined : List (List ℕ) → List ℕ
+joined [] = []
+joined (block ∷ rest) = block ++ joined rest
+
+abbrev pub WholeBlocks : List (List ℕ) → Type 0
+WholeBlocks [] = Unit {0}
+WholeBlocks (block ∷ []) = Unit {0}
+WholeBlocks (block ∷ next ∷ rest) = (length block % 40 ≡ 0) × WholeBlocks (next ∷ rest)
 
 -- what is lent: a book, an area, and a buffer with its next free place
 pub record Lent : Type 0 where
