@@ -9,7 +9,8 @@ use Rattle.rulebook.specs.Lists.{if_then_else_}
 use Rattle.rulebook.specs.Ledger.{sumBelow}
 use Rattle.rulebook.specs.Cycle.{over}
 use Rattle.rulebook.specs.declared.Item.{Item}
-use Rattle.words.proofs.Sums.{sum-same, sum-least}
+use Rattle.rulebook.proofs.Held.{sum-same}
+use Rattle.words.proofs.Sums.{sum-least}
 use Rattle.cycle.specs.Figures.{hasAt, owesAt, brings, takes, bringsAll, takesAll, Figures, Cover, RoomAll}
 use Rattle.cycle.proofs.Marking.{marking, over-sum, over-more}
 

@@ -16,7 +16,7 @@ use Rattle.rulebook.specs.declared.Item.{Item}
 use Rattle.words.specs.declared.Found.the-variants.{At, Nothing}
 use Rattle.words.proofs.Places.{from-get, from-set, length-from}
 use Rattle.words.proofs.Sums.{sum-change}
-use Rattle.words.proofs.Tests.{both}
+use Rattle.rulebook.proofs.Lists.{both}
 use Rattle.accounts.specs.Keys.{keyOf, InRange}
 use Rattle.accounts.proofs.Keys.{key-test}
 use Rattle.cycle.specs.Marks.{itemIn, isOn, markedOf, countOn}
