@@ -1,14 +1,10 @@
--- What the cycle rests on.
-pub mod Masks
-pub mod Marking
-pub mod Filling
-pub mod Adding
-pub mod Netting
-pub mod Drops
-pub mod Running
+-- what the rulebook's premise gives
+pub mod Premises
+-- movements, one trade after the other, and the book after them
 pub mod Posting
 pub mod Walking
+-- rows, and the items that stay
 pub mod Writing
 pub mod Staying
-pub mod Premises
+-- the whole is the rulebook's outcome
 pub mod Whole

@@ -1,24 +1,21 @@
 -- The marked trades' movements, booked one trade after the other. Assumes nothing.
-use Prim.Native.Nat.{ℕ, zero, suc, _+_, _-_, _*_, _^_, _≤_, _<_}
+use Prim.Native.Nat.{ℕ, zero, suc, _+_, _-_}
 use native.Mathlib.Numerals.{add-one}
 use native.Mathlib.Omega.{arith}
 use mathlib.Core.Bool.{Bool, true, false, not}
 use mathlib.Core.List.{List, [], _∷_, _++_, map}
-use mathlib.Core.Path.{_≡_, refl, sym, ap, subst, _∙_}
+use mathlib.Core.Path.{_≡_, refl, ap, _∙_}
 use borrow.Author.Tests.{eq-eqb}
-use lib.ListN.{length}
 use Rattle.rulebook.specs.Lists.{if_then_else_, _is_, keep}
-use Rattle.rulebook.specs.Ledger.{Holdings, Ledger, sameAccount, sumBelow, putHoldings}
-use Rattle.rulebook.specs.Movements.{account, cashOf, Movement, credit, debit, credits, debits, booked}
-use Rattle.rulebook.specs.Cycle.{Marked, seller, buyer, over, bringsShares, takesShares, bringsCash, takesCash, withMark, withoutMark, legs}
+use Rattle.rulebook.specs.Ledger.{Holdings, sameAccount, sumBelow}
+use Rattle.rulebook.specs.Movements.{account, cashOf, Movement, credit, debit, credits, debits}
+use Rattle.rulebook.specs.Cycle.{Marked, seller, buyer, bringsShares, takesShares, bringsCash, takesCash, withMark, withoutMark, legs}
 use Rattle.rulebook.specs.declared.Account.{Account}
 use Rattle.rulebook.specs.declared.Item.{Item}
 use Rattle.rulebook.proofs.Places.{credit-balance, debit-balance, credit-cash, debit-cash}
-use Rattle.rulebook.proofs.Sizes.{opened, credits-accounts, legs-opened}
 use Rattle.words.specs.Places.{listFrom}
 use Rattle.words.proofs.Places.{from-push}
-use Rattle.words.proofs.Sums.{sum-last, sum-grows}
-use Rattle.cycle.proofs.Marking.{marking, over-sum}
+use Rattle.netting.proofs.Marking.{marking}
 
 -- ---- lists of movements, one behind the other
 

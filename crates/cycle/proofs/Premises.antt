@@ -1,5 +1,5 @@
 -- What the rulebook's premise gives the cycle. Assumes nothing.
-use Prim.Native.Nat.{ℕ, _+_, _^_, _≤_, _<_}
+use Prim.Native.Nat.{ℕ, _^_, _≤_, _<_}
 use native.Mathlib.Omega.{arith}
 use mathlib.Core.Bool.{Bool, true, false}
 use mathlib.Core.List.{[], _∷_}
@@ -7,7 +7,7 @@ use lib.ListN.{length}
 use Rattle.rulebook.specs.Lists.{if_then_else_, _is_}
 use Rattle.rulebook.specs.Cycle.{seller, buyer}
 use Rattle.rulebook.specs.Ledger.{Ledger, accountOf}
-use Rattle.rulebook.specs.Premise.{ItemFits, today, CashFits, Premise}
+use Rattle.rulebook.specs.Premise.{ItemFits, today, Premise}
 use Rattle.rulebook.specs.Windows.{cycleMinutes, byKind}
 use Rattle.rulebook.specs.declared.Item.{Item}
 use Rattle.rulebook.specs.declared.Party.{Party}
@@ -15,8 +15,8 @@ use Rattle.rulebook.proofs.Bounds.{balance-fits, cash-fits}
 use Rattle.rulebook.proofs.ByIndex.{item-at}
 use Rattle.rulebook.proofs.EveryCall.Items.{PartyPosts, item-posts}
 use Rattle.accounts.specs.Keys.{InRange}
-use Rattle.cycle.specs.Marks.{noItem}
-use Rattle.cycle.specs.Ready.{Bookable, Ready}
+use Rattle.netting.specs.Marks.{noItem}
+use Rattle.netting.specs.Ready.{Bookable, Ready}
 
 named : (security : ℕ) (p : Party) → security < 2 ^ 14 → PartyPosts p → InRange (accountOf security p)
 unfolding accountOf

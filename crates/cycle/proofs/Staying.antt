@@ -1,5 +1,5 @@
 -- The items without a mark, which a loop puts one behind the other. Assumes nothing.
-use Prim.Native.Nat.{ℕ, suc, _+_, _≤_, _<_}
+use Prim.Native.Nat.{ℕ, _+_, _≤_, _<_}
 use native.Mathlib.Numerals.{add-one}
 use native.Mathlib.Omega.{arith}
 use mathlib.Core.Bool.{Bool, true, false, not}
@@ -13,8 +13,9 @@ use Rattle.rulebook.specs.declared.Item.{Item}
 use Rattle.words.specs.Places.{listFrom}
 use Rattle.book.specs.Meaning.{ledgerOf}
 use Rattle.book.specs.Stored.{Stored, Means}
-use Rattle.cycle.specs.Marks.{noItem, itemIn, isOn, markedOf}
-use Rattle.cycle.proofs.Marking.{marking}
+use Rattle.book.proofs.Laws.{next}
+use Rattle.netting.specs.Marks.{noItem, itemIn, isOn, markedOf}
+use Rattle.netting.proofs.Marking.{marking}
 use Rattle.cycle.proofs.Posting.{ifMarked, without-next}
 
 module _ (b : Ledger) (marks : ℕ) where
@@ -61,7 +62,7 @@ module _ (b : Ledger) (marks : ℕ) where
     -- the book with another waiting list
     other-list : (after : List ℕ) (w : List Item) → Means after (putWaiting w (ledgerOf book)) → Means after (putWaiting w b)
     unfolding putWaiting
-    other-list after w m = record { stored = m .stored; ledger = m .ledger ∙ ap (λ (x : Ledger). putWaiting w x) (s .means .ledger) }
+    other-list after w m = next (putWaiting w) (s .means) m
 
     list-now : (after : List ℕ) (w : List Item) → Means after (putWaiting w b) → ledgerOf after .waiting ≡ w
     unfolding putWaiting

@@ -8,7 +8,7 @@ use lib.ListN.{length}
 use Rattle.rulebook.specs.Lists.{if_then_else_, _is_}
 use Rattle.rulebook.specs.Ledger.{Ledger, Holdings, sameAccount, putHoldings, sumBelow}
 use Rattle.rulebook.specs.Movements.{Movement, credits, debits}
-use Rattle.rulebook.specs.Cycle.{Marked, seller, buyer, over, bringsShares, takesShares, bringsCash, takesCash, sharesBrought, sharesTaken, cashBrought, cashTaken, anyShort, withMark, legs}
+use Rattle.rulebook.specs.Cycle.{seller, buyer, over, bringsShares, takesShares, bringsCash, takesCash, sharesBrought, sharesTaken, cashBrought, cashTaken, anyShort, withMark, legs}
 use Rattle.rulebook.specs.declared.Account.{Account}
 use Rattle.rulebook.specs.declared.Item.{Item}
 use Rattle.rulebook.proofs.Rounds.{enough-shares, enough-cash}
@@ -16,12 +16,14 @@ use Rattle.rulebook.proofs.Sizes.{credits-accounts, legs-opened}
 use Rattle.words.proofs.Sums.{sum-last, sum-grows}
 use Rattle.book.specs.Meaning.{ledgerOf}
 use Rattle.book.specs.Stored.{Stored, Means}
-use Rattle.cycle.specs.Marks.{itemIn, isOn, markedOf}
-use Rattle.cycle.specs.Ready.{Bookable, Ready, CanCredit, CanDebit, Covered}
-use Rattle.cycle.proofs.Marking.{marking, over-sum, count-marked}
-use Rattle.cycle.proofs.Netting.{sum-most, if-below}
-use Rattle.cycle.proofs.Running.{count-most}
-use Rattle.cycle.proofs.Posting.{first, ifMarked, credits-none, credits-next, debits-none, debits-next, own-brought, own-taken, own-paid, own-pays, credited-balance, credited-cash, debited-balance, debited-cash}
+use Rattle.book.proofs.Laws.{next}
+use Rattle.netting.specs.Marks.{itemIn, isOn, markedOf}
+use Rattle.netting.specs.Ready.{Bookable, Ready}
+use Rattle.cycle.specs.Booking.{CanCredit, CanDebit, Covered}
+use Rattle.netting.proofs.Marking.{marking, over-sum, count-marked}
+use Rattle.netting.proofs.Netting.{sum-most, if-below}
+use Rattle.netting.proofs.Running.{count-most}
+use Rattle.cycle.proofs.Posting.{first, ifMarked, credits-none, credits-next, debits-none, debits-next, own-taken, own-pays, credited-balance, credited-cash, debited-balance, debited-cash}
 
 -- ---- a book with other holdings
 
@@ -37,7 +39,7 @@ module _ (b : Ledger) (book : List ℕ) (h : Holdings) (m : Means book (putHoldi
   -- and then with others again
   pub then-holdings : (f : Holdings → Holdings) (after : List ℕ) → Means after (putHoldings (f (ledgerOf book .holdings)) (ledgerOf book)) → Means after (putHoldings (f h) b)
   unfolding putHoldings
-  then-holdings f after k = record { stored = k .stored; ledger = k .ledger ∙ ap (λ (x : Ledger). putHoldings (f (x .holdings)) x) (m .ledger) }
+  then-holdings f after k = next (λ x. putHoldings (f (x .holdings)) x) m k
 
 -- ---- a loop over the marked trades
 
@@ -46,7 +48,7 @@ module _
     (nothing : (h : Holdings) → act (legs []) h ≡ h)
     (item : ℕ → Item)
     (on : ℕ → Bool)
-    (next : (i : ℕ) (h : Holdings) → act (legs (first item on (i + 1))) h ≡ act (legs (ifMarked (on i) (item i))) (act (legs (first item on i)) h))
+    (one-more : (i : ℕ) (h : Holdings) → act (legs (first item on (i + 1))) h ≡ act (legs (ifMarked (on i) (item i))) (act (legs (first item on i)) h))
     (b : Ledger)
   where
     -- the book after the first i
@@ -57,14 +59,14 @@ module _
       pub acted-off : on i ≡ false → Acted (i + 1) book
       acted-off e =
           let s : act (legs (first item on (i + 1))) b.holdings ≡ act (legs (first item on i)) b.holdings =
-          next i b.holdings ∙ ap (λ (x : Bool). act (legs (ifMarked x (item i))) (act (legs (first item on i)) b.holdings)) e ∙ nothing (act (legs (first item on i)) b.holdings)
+          one-more i b.holdings ∙ ap (λ (x : Bool). act (legs (ifMarked x (item i))) (act (legs (first item on i)) b.holdings)) e ∙ nothing (act (legs (first item on i)) b.holdings)
           in
           subst (λ (h : Holdings). Means book (putHoldings h b)) (sym s) m
 
       pub acted-on : on i ≡ true → (t : Item) → t ≡ item i → (after : List ℕ) → Means after (putHoldings (act (legs (t ∷ [])) (ledgerOf book .holdings)) (ledgerOf book)) → Acted (i + 1) after
       acted-on e t same after k =
           let s : act (legs (first item on (i + 1))) b.holdings ≡ act (legs (t ∷ [])) (act (legs (first item on i)) b.holdings) =
-          next i b.holdings ∙ ap (λ (x : Bool). act (legs (ifMarked x (item i))) (act (legs (first item on i)) b.holdings)) e ∙ ap (λ (x : Item). act (legs (x ∷ [])) (act (legs (first item on i)) b.holdings)) (sym same)
+          one-more i b.holdings ∙ ap (λ (x : Bool). act (legs (ifMarked x (item i))) (act (legs (first item on i)) b.holdings)) e ∙ ap (λ (x : Item). act (legs (x ∷ [])) (act (legs (first item on i)) b.holdings)) (sym same)
           in
           subst (λ (h : Holdings). Means after (putHoldings h b)) (sym s) (then-holdings b book (act (legs (first item on i)) b.holdings) m (act (legs (t ∷ []))) after k)
 

@@ -1,16 +1,16 @@
 -- The whole cycle: what its parts leave is the rulebook's outcome. Assumes nothing.
-use Prim.Native.Nat.{ℕ, _+_, _-_, _*_, _≤_, _<_}
+use Prim.Native.Nat.{ℕ, _+_, _-_, _*_}
 use native.Mathlib.Omega.{arith}
-use mathlib.Core.Bool.{Bool, true, false, false≢true}
+use mathlib.Core.Bool.{true, false, false≢true}
 use mathlib.Core.List.{List, [], _∷_, _++_}
 use mathlib.Core.Path.{_≡_, refl, sym, ap, subst, _∙_}
 use lib.ListN.{length, drop}
-use Rattle.rulebook.specs.Ledger.{Ledger, Holdings, putDay, putHoldings, putWaiting}
+use Rattle.rulebook.specs.Ledger.{Ledger, putDay, putHoldings, putWaiting}
 use Rattle.rulebook.specs.Movements.{booked}
 use Rattle.rulebook.specs.Rows.{postingRows, rowsBytes}
 use Rattle.rulebook.specs.Waiting.{isTrade, sidesOf, sides}
 use Rattle.rulebook.specs.Cycle.{Marked, taken, anyShort, rounds, settlingOf, settling, withMark, withoutMark, settled, notSettled, dropped, legs}
-use Rattle.rulebook.specs.Forms.{Outcome, counts, outcome, cycle}
+use Rattle.rulebook.specs.Forms.{counts, outcome, cycle}
 use Rattle.rulebook.specs.Premise.{Each}
 use Rattle.rulebook.specs.declared.Counts.{Counts}
 use Rattle.rulebook.specs.declared.Item.{Item}
@@ -22,9 +22,10 @@ use Rattle.rulebook.proofs.RowCounts.{posting-length, legs-length}
 use Rattle.book.specs.Meaning.{ledgerOf}
 use Rattle.book.specs.Stored.{Means}
 use Rattle.book.specs.Handled.{Handled}
-use Rattle.cycle.specs.Marks.{itemIn, isOn, markedOf, countOn, rowsOf}
+use Rattle.book.proofs.Laws.{next}
+use Rattle.netting.specs.Marks.{itemIn, isOn, markedOf, countOn, rowsOf}
 use Rattle.cycle.specs.Counted.{oneMore}
-use Rattle.cycle.proofs.Marking.{count-marked}
+use Rattle.netting.proofs.Marking.{count-marked}
 
 -- ---- a trade has two sides
 
@@ -77,20 +78,19 @@ module _ (b : Ledger) (due marks : ℕ) (d : markedOf due b.waiting ≡ taken b.
       (held : Means first (putHoldings (booked (legs (withMark (markedOf marks b.waiting))) b.holdings) b))
       (left : Means second (putWaiting (withoutMark (markedOf marks (ledgerOf first .waiting))) (ledgerOf first)))
     where
-      stays : ledgerOf second ≡ putWaiting (withoutMark (markedOf marks b.waiting)) (putHoldings (booked (legs (withMark (markedOf marks b.waiting))) b.holdings) b)
-      unfolding putHoldings putWaiting
-      stays = left .ledger ∙ ap (λ (x : Ledger). putWaiting (withoutMark (markedOf marks (x .waiting))) x) (held .ledger)
+      stays : Means second (putWaiting (withoutMark (markedOf marks b.waiting)) (putHoldings (booked (legs (withMark (markedOf marks b.waiting))) b.holdings) b))
+      unfolding putHoldings
+      stays = next (λ x. putWaiting (withoutMark (markedOf marks (x .waiting))) x) held left
 
       pub same-day : ledgerOf second .day ≡ b.day
       unfolding putHoldings putWaiting
-      same-day = ap (λ (x : Ledger). x .day) stays
+      same-day = ap (λ (x : Ledger). x .day) (stays .ledger)
 
       module _ (third : List ℕ) (dated : Means third (putDay (oneMore (ledgerOf second .day)) (ledgerOf second))) where
         after : (order : Order) → ledgerOf third ≡ cycle b order .after
         unfolding putHoldings putWaiting putDay cycle outcome settled notSettled
         after order =
-            dated .ledger
-            ∙ ap (λ (x : Ledger). putDay (oneMore (x .day)) x) stays
+            next (λ x. putDay (oneMore (x .day)) x) stays dated .ledger
             ∙ ap (λ (ms : List Marked). putDay (oneMore b.day) (putWaiting (withoutMark ms) (putHoldings (booked (legs (withMark ms)) b.holdings) b))) all-rounds
 
         pub handled :

@@ -17,10 +17,10 @@ use Rattle.words.specs.Places.{listFrom}
 use Rattle.words.proofs.Sums.{sum-last}
 use Rattle.rows.specs.Widths.{TradeFits}
 use Rattle.rows.proofs.Laws.{behind, movement-rows, trade-rows}
-use Rattle.cycle.specs.Marks.{itemIn, isOn, markedOf, countOn, rowsOf}
-use Rattle.cycle.specs.Ready.{Bookable, Ready}
-use Rattle.cycle.proofs.Marking.{marking, count-marked}
-use Rattle.cycle.proofs.Running.{count-most}
+use Rattle.netting.specs.Marks.{itemIn, isOn, markedOf, countOn, rowsOf}
+use Rattle.netting.specs.Ready.{Bookable}
+use Rattle.netting.proofs.Marking.{count-marked}
+use Rattle.netting.proofs.Running.{count-most}
 use Rattle.cycle.proofs.Posting.{first, ifMarked, first-next, legs-append}
 
 -- a trade that can be booked has rows that can be written

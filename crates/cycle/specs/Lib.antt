@@ -1,6 +1,3 @@
--- The netted cycle in words.
-pub mod Marks
-pub mod Figures
-pub mod Filled
-pub mod Ready
+-- The netted cycle on a book of words.
+pub mod Booking
 pub mod Counted

@@ -7,10 +7,11 @@ ghost use Rattle.rulebook.specs.Movements.{credits, debits, booked};
 ghost use Rattle.rulebook.specs.Cycle.{anyShort, withMark, legs};
 ghost use Rattle.book.specs.Meaning.{ledgerOf};
 ghost use Rattle.book.specs.Stored.{Stored, Means};
-ghost use Rattle.cycle.specs.Marks.{markedOf};
-ghost use Rattle.cycle.specs.Ready.{Ready, CanCredit, CanDebit, Covered};
-use crate::marks;
-use crate::trades;
+ghost use Rattle.netting.specs.Marks.{markedOf};
+ghost use Rattle.netting.specs.Ready.{Ready};
+ghost use Rattle.cycle.specs.Booking.{CanCredit, CanDebit, Covered};
+use netting::marks;
+use netting::trades;
 use rulebook::Item;
 
 // What a trade brings: shares to the buyer's account, cash to the seller.

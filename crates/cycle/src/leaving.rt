@@ -5,8 +5,8 @@ ghost use Rattle.rulebook.specs.Ledger.{putWaiting};
 ghost use Rattle.rulebook.specs.Cycle.{withoutMark};
 ghost use Rattle.book.specs.Meaning.{ledgerOf};
 ghost use Rattle.book.specs.Stored.{Stored, Means};
-ghost use Rattle.cycle.specs.Marks.{markedOf};
-use crate::marks;
+ghost use Rattle.netting.specs.Marks.{markedOf};
+use netting::marks;
 
 // The items without a mark stay, in their order.
 pub fn leave_marked(book: &mut [u64], marks: u64)

@@ -1,11 +1,7 @@
 // Form 16, the netted cycle, on a book of words.
 mod booking;
-mod figures;
 mod leaving;
-mod marks;
 mod postings;
-mod settling;
-mod trades;
 
 ghost use mathlib.Core.Path.{_≡_};
 ghost use Prim.Native.Nat.{_+_, _-_, _*_, _^_, _≤_, _<_};
@@ -17,6 +13,7 @@ ghost use Rattle.book.specs.Meaning.{ledgerOf};
 ghost use Rattle.book.specs.Stored.{Stored, Kept, Means};
 ghost use Rattle.book.specs.Handled.{Handled};
 ghost use Rattle.cycle.specs.Counted.{oneMore};
+use netting::marks;
 use rulebook::Counts;
 use rulebook::Day;
 
@@ -60,7 +57,7 @@ pub fn run(book: &mut [u64], area: &mut [u8]) -> Counts
 {
     let n = book::items(book);
     let due = marks::due_marks(book);
-    let settled = settling::settling_marks(book, due);
+    let settled = netting::settling_marks(book, due);
     postings::write_marked(area, book, settled);
     booking::book_marked(book, settled);
     leaving::leave_marked(book, settled);

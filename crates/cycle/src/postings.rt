@@ -6,9 +6,9 @@ ghost use lib.ListN.{length, drop};
 ghost use Rattle.rulebook.specs.Rows.{rowsBytes};
 ghost use Rattle.book.specs.Meaning.{ledgerOf};
 ghost use Rattle.book.specs.Stored.{Stored};
-ghost use Rattle.cycle.specs.Marks.{markedOf, rowsOf};
-ghost use Rattle.cycle.specs.Ready.{Ready};
-use crate::marks;
+ghost use Rattle.netting.specs.Marks.{markedOf, rowsOf};
+ghost use Rattle.netting.specs.Ready.{Ready};
+use netting::marks;
 
 // Each marked trade's four rows go into the area behind those before it.
 pub fn write_marked(area: &mut [u8], book: &[u64], marks: u64)

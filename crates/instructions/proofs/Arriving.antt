@@ -1,9 +1,9 @@
 -- The waiting list once a single has arrived, by the place of the one that it pairs with, and forms 12 and 13 by that place. Assumes nothing.
-use Prim.Native.Nat.{ℕ, zero, suc, _+_, _<_}
+use Prim.Native.Nat.{ℕ, suc, _+_, _<_}
 use native.Mathlib.Omega.{arith}
 use mathlib.Core.Bool.{Bool, true, false}
 use mathlib.Core.List.{List, [], _∷_, _++_}
-use mathlib.Core.Path.{_≡_, refl, sym, ap, _∙_}
+use mathlib.Core.Path.{_≡_, refl, sym, ap, subst, _∙_}
 use borrow.Author.Tests.{ltb-false}
 use lib.ListN.{length, getD, length-append, length-drop}
 use lib.Seq.{length-take-le}
@@ -22,43 +22,40 @@ use Rattle.words.specs.declared.Found.{Found}
 use Rattle.words.specs.declared.Found.the-variants.{At, Nothing}
 use Rattle.book.specs.Meaning.{ledgerOf}
 use Rattle.book.specs.Stored.{Means}
-use Rattle.book.specs.Handled.{Handled}
-use Rattle.instructions.specs.Given.{Given}
-use Rattle.instructions.specs.Search.{placeFrom, placeIn}
+use Rattle.book.specs.Handled.{Given, Handled}
+use Rattle.book.proofs.Laws.{next}
+use Rattle.search.specs.Place.{placeFrom, placeIn, isFound}
 use Rattle.instructions.specs.Paired.{paired}
-use Rattle.instructions.proofs.Search.{place-hit, none-found}
+use Rattle.search.proofs.Laws.{found-some}
 use Rattle.instructions.proofs.Handling.{silent-handled, means-so, first-false, known}
 
 module _ (limit : ℕ) (new : Item) (d : Item) where
-  arrive-from :
-      (ws : List Item) (k i : ℕ) → placeFrom (pairsWith limit new) k ws ≡ At (k + i)
-      → arrive limit new ws ≡ removeAt i ws ++ (paired new (getD ws i d) ∷ [])
+  -- what arrives pairs with the one at place i
+  abbrev PairsAt : List Item → ℕ → Type 0
+  PairsAt ws i = arrive limit new ws ≡ removeAt i ws ++ (paired new (getD ws i d) ∷ [])
+
+  pairs-from : (ws : List Item) (k j : ℕ) → placeFrom (pairsWith limit new) k ws ≡ At j → (i : ℕ) × ((j ≡ k + i) × PairsAt ws i)
   unfolding arrive placeFrom paired
-  arrive-from [] k i e = let z : _≡_ {A = ℕ} 0 1 = cc in absurd (omega arith)
-  arrive-from (w ∷ rest) k zero e = go (pairsWith limit new w) refl
-    where
-      go : (b : Bool) → pairsWith limit new w ≡ b → arrive limit new (w ∷ rest) ≡ removeAt zero (w ∷ rest) ++ (paired new w ∷ [])
-      go true t = rw t
-      go false t =
-          let r = place-hit (pairsWith limit new) rest (suc k) (k + zero) (rw t at e) in
-          absurd (omega (arith, r .0))
-  arrive-from (w ∷ rest) k (suc i) e = go (pairsWith limit new w) refl (arrive-from rest (suc k) i)
+  pairs-from [] k j e = let z : _≡_ {A = ℕ} 0 1 = cc in absurd (omega arith)
+  pairs-from (w ∷ rest) k j e = go (pairsWith limit new w) refl (pairs-from rest (suc k) j)
     where
       go :
-          (b : Bool) → pairsWith limit new w ≡ b
-          → (placeFrom (pairsWith limit new) (suc k) rest ≡ At (suc k + i) → arrive limit new rest ≡ removeAt i rest ++ (paired new (getD rest i d) ∷ []))
-          → arrive limit new (w ∷ rest) ≡ removeAt (suc i) (w ∷ rest) ++ (paired new (getD rest i d) ∷ [])
-      go true t later =
-          let f : At k ≡ At (k + suc i) = rw t at e in
-          let s : k ≡ k + suc i = cc in
-          absurd (omega (arith, s))
-      go false t later =
-          let s : k + suc i ≡ suc k + i = omega arith in
-          rw t (ap (λ (l : List Item). w ∷ l) (later (rw t at e ∙ ap At s)))
+          (t : Bool) → pairsWith limit new w ≡ t → (placeFrom (pairsWith limit new) (suc k) rest ≡ At j → (i : ℕ) × ((j ≡ suc k + i) × PairsAt rest i))
+          → (i : ℕ) × ((j ≡ k + i) × PairsAt (w ∷ rest) i)
+      go true p later =
+          let f : At k ≡ At j = rw p at e in
+          let s : k ≡ j = cc in
+          (0, (omega (arith, s), rw p))
+      go false p later =
+          let f = later (rw p at e) in
+          (suc (f .0), (omega (arith, f .1 .0), rw p (ap (λ (l : List Item). w ∷ l) (f .1 .1))))
 
-  -- with the one at that place; it is removed and the pair goes last
-  pub arrive-pair : (ws : List Item) (i : ℕ) → placeIn (pairsWith limit new) ws ≡ At i → arrive limit new ws ≡ removeAt i ws ++ (paired new (getD ws i d) ∷ [])
-  arrive-pair ws i e = let s : i ≡ 0 + i = omega arith in arrive-from ws 0 i (e ∙ ap At s)
+  -- that one is removed and the pair goes last
+  pub arrive-pair : (ws : List Item) (i : ℕ) → placeIn (pairsWith limit new) ws ≡ At i → PairsAt ws i
+  arrive-pair ws i e =
+      let f = pairs-from ws 0 i e in
+      let s : f .0 ≡ i = omega (arith, f .1 .0) in
+      subst (PairsAt ws) s (f .1 .1)
 
   -- where none pairs, the single goes last
   pub arrive-alone : (ws : List Item) → some (pairsWith limit new) ws ≡ false → arrive limit new ws ≡ ws ++ (new ∷ [])
@@ -109,15 +106,14 @@ module _ (book : List ℕ) (order : Order) where
   pair-made i waits new pair mid after r e w n p m a c =
       let q : pair ≡ paired arriving (getD (b .waiting) i waits) = p ∙ ap (λ (x : Item). paired x waits) n ∙ ap (paired arriving) (w waits) in
       silent-handled _ after r
-      (means-so after _ _ a
-      (ap (λ (x : Ledger). putWaiting (x .waiting ++ (pair ∷ [])) x) m.ledger
-      ∙ ap (λ (x : Item). putWaiting (removeAt i (b .waiting) ++ (x ∷ [])) b) q
+      (means-so after _ _ (next (λ x. putWaiting (x .waiting ++ (pair ∷ [])) x) m a)
+      (ap (λ (x : Item). putWaiting (removeAt i (b .waiting) ++ (x ∷ [])) b) q
       ∙ ap (λ (l : List Item). putWaiting l b) (sym (arrive-pair limit arriving waits (b .waiting) i e))))
       c
 
   module _ (given : Given book order) (e : place ≡ Nothing) where
     none : some (pairsWith limit arriving) (b .waiting) ≡ false
-    none = none-found (pairsWith limit arriving) (b .waiting) 0 e
+    none = sym (found-some (pairsWith limit arriving) 0 (b .waiting)) ∙ ap isFound e
 
     -- refusal 18 does not apply
     pub alone-room : (order.form oneOf (12 ∷ 13 ∷ [])) ≡ true → length (b .waiting) < 64

@@ -1,11 +1,10 @@
 -- Form 15 by the place of the item that waits under the sender's reference. Assumes nothing.
-use Prim.Native.Nat.{ℕ, _*_, _<_}
+use Prim.Native.Nat.{ℕ, _*_}
 use native.Mathlib.Omega.{arith}
-use mathlib.Core.Bool.{Bool, true, false, not, _&&_, _||_, false≢true}
+use mathlib.Core.Bool.{true, false, not, false≢true}
 use mathlib.Core.List.{List, [], _∷_, _++_, map}
 use mathlib.Core.Path.{_≡_, refl, sym, ap, subst, _∙_}
 use lib.ListN.{length, getD, set, drop}
-use Rattle.rulebook.specs.Lists.{some}
 use Rattle.rulebook.specs.Ledger.{Ledger, putWaiting}
 use Rattle.rulebook.specs.Premise.{today}
 use Rattle.rulebook.specs.Waiting.{sidesOf, sides, senderOf, sentBy, marked, bothMarked, marking, cancelled, staying}
@@ -14,7 +13,6 @@ use Rattle.rulebook.specs.Refusals.{wrongReference}
 use Rattle.rulebook.specs.Forms.{counts, outcome, cancel}
 use Rattle.rulebook.specs.declared.Counts.{Counts}
 use Rattle.rulebook.specs.declared.Item.{Item}
-use Rattle.rulebook.specs.declared.Notice.{Notice}
 use Rattle.rulebook.specs.declared.Order.{Order}
 use Rattle.rulebook.specs.declared.State.{State}
 use Rattle.rulebook.specs.declared.State.the-variants.{Single, Pair, Trade}
@@ -27,8 +25,8 @@ use Rattle.words.specs.declared.Found.the-variants.{At, Nothing}
 use Rattle.book.specs.Meaning.{ledgerOf}
 use Rattle.book.specs.Stored.{Means}
 use Rattle.book.specs.Handled.{Accepted, Handled}
-use Rattle.instructions.specs.Search.{placeIn}
-use Rattle.instructions.proofs.Search.{found, none-found}
+use Rattle.search.specs.Place.{placeIn, isFound}
+use Rattle.search.proofs.Laws.{Passes, found-passes, found-some}
 use Rattle.instructions.proofs.Notices.{notice-fits, marked-notice}
 
 -- only a pair has two marks
@@ -54,20 +52,20 @@ module _ (book : List ℕ) (order : Order) (area : List ℕ) (a : Accepted book 
   unfolding wrongReference
   waits form e =
       let r = accepted b order (a.read.octets) (a.read.read) a.passes .reference in
-      false≢true (sym (simp form at r) ∙ ap not (none-found (sentBy sender order.reference) (b .waiting) 0 e))
+      false≢true (sym (simp form at r) ∙ ap not (sym (found-some (sentBy sender order.reference) 0 (b .waiting)) ∙ ap isFound e))
 
-  module _ (i : ℕ) (e : place ≡ At i) (item m : Item) (there : (d : Item) → item ≡ getD (b .waiting) i d) (mark : m ≡ marked sender item) where
-    waits-at : (i < length (b .waiting)) × ((d : Item) → sentBy sender order.reference (getD (b .waiting) i d) ≡ true)
-    waits-at = found (sentBy sender order.reference) (b .waiting) i e
+  module _ (i : ℕ) (e : place ≡ At i) (item m : Item) (read : (d : Item) → item ≡ getD (b .waiting) i d) (mark : m ≡ marked sender item) where
+    there : Passes (sentBy sender order.reference) (b .waiting) i
+    there = found-passes (sentBy sender order.reference) (b .waiting) i e
 
     pub cancelled-fits : NoticeFits (noticeOf 4 m)
     cancelled-fits =
-        subst NoticeFits (sym (ap (noticeOf 4) mark ∙ marked-notice sender 4 item ∙ ap (noticeOf 4) (there item)))
-        (notice-fits (b .day .number) (today (b .day)) (b .holdings) _ 4 (omega arith) (item-at b (a.kept.premise) i item (waits-at .0)))
+        subst NoticeFits (sym (ap (noticeOf 4) mark ∙ marked-notice sender 4 item ∙ ap (noticeOf 4) (read item)))
+        (notice-fits (b .day .number) (today (b .day)) (b .holdings) _ 4 (omega arith) (item-at b (a.kept.premise) i item (there .inside)))
 
     -- the item marked is the one at that place
     marked-there : marked sender (getD (b .waiting) i item) ≡ m
-    marked-there = sym (mark ∙ ap (marked sender) (there item))
+    marked-there = sym (mark ∙ ap (marked sender) (read item))
 
     abbrev now : List Item
     now = marking sender order.reference (b .waiting)
@@ -75,10 +73,10 @@ module _ (book : List ℕ) (order : Order) (area : List ℕ) (a : Accepted book 
     -- its second half is marked
     module _ (t : bothMarked m.state ≡ true) where
       left : staying now ≡ removeAt i (b .waiting)
-      left = simp t at (rw marked-there at (cancel-at b (a.kept.premise) sender order.reference i item (waits-at .0) (waits-at .1 item) .0))
+      left = simp t at (rw marked-there at (cancel-at b (a.kept.premise) sender order.reference i item (there .inside) (there .passes item) .0))
 
       gone : cancelled now ≡ m ∷ []
-      gone = simp t at (rw marked-there at (cancel-at b (a.kept.premise) sender order.reference i item (waits-at .0) (waits-at .1 item) .1))
+      gone = simp t at (rw marked-there at (cancel-at b (a.kept.premise) sender order.reference i item (there .inside) (there .passes item) .1))
 
       pub pair-leaves :
           (after written : List ℕ) (r : Counts) → Means after (putWaiting (removeAt i (b .waiting)) b) → written ≡ rowsBytes (notice (noticeOf 4 m) ∷ []) ++ drop 16 area
@@ -97,10 +95,10 @@ module _ (book : List ℕ) (order : Order) (area : List ℕ) (a : Accepted book 
     -- only one half is marked
     module _ (t : bothMarked m.state ≡ false) where
       stays : staying now ≡ set (b .waiting) i m
-      stays = simp t at (rw marked-there at (cancel-at b (a.kept.premise) sender order.reference i item (waits-at .0) (waits-at .1 item) .0))
+      stays = simp t at (rw marked-there at (cancel-at b (a.kept.premise) sender order.reference i item (there .inside) (there .passes item) .0))
 
       none-gone : cancelled now ≡ []
-      none-gone = simp t at (rw marked-there at (cancel-at b (a.kept.premise) sender order.reference i item (waits-at .0) (waits-at .1 item) .1))
+      none-gone = simp t at (rw marked-there at (cancel-at b (a.kept.premise) sender order.reference i item (there .inside) (there .passes item) .1))
 
       pub pair-stays : (after : List ℕ) (r : Counts) → Means after (putWaiting (set (b .waiting) i m) b) → r ≡ counts 0 0 0 0 0 0 → Handled (cancel b order) after area area r
       unfolding cancel outcome sides rowsBytes

@@ -1,5 +1,5 @@
 -- Close on a book of words: the first i items are dealt with, j of them stay. Assumes nothing.
-use Prim.Native.Nat.{ℕ, suc, _+_, _-_, _*_, _≤_, _<_, _^_}
+use Prim.Native.Nat.{ℕ, _+_, _-_, _*_, _≤_, _<_, _^_}
 use native.Mathlib.Numerals.{add-one}
 use native.Mathlib.Omega.{arith}
 use mathlib.Core.Bool.{false}
@@ -18,15 +18,14 @@ use Rattle.rulebook.specs.declared.Counts.{Counts}
 use Rattle.rulebook.specs.declared.Day.{Day}
 use Rattle.rulebook.specs.declared.Item.{Item}
 use Rattle.rulebook.specs.declared.Order.{Order}
-use Rattle.rulebook.specs.declared.State.{State}
 use Rattle.rulebook.proofs.ByIndex.{item-at}
 use Rattle.rows.specs.Widths.{NoticeFits}
 use Rattle.rows.proofs.Laws.{behind}
 use Rattle.book.specs.Meaning.{ledgerOf}
 use Rattle.book.specs.Stored.{Kept, Means}
 use Rattle.book.specs.Handled.{Handled}
-use Rattle.instructions.specs.Closing.{kept, gone, notices, closeCounts, countedOne, CanCount, itemsClosed}
-use Rattle.instructions.proofs.Handling.{means-so}
+use Rattle.book.proofs.Laws.{next}
+use Rattle.instructions.specs.Closing.{kept, notices, closeCounts, countedOne, CanCount, itemsClosed}
 use Rattle.instructions.proofs.Notices.{notice-fits}
 use Rattle.instructions.proofs.RowBytes.{rows-length, rows-append}
 use Rattle.instructions.proofs.Closing.{kind-most, kept-one, notices-same, counts-same, kept-same, notices-one, counted-one, rows-most, counted-most}
@@ -111,18 +110,18 @@ module _ (day : ℕ) (start free : List ℕ) where
 
     -- the item that is read next
     module _ (more : i < length (b .waiting)) {x : Item} (read : (d : Item) → x ≡ getD (ledgerOf book .waiting) i d) where
-      next : x ≡ getD (b .waiting) i x
+      here : x ≡ getD (b .waiting) i x
       unfolding putWaiting
-      next =
+      here =
           let z : i ≡ i + 0 = omega arith in
           let at : (l : List Item) → getD l i x ≡ getD (drop i l) 0 x = λ l. ap (λ (k : ℕ). getD l k x) z ∙ sym (getD-drop i l 0 x) in
           read x ∙ ap (λ (l : Ledger). getD (l .waiting) i x) (w .means .ledger) ∙ at (w .now) ∙ ap (λ (l : List Item). getD l 0 x) (w .ahead) ∙ sym (at (b .waiting))
 
       one-more : passed (i + 1) ≡ passed i ++ (x ∷ [])
-      one-more = ap passed (add-one i) ∙ take-suc (b .waiting) i x more ∙ ap (λ (y : Item). passed i ++ (y ∷ [])) (sym next)
+      one-more = ap passed (add-one i) ∙ take-suc (b .waiting) i x more ∙ ap (λ (y : Item). passed i ++ (y ∷ [])) (sym here)
 
       pub next-fits : ItemFits (b .day .number) (today (b .day)) (b .holdings) x
-      next-fits = subst (ItemFits (b .day .number) (today (b .day)) (b .holdings)) (sym next) (item-at b (start-kept.premise) i x more)
+      next-fits = subst (ItemFits (b .day .number) (today (b .day)) (b .holdings)) (sym here) (item-at b (start-kept.premise) i x more)
 
       pub settles-soon : x.«settlement_day» < 2 ^ 63
       settles-soon = omega (arith, next-fits .«settlement_day», start-kept.premise.day.number)
@@ -139,7 +138,7 @@ module _ (day : ℕ) (start free : List ℕ) where
         now = set (w .now) j y;
         within = omega arith;
         up = omega (arith, w .up);
-        means = means-so after _ _ m (ap (λ (l : Ledger). putWaiting (set (l .waiting) j y) l) (w .means .ledger));
+        means = next (λ l. putWaiting (set (l .waiting) j y) l) (w .means) m;
         long = length-set (w .now) j y ∙ w .long;
         made =
             ap (λ (k : ℕ). take k (set (w .now) j y)) (add-one j) ∙ take-suc-set (w .now) j y (omega (arith, w .up, w .long)) ∙ ap (λ (l : List Item). l ++ (y ∷ [])) (w .made)
@@ -190,7 +189,7 @@ module _ (day : ℕ) (start free : List ℕ) where
         let all : passed i ≡ b .waiting = take-all i (b .waiting) done in
         record {
           stored = m.stored;
-          ledger = m.ledger ∙ ap (λ (l : Ledger). putWaiting (take j (l .waiting)) l) (w .means .ledger) ∙ ap (λ (l : List Item). putWaiting l b) (w .made ∙ ap (kept day) all);
+          ledger = next (λ l. putWaiting (take j (l .waiting)) l) (w .means) m .ledger ∙ ap (λ (l : List Item). putWaiting l b) (w .made ∙ ap (kept day) all);
           counted = w .counted ∙ ap (closeCounts day) all;
           written = w .written ∙ ap row-bytes (ap (notices day) all);
         }

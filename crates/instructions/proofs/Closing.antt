@@ -9,9 +9,7 @@ use lib.ListN.{length, length-append, length-map}
 use Rattle.rulebook.specs.Lists.{if_then_else_, _is_, _atMost_, _oneOf_, total, keep}
 use Rattle.rulebook.specs.Waiting.{sidesOf, sides, unmarked, withState}
 use Rattle.rulebook.specs.Close.{closeKind, leaves, deletedAtClose, suspendedAtClose, closeNotice}
-use Rattle.rulebook.specs.Rows.{Row}
 use Rattle.rulebook.specs.Forms.{counts}
-use Rattle.rulebook.specs.declared.Counts.{Counts}
 use Rattle.rulebook.specs.declared.Item.{Item}
 use Rattle.rulebook.specs.declared.State.{State}
 use Rattle.rulebook.specs.declared.State.the-variants.{Single, Pair, Trade}

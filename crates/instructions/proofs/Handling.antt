@@ -1,8 +1,8 @@
 -- A form that writes no row, and the room for one item more. Assumes nothing.
 use Prim.Native.Nat.{ℕ, _<_}
 use native.Mathlib.Omega.{arith}
-use mathlib.Core.Bool.{Bool, true, false, not, _&&_, _||_, false≢true}
-use mathlib.Core.List.{List, [], _∷_}
+use mathlib.Core.Bool.{Bool, true, false, _||_, false≢true}
+use mathlib.Core.List.{List}
 use mathlib.Core.Path.{_≡_, refl, sym, _∙_}
 use borrow.Author.Tests.{ltb-false}
 use lib.ListN.{length}
@@ -16,8 +16,7 @@ use Rattle.rulebook.proofs.Orders.{Accepted, accepted}
 use Rattle.rulebook.proofs.Space.{trade-space}
 use Rattle.book.specs.Meaning.{ledgerOf}
 use Rattle.book.specs.Stored.{Means}
-use Rattle.book.specs.Handled.{Handled}
-use Rattle.instructions.specs.Given.{Given}
+use Rattle.book.specs.Handled.{Given, Handled}
 
 pub silent-handled : (b : Ledger) (book : List ℕ) (r : Counts) → Means book b → r ≡ counts 0 0 0 0 0 0 → (area : List ℕ) → Handled (silent b) book area area r
 unfolding silent outcome rowsBytes

@@ -1,6 +1,5 @@
 -- Laws behind the proofs of the handlers.
 pub mod Handling
-pub mod Search
 pub mod Arriving
 pub mod Notices
 pub mod Cancels

@@ -1,5 +1,3 @@
--- What the handlers of forms 12 to 15 and 17 are given and do.
-pub mod Given
-pub mod Search
+-- What forms 12, 13 and 17 do, in parts.
 pub mod Paired
 pub mod Closing

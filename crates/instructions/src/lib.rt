@@ -3,17 +3,13 @@
 ghost use mathlib.Core.Path.{_≡_};
 ghost use mathlib.Core.Bool.{true};
 ghost use mathlib.Core.List.{List, [], _∷_};
-ghost use Prim.Native.Nat.{ℕ, _≤_, _<_};
+ghost use Prim.Native.Nat.{ℕ, _≤_};
 ghost use lib.ListN.{length};
 ghost use Rattle.rulebook.specs.Lists.{_oneOf_};
-ghost use Rattle.rulebook.specs.Waiting.{sentBy};
-ghost use Rattle.rulebook.specs.Matching.{pairsWith};
 ghost use Rattle.rulebook.specs.Forms.{counts, instruct, trade, cancel, close};
 ghost use Rattle.book.specs.Meaning.{ledgerOf};
-ghost use Rattle.book.specs.Stored.{Stored, Kept};
-ghost use Rattle.book.specs.Handled.{Accepted, Handled};
-ghost use Rattle.instructions.specs.Given.{Given};
-ghost use Rattle.instructions.specs.Search.{placeIn};
+ghost use Rattle.book.specs.Stored.{Kept};
+ghost use Rattle.book.specs.Handled.{Given, Accepted, Handled};
 ghost use Rattle.instructions.specs.Paired.{paired};
 ghost use Rattle.instructions.specs.Closing.{CanCount, countedOne, itemsClosed};
 use rulebook::Counts;
@@ -23,14 +19,14 @@ use rulebook::Order;
 use rulebook::State;
 use words::Found;
 
-// A form's counts before anything is counted.
-fn no_counts() -> Counts
-    ensures { λ r. ⌜ r ≡ counts 0 0 0 0 0 0 ⌝ }
+// A form's counts: its rows, and the sides that it cancels.
+fn counts_of(rows: u64, cancelled: u64) -> Counts
+    ensures { λ r. ⌜ r ≡ counts rows 0 cancelled 0 0 0 ⌝ }
 {
     Counts {
-        rows: 0,
+        rows: rows,
         settled: 0,
-        cancelled: 0,
+        cancelled: cancelled,
         deleted: 0,
         suspended: 0,
         left: 0,
@@ -38,22 +34,6 @@ fn no_counts() -> Counts
 }
 
 // ---- matching
-
-// The place of the first waiting single that pairs with the arriving one.
-fn first_pairing(book: &[u64], limit: u64, arriving: Item) -> Found
-    requires { ⌜ Stored (now book) ⌝ }
-    ensures { λ r. ⌜ r ≡ placeIn (pairsWith limit arriving) (ledgerOf (now (book .entry)) .waiting) ⌝ }
-{
-    let n = book::items(book);
-    let mut i: usize = 0;
-    while i < n {
-        if waiting::pairs_with(limit, arriving, book::item_at(book, i)) {
-            return Found::At(i);
-        }
-        i += 1;
-    }
-    Found::Nothing
-}
 
 // The pair of an arriving single with the one that waits.
 fn pair_of(arriving: Item, waits: Item) -> Item
@@ -77,17 +57,17 @@ pub fn instruct(book: &mut [u64], order: Order) -> Counts
         reference: order.reference,
     };
     let arriving = waiting::item_of(state, order);
-    let found = first_pairing(book, waiting::tolerance_of(order.currency), arriving);
+    let found = search::first_pairing(book, waiting::tolerance_of(order.currency), arriving);
     match found {
         Found::At(i) => {
             let waits = book::item_at(book, i);
             book::remove(book, i);
             book::push(book, pair_of(arriving, waits));
-            no_counts()
+            counts_of(0, 0)
         }
         Found::Nothing => {
             book::push(book, arriving);
-            no_counts()
+            counts_of(0, 0)
         }
     }
 }
@@ -103,40 +83,10 @@ pub fn trade(book: &mut [u64], order: Order) -> Counts
         reference: order.reference,
     };
     book::push(book, waiting::item_of(state, order));
-    no_counts()
+    counts_of(0, 0)
 }
 
 // ---- cancels
-
-// The place of the item that waits under that sender's reference.
-fn place_of_sent(book: &[u64], sender: u64, reference: u64) -> Found
-    requires { ⌜ Stored (now book) ⌝ }
-    ensures { λ r. ⌜ r ≡ placeIn (sentBy sender reference) (ledgerOf (now (book .entry)) .waiting) ⌝ }
-{
-    let n = book::items(book);
-    let mut i: usize = 0;
-    while i < n {
-        if waiting::sent_by(sender, reference, book::item_at(book, i)) {
-            return Found::At(i);
-        }
-        i += 1;
-    }
-    Found::Nothing
-}
-
-// The counts of a cancel that removes a pair: its notice, and its two sides.
-fn pair_cancelled() -> Counts
-    ensures { λ r. ⌜ r ≡ counts 1 0 2 0 0 0 ⌝ }
-{
-    Counts {
-        rows: 1,
-        settled: 0,
-        cancelled: 2,
-        deleted: 0,
-        suspended: 0,
-        left: 0,
-    }
-}
 
 // 15. Cancel marks the sender's half; the second half removes the pair and writes its notice.
 pub fn cancel(book: &mut [u64], order: Order, area: &mut [u8]) -> Counts
@@ -144,26 +94,26 @@ pub fn cancel(book: &mut [u64], order: Order, area: &mut [u8]) -> Counts
     ensures { λ r. ⌜ Handled (cancel (ledgerOf (now (book .entry))) order) (now (book .exit)) (now (area .entry)) (now (area .exit)) r ⌝ }
 {
     let sender = waiting::sender_of(order);
-    let found = place_of_sent(book, sender, order.reference);
-    // refusal 14: there is one
+    let found = search::first_sent(book, sender, order.reference);
+    // refusal 14 does not apply: there is one
     let Found::At(i) = found else {
-        return no_counts();
+        return counts_of(0, 0);
     };
     let item = waiting::mark(sender, book::item_at(book, i));
     let state = item.state;
     if waiting::both_marked(state) {
         book::remove(book, i);
         rows::write_notice(area, 4, item);
-        return pair_cancelled();
+        return counts_of(1, 2);
     }
     book::put_item(book, i, item);
-    no_counts()
+    counts_of(0, 0)
 }
 
 // ---- the close of the day
 
 // One item more that leaves: its notice, and its sides among those deleted or suspended.
-fn one_more(counted: Counts, kind: u64, state: State) -> Counts
+fn count_leaving(counted: Counts, kind: u64, state: State) -> Counts
     requires { ⌜ CanCount counted ⌝ }
     ensures { λ r. ⌜ r ≡ countedOne counted kind state ⌝ }
 {
@@ -194,7 +144,7 @@ fn close_items(book: &mut [u64], number: u64, area: &mut [u8]) -> Counts
     ensures { λ r. ⌜ Handled (itemsClosed number (ledgerOf (now (book .entry)))) (now (book .exit)) (now (area .entry)) (now (area .exit)) r ⌝ }
 {
     let n = book::items(book);
-    let mut counted = no_counts();
+    let mut counted = counts_of(0, 0);
     let mut j: usize = 0;
     let mut i: usize = 0;
     while i < n {
@@ -207,7 +157,7 @@ fn close_items(book: &mut [u64], number: u64, area: &mut [u8]) -> Counts
             let state = item.state;
             let at = 16 * (counted.rows as usize);
             rows::write_notice(&mut area[at..], kind, item);
-            counted = one_more(counted, kind, state);
+            counted = count_leaving(counted, kind, state);
         }
         i += 1;
     }
@@ -215,7 +165,7 @@ fn close_items(book: &mut [u64], number: u64, area: &mut [u8]) -> Counts
     counted
 }
 
-// 17. Close, in list order; then the day is closed.
+// 17. Close, in list order; then the day is closed. It uses no field of its order.
 pub fn close(book: &mut [u64], order: Order, area: &mut [u8]) -> Counts
     requires { ⌜ Accepted (now book) order (now area) × (order .form ≡ 17) ⌝ }
     ensures { λ r. ⌜ Handled (close (ledgerOf (now (book .entry))) order) (now (book .exit)) (now (area .entry)) (now (area .exit)) r ⌝ }

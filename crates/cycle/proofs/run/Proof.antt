@@ -1,19 +1,17 @@
 -- `cycle::run` meets its contract. Assumes nothing.
 use mathlib.Core.List.{List}
 use mathlib.Core.Path.{_≡_, sym, ap, subst, _∙_}
-use Prim.Native.Nat.{ℕ, _-_, _*_, _≤_, _<_, _^_}
+use Prim.Native.Nat.{_-_, _≤_}
 use native.Mathlib.Omega.{arith}
 use borrow.Author.Needs.{needs}
 use lib.ListN.{length}
-use Rattle.rulebook.specs.Forms.{counts}
-use Rattle.rulebook.specs.declared.Counts.{Counts}
 use Rattle.rulebook.specs.declared.Day.{Day}
 use Rattle.rulebook.specs.declared.Item.{Item}
 use Rattle.book.specs.Meaning.{ledgerOf}
-use Rattle.cycle.specs.Marks.{isOn, countOn}
-use Rattle.cycle.specs.Ready.{Ready}
+use Rattle.netting.specs.Marks.{isOn, countOn}
+use Rattle.netting.specs.Ready.{Ready}
 use Rattle.cycle.proofs.Premises.{premise-ready, premise-cycles}
-use Rattle.cycle.proofs.Running.{count-most}
+use Rattle.netting.proofs.Running.{count-most}
 use Rattle.cycle.proofs.Walking.{waiting-now}
 use Rattle.cycle.proofs.Whole.{none-short, same-day, handled}
 use Rattle.cycle.proofs.run.Statement.{statement}
@@ -25,7 +23,7 @@ ready c = premise-ready (ledgerOf (c .args .book .now)) (c .pre .0 .premise)
 book-marked-requires : tie.Need-book-marked-requires
 book-marked-requires c κs =
     let s = c .before .before .before .before .before .before .before .before .before .before .before .before .before .before in
-    (s .pre .0 .stored, ready s, none-short (ledgerOf (s .args .book .now)) (c .before .before .before .before .before .before .before .before .due-marks .result) (c .before .before .before .before .before .before .settling-marks .result) (c .before .before .before .before .before .before .before .before .due-marks .ensures) (c .before .before .before .before .before .before .settling-marks .ensures .0))
+    (s .pre .0 .stored, ready s, none-short (ledgerOf (s .args .book .now)) (c .before .before .before .before .before .before .before .before .due-marks .result) (c .before .before .before .before .before .before .settling-marks .result) (c .before .before .before .before .before .before .before .before .due-marks .ensures) (c .before .before .before .before .before .before .settling-marks .ensures .marked))
 
 leave-marked-requires : tie.Need-leave-marked-requires
 leave-marked-requires c κs =
@@ -38,7 +36,7 @@ count-cycle-requires c κs =
     let s = c .before .before .before .before .before .before .before .before .before .before .before .before .before .before .before .before .before .before .before .before .before .before in
     let l = c .before .before .before .leave-marked .ensures in
     let b = ledgerOf (s .args .book .now) in
-    let e = same-day b (c .before .before .before .before .before .before .before .before .before .before .before .before .before .before .before .before .due-marks .result) (c .before .before .before .before .before .before .before .before .before .before .before .before .before .before .settling-marks .result) (c .before .before .before .before .before .before .before .before .before .before .before .before .before .before .before .before .due-marks .ensures) (c .before .before .before .before .before .before .before .before .before .before .before .before .before .before .settling-marks .ensures .0) _ _ (c .before .before .before .before .before .before .before .book-marked .ensures) l in
+    let e = same-day b (c .before .before .before .before .before .before .before .before .before .before .before .before .before .before .before .before .due-marks .result) (c .before .before .before .before .before .before .before .before .before .before .before .before .before .before .settling-marks .result) (c .before .before .before .before .before .before .before .before .before .before .before .before .before .before .before .before .due-marks .ensures) (c .before .before .before .before .before .before .before .before .before .before .before .before .before .before .settling-marks .ensures .marked) _ _ (c .before .before .before .before .before .before .before .book-marked .ensures) l in
     (l .stored, omega (arith, ap (λ (d : Day). d .cycles) e, premise-cycles b (s .pre .0 .premise)))
 
 -- the counts are those of the marks
@@ -51,7 +49,7 @@ count-due c = c .count2 .ensures ∙ ap (countOn (isOn (c .before .before .befor
 counts-of-requires : tie.Need-counts-of-requires
 counts-of-requires c κs =
     let s = c .before .before .before .before .before .before .before .before .before .before .before .before .before .before .before .before .before .before .before .before .before .before .before .before .before .before .before in (
-      omega (arith, count-settled (c .before), count-due c, c .before .before .before .before .before .before .before .before .before .before .before .before .before .before .before .before .before .before .before .settling-marks .ensures .1),
+      omega (arith, count-settled (c .before), count-due c, c .before .before .before .before .before .before .before .before .before .before .before .before .before .before .before .before .before .before .before .settling-marks .ensures .fewer),
       omega (arith, count-due c, count-most (isOn (c .before .before .before .before .before .before .before .before .before .before .before .before .before .before .before .before .before .before .before .before .before .due-marks .result)) (length (ledgerOf (s .args .book .now) .waiting)), ready s .size),
     )
 
@@ -60,7 +58,7 @@ returns c = λ order.
     let s = c .before .before .before .before .before .before .before .before .before .before .before .before .before .before .before .before .before .before .before .before .before .before .before .before .before .before .before .before in
     let settled = c .before .before .before .before .before .before .before .before .before .before .before .before .before .before .before .before .before .before .before .before .settling-marks in
     let due = c .before .before .before .before .before .before .before .before .before .before .before .before .before .before .before .before .before .before .before .before .before .before .due-marks in
-    handled (ledgerOf (s .args .book .now)) (due .result) (settled .result) (due .ensures) (settled .ensures .0) _ _ (c .before .before .before .before .before .before .before .before .before .before .before .before .before .book-marked .ensures) (c .before .before .before .before .before .before .before .before .before .leave-marked .ensures) _ (c .before .before .before .before .before .count-cycle .ensures)
+    handled (ledgerOf (s .args .book .now)) (due .result) (settled .result) (due .ensures) (settled .ensures .marked) _ _ (c .before .before .before .before .before .before .before .before .before .before .before .before .before .book-marked .ensures) (c .before .before .before .before .before .before .before .before .before .leave-marked .ensures) _ (c .before .before .before .before .before .count-cycle .ensures)
     order (s .args .area .now) _ (c .counts-of .result) (c .before .before .before .before .before .before .before .before .before .before .before .before .before .before .before .before .before .write-marked .ensures) (rw (count-settled (c .before .before), count-due (c .before)) at (c .counts-of .ensures))
 
 pub run-spec : {M : Type 1} → statement M

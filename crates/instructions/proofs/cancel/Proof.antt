@@ -7,23 +7,23 @@ use lib.ListN.{length}
 use Rattle.rulebook.specs.Waiting.{senderOf, sentBy, marked}
 use Rattle.words.specs.declared.Found.the-variants.{At}
 use Rattle.book.specs.Meaning.{ledgerOf}
-use Rattle.instructions.specs.Search.{placeIn}
-use Rattle.instructions.proofs.Search.{found}
+use Rattle.search.specs.Place.{placeIn}
+use Rattle.search.proofs.Laws.{found-passes}
 use Rattle.instructions.proofs.Cancels.{place, waits, cancelled-fits, pair-leaves, pair-stays}
 use Rattle.instructions.proofs.cancel.Statement.{statement}
 use Rattle.instructions.proofs.cancel.Tie as tie
 
 -- what the search answers
-placed : (c : tie.After-place-of-sent) → let s = c .before .before .before .before .before in place (s .args .book .now) (s .args .order) (s .args .area .now) (s .pre .0) ≡ c .place-of-sent .result
+placed : (c : tie.After-first-sent) → let s = c .before .before .before .before .before in place (s .args .book .now) (s .args .order) (s .args .area .now) (s .pre .0) ≡ c .first-sent .result
 placed c =
     let a = c .before .before .before .before .before .args in
-    sym (c .place-of-sent .ensures ∙ ap (λ (n : ℕ). placeIn (sentBy n (a .order .reference)) (ledgerOf (a .book .now) .waiting)) (c .before .before .sender-of .ensures))
+    sym (c .first-sent .ensures ∙ ap (λ (n : ℕ). placeIn (sentBy n (a .order .reference)) (ledgerOf (a .book .now) .waiting)) (c .before .before .sender-of .ensures))
 
 at : (c : tie.After-found) → let s = c .before .before .before .before .before .before .before in place (s .args .book .now) (s .args .order) (s .args .area .now) (s .pre .0) ≡ At (c .found .given .0 .0)
 at c = placed (c .before .before) ∙ c .found .given .1
 
 waits-there : (c : tie.After-found) → c .found .given .0 .0 < length (ledgerOf (c .before .before .before .before .before .before .before .args .book .now) .waiting)
-waits-there c = found _ _ _ (at c) .0
+waits-there c = found-passes _ _ _ (at c) .inside
 
 marks : (c : tie.After-mark) → c .mark .result ≡ marked (senderOf (c .before .before .before .before .before .before .before .before .before .before .before .args .order)) (c .before .item-at .result)
 marks c = c .mark .ensures ∙ ap (λ (n : ℕ). marked n (c .before .item-at .result)) (c .before .before .before .before .before .before .before .before .sender-of .ensures)
@@ -56,7 +56,7 @@ returns-2 c =
     let f = m .before .before .before .before in
     let s = f .before .before .before .before .before .before .before in
     pair-leaves (s .args .book .now) (s .args .order) (s .args .area .now) (s .pre .0) _ (at f) _ _ (m .before .item-at .ensures) (marks m)
-    (sym (t .before .both-marked .ensures) ∙ t .if1 .taken) _ _ _ (r .remove .ensures) (w .write-notice .ensures) (c .pair-cancelled .ensures)
+    (sym (t .before .both-marked .ensures) ∙ t .if1 .taken) _ _ _ (r .remove .ensures) (w .write-notice .ensures) (c .counts-of2 .ensures)
 
 put-item-requires : tie.Need-put-item-requires
 put-item-requires c κs = let f = c .before .before .before .before .before .before .before in (f .before .before .before .before .before .before .before .pre .0 .kept .stored, waits-there f)
@@ -69,7 +69,7 @@ returns-3 c =
     let f = m .before .before .before .before in
     let s = f .before .before .before .before .before .before .before in
     pair-stays (s .args .book .now) (s .args .order) (s .args .area .now) (s .pre .0) _ (at f) _ _ (m .before .item-at .ensures) (marks m)
-    (sym (t .before .both-marked .ensures) ∙ t .if1 .left) _ _ (p .put-item .ensures) (c .no-counts2 .ensures)
+    (sym (t .before .both-marked .ensures) ∙ t .if1 .left) _ _ (p .put-item .ensures) (c .counts-of3 .ensures)
 
 pub cancel-spec : {M : Type 1} → statement M
 cancel-spec =

@@ -18,7 +18,7 @@ abbrev μ-loop : tie.MeasureT-loop
 μ-loop book₀ number area₀ n counted₀ j₀ i₀ book area counted j i = n - i
 
 loop-holds : tie.Need-loop-holds Inv-loop μ-loop
-loop-holds c = let s = c .before .before .before .before .before in (c .before .items .ensures, none-closed (s .args .number) (s .args .book .now) (s .args .area .now) (s .pre .0) _ (c .no-counts .ensures))
+loop-holds c = let s = c .before .before .before .before .before in (c .before .items .ensures, none-closed (s .args .number) (s .args .book .now) (s .args .area .now) (s .pre .0) _ (c .counts-of .ensures))
 
 item-at-requires : tie.Need-item-at-requires Inv-loop μ-loop
 item-at-requires c κs =
@@ -54,8 +54,8 @@ write-notice-requires c κs =
     let long : length (l .loop .area) - 16 * l .loop .counted .rows ≤ length (drop (16 * l .loop .counted .rows) (l .loop .area)) = rw length-drop (omega arith) in
     (rw length-take-le (omega (arith, room e .1)), leaving-fits _ _ _ (s .pre .0) (s .pre .1) (l .loop .inv .1) (omega arith) (k .before .item-at .ensures) _ (k .close-kind .ensures))
 
-one-more-requires : tie.Need-one-more-requires Inv-loop μ-loop
-one-more-requires c κs =
+count-leaving-requires : tie.Need-count-leaving-requires Inv-loop μ-loop
+count-leaving-requires c κs =
     let l = c .before .before .before .before .before .before .before .before .before in
     let s = l .before .before .before .before .before .before in
     can-count _ _ _ (s .pre .0) (s .pre .1) (l .loop .inv .1)
@@ -105,4 +105,4 @@ returns c =
 pub close-items-spec : {M : Type 1} → statement M
 close-items-spec =
     tie.close
-    (tie.spec Inv-loop μ-loop (λ c κs. search needs) (λ c κs. search needs) loop-holds item-at-requires close-kind-requires (λ c κs. search needs) put-item-requires (λ c. omega arith) (λ c. omega (arith, room c .0)) (λ c. omega (arith, room c .1)) (λ c. let r = room c in search needs) (λ c. let r = room c in search needs) write-notice-requires one-more-requires (λ c. omega arith) (λ c. omega arith) loop-again keep-first-requires same-length same-length-2 returns)
+    (tie.spec Inv-loop μ-loop (λ c κs. search needs) (λ c κs. search needs) loop-holds item-at-requires close-kind-requires (λ c κs. search needs) put-item-requires (λ c. omega arith) (λ c. omega (arith, room c .0)) (λ c. omega (arith, room c .1)) (λ c. let r = room c in search needs) (λ c. let r = room c in search needs) write-notice-requires count-leaving-requires (λ c. omega arith) (λ c. omega arith) loop-again keep-first-requires same-length same-length-2 returns)

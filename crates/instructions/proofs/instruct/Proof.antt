@@ -5,11 +5,11 @@ use borrow.Author.Needs.{needs}
 use lib.ListN.{length}
 use Rattle.rulebook.specs.Matching.{pairsWith}
 use Rattle.rulebook.specs.declared.Item.{Item}
-use Rattle.words.specs.declared.Found.the-variants.{At, Nothing}
+use Rattle.words.specs.declared.Found.the-variants.{At}
 use Rattle.book.specs.Meaning.{ledgerOf}
-use Rattle.instructions.specs.Search.{placeIn}
-use Rattle.instructions.proofs.Search.{found}
-use Rattle.instructions.proofs.Arriving.{limit, arriving, place, pair-room, pair-made, alone-room, alone-made}
+use Rattle.search.specs.Place.{placeIn}
+use Rattle.search.proofs.Laws.{found-passes}
+use Rattle.instructions.proofs.Arriving.{arriving, place, pair-room, pair-made, alone-room, alone-made}
 use Rattle.instructions.proofs.instruct.Statement.{statement}
 use Rattle.instructions.proofs.instruct.Tie as tie
 
@@ -27,7 +27,7 @@ at : (c : tie.After-found) → let a = c .before .before .before .before .before
 at c = placed (c .before .before) ∙ c .found .given .1
 
 waits-there : (c : tie.After-found) → c .found .given .0 .0 < length (ledgerOf (c .before .before .before .before .before .before .before .before .args .book .now) .waiting)
-waits-there c = found _ _ _ (at c) .0
+waits-there c = found-passes _ _ _ (at c) .inside
 
 item-at-requires : tie.Need-item-at-requires
 item-at-requires c κs = (c .before .before .before .before .before .before .before .before .before .before .pre .0 .kept .stored, waits-there (c .before .before))
@@ -56,14 +56,14 @@ returns c =
     let f = i .before .before .before in
     let s = f .before .before .before .before .before .before .before .before in
     pair-made (s .args .book .now) (s .args .order) _ _ _ _ _ _ _ (at f) (i .item-at .ensures) (f .before .before .before .before .before .item-of .ensures) (p .before .pair-of .ensures)
-    (r .remove .ensures) (p .push .ensures) (c .no-counts .ensures)
+    (r .remove .ensures) (p .push .ensures) (c .counts-of .ensures)
 
 returns-2 : tie.Need-returns-2
 returns-2 c =
     let p = c .before .before .before in
     let f = p .before .before .before .before in
     let s = f .before .before .before .before .before .before in
-    alone-made (s .args .book .now) (s .args .order) (s .pre .0) (placed f ∙ p .before .before .enum-told .given .1) _ _ _ (f .before .before .before .item-of .ensures) (p .push2 .ensures) (c .no-counts2 .ensures)
+    alone-made (s .args .book .now) (s .args .order) (s .pre .0) (placed f ∙ p .before .before .enum-told .given .1) _ _ _ (f .before .before .before .item-of .ensures) (p .push2 .ensures) (c .counts-of2 .ensures)
 
 pub instruct-spec : {M : Type 1} → statement M
 instruct-spec =

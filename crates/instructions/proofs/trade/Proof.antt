@@ -1,5 +1,5 @@
 -- `instructions::trade` meets its contract. Assumes nothing.
-use mathlib.Core.Path.{ap, _∙_}
+use mathlib.Core.Path.{ap}
 use mathlib.Core.List.{[], _∷_, _++_}
 use borrow.Author.Needs.{needs}
 use Rattle.rulebook.specs.Ledger.{putWaiting}
@@ -23,7 +23,7 @@ returns c =
     let b = ledgerOf (s .args .book .now) in
     silent-handled _ _ _
     (means-so _ _ _ (p .push .ensures) (ap (λ (i : Item). putWaiting (b .waiting ++ (i ∷ [])) b) (p .before .item-of .ensures)))
-    (c .no-counts .ensures)
+    (c .counts-of .ensures)
 
 pub trade-spec : {M : Type 1} → statement M
 trade-spec = tie.close (tie.spec (λ c κs. search needs) push-requires (λ c κs. search needs) (λ c. search needs) returns)

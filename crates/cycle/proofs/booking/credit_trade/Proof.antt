@@ -1,10 +1,8 @@
 -- `cycle::booking::credit_trade` meets its contract. Assumes nothing.
-use mathlib.Core.List.{List}
-use mathlib.Core.Path.{_≡_, sym, ap, subst, _∙_}
-use Prim.Native.Nat.{ℕ, _+_, _^_, _<_}
+use mathlib.Core.Path.{sym, ap, subst}
 use native.Mathlib.Omega.{arith}
 use borrow.Author.Needs.{needs}
-use Rattle.rulebook.specs.Ledger.{Holdings, Ledger, putBalance, putHoldings}
+use Rattle.rulebook.specs.Ledger.{Holdings, putBalance, putHoldings}
 use Rattle.rulebook.specs.Movements.{account, cashOf, credit, credits}
 use Rattle.rulebook.specs.Cycle.{buyer, legs}
 use Rattle.rulebook.specs.declared.Account.{Account}

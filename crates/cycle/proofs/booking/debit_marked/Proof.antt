@@ -2,15 +2,15 @@
 use mathlib.Core.List.{List}
 use mathlib.Core.Logic.{⊎-elim}
 use mathlib.Core.Path.{_≡_, sym, ap, subst, _∙_}
-use Prim.Native.Nat.{ℕ, _+_, _-_, _≤_, _<_}
+use Prim.Native.Nat.{_+_, _-_, _≤_, _<_}
 use native.Mathlib.Omega.{arith}
 use borrow.Author.Needs.{needs}
 use lib.ListN.{length}
 use Rattle.rulebook.specs.Ledger.{Holdings}
 use Rattle.rulebook.specs.declared.Item.{Item}
 use Rattle.book.specs.Meaning.{ledgerOf}
-use Rattle.cycle.specs.Marks.{noItem, itemIn, isOn}
-use Rattle.cycle.specs.Ready.{CanDebit}
+use Rattle.netting.specs.Marks.{noItem, itemIn}
+use Rattle.cycle.specs.Booking.{CanDebit}
 use Rattle.cycle.proofs.Walking.{Debited, holdings-now, waiting-now, can-debit, debit-start, debit-off, debit-on, debit-done}
 use Rattle.cycle.proofs.booking.debit_marked.Statement.{statement}
 use Rattle.cycle.proofs.booking.debit_marked.Tie as tie

@@ -1,9 +1,9 @@
 -- `cycle::booking::debit_trade` meets its contract. Assumes nothing.
-use mathlib.Core.Path.{_≡_, sym, ap, subst, _∙_}
-use Prim.Native.Nat.{ℕ, _≤_}
+use mathlib.Core.Path.{sym, ap, subst}
+use Prim.Native.Nat.{_≤_}
 use native.Mathlib.Omega.{arith}
 use borrow.Author.Needs.{needs}
-use Rattle.rulebook.specs.Ledger.{Holdings, Ledger, putBalance, putHoldings}
+use Rattle.rulebook.specs.Ledger.{Holdings, putBalance, putHoldings}
 use Rattle.rulebook.specs.Movements.{account, cashOf, debit, debits}
 use Rattle.rulebook.specs.Cycle.{seller, legs}
 use Rattle.rulebook.specs.declared.Account.{Account}

@@ -1,14 +1,13 @@
 -- `cycle::leaving::leave_marked` meets its contract. The invariant: the first j items are those of the first i without a mark. Assumes nothing.
-use mathlib.Core.List.{List}
 use mathlib.Core.Logic.{⊎-elim}
-use mathlib.Core.Path.{_≡_, sym, _∙_}
-use Prim.Native.Nat.{ℕ, _+_, _-_, _≤_, _<_}
+use mathlib.Core.Path.{sym, _∙_}
+use Prim.Native.Nat.{_-_, _≤_, _<_}
 use native.Mathlib.Omega.{arith}
 use borrow.Author.Needs.{needs}
 use borrow.Author.Tests.{not-true, not-false}
 use lib.ListN.{length}
 use Rattle.book.specs.Meaning.{ledgerOf}
-use Rattle.cycle.specs.Marks.{noItem}
+use Rattle.netting.specs.Marks.{noItem}
 use Rattle.cycle.proofs.Staying.{Staying, staying-none, staying-off, staying-on, staying-done}
 use Rattle.cycle.proofs.leaving.leave_marked.Statement.{statement}
 use Rattle.cycle.proofs.leaving.leave_marked.Tie as tie

@@ -1,6 +1,6 @@
 -- `cycle::postings::write_marked` meets its contract. The invariant: the rows of the marked ones of the first i items stand before the next free byte.
 -- Assumes nothing.
-use mathlib.Core.List.{List, [], _∷_}
+use mathlib.Core.List.{List}
 use mathlib.Core.Logic.{⊎-elim}
 use mathlib.Core.Path.{_≡_, sym, subst, _∙_}
 use Prim.Native.Nat.{ℕ, _+_, _-_, _≤_, _<_}
@@ -8,10 +8,9 @@ use native.Mathlib.Omega.{arith}
 use borrow.Author.Needs.{needs}
 use lib.ListN.{length, take, drop, length-drop}
 use lib.Seq.{length-take-le}
-use Rattle.rulebook.specs.declared.Item.{Item}
 use Rattle.rows.specs.Widths.{TradeFits}
 use Rattle.book.specs.Meaning.{ledgerOf}
-use Rattle.cycle.specs.Marks.{noItem, itemIn, isOn}
+use Rattle.netting.specs.Marks.{noItem}
 use Rattle.cycle.proofs.Writing.{trade-fits, Written, written-none, written-fits, written-long, written-off, written-on, written-done}
 use Rattle.cycle.proofs.postings.write_marked.Statement.{statement}
 use Rattle.cycle.proofs.postings.write_marked.Tie as tie

@@ -1,0 +1,58 @@
+-- Demand 3 of the code's own books: from the rulebook's theorem, and from what `fresh` and `call` promise. Assumes nothing.
+use Prim.Native.Nat.{ℕ}
+use mathlib.Core.Path.{_≡_, refl, sym, ap, subst, _∙_}
+use mathlib.Core.Bool.{true}
+use mathlib.Core.List.{List, [], _∷_, _++_}
+use Rattle.rulebook.specs.Ledger.{Ledger, fresh}
+use Rattle.rulebook.specs.Call.{Result, callOf}
+use Rattle.rulebook.specs.Calls.{Call, call, Made, resultOf, callsOn, bookAfter, Balanced, Demand3}
+use Rattle.rulebook.specs.declared.Answer.{Answer}
+use Rattle.rulebook.proofs.Demand3.{demand3}
+use Rattle.book.specs.Meaning.{ledgerOf}
+use Rattle.book.specs.Stored.{Kept}
+use Rattle.book.proofs.Zeros.{zeros-mean, zeros-kept}
+use Rattle.ledger.specs.Called.{Called}
+use Rattle.ledger.specs.Reached.{Reached, made, called}
+
+-- a list of calls with one more
+calls-more : (b : Ledger) (cs : List Call) (c : Call) → callsOn b (cs ++ (c ∷ [])) ≡ callsOn b cs ++ (record { made = c; answer = resultOf (bookAfter b cs) c .answer; area = resultOf (bookAfter b cs) c .area } ∷ [])
+unfolding callsOn bookAfter
+calls-more b [] c = refl
+calls-more b (d ∷ cs) c = ap (λ (l : List Made). record { made = d; answer = resultOf b d .answer; area = resultOf b d .area } ∷ l) (calls-more (resultOf b d .book) cs c)
+
+after-more : (b : Ledger) (cs : List Call) (c : Call) → bookAfter b (cs ++ (c ∷ [])) ≡ resultOf (bookAfter b cs) c .book
+unfolding bookAfter
+after-more b [] c = refl
+after-more b (d ∷ cs) c = after-more (resultOf b d .book) cs c
+
+-- a book that was reached means what the rulebook's calls lead to
+pub record Follows (book : List ℕ) (history : List Made) : Type 0 where
+  pub calls : List Call
+  pub kept : Kept book
+  pub ledger : ledgerOf book ≡ bookAfter fresh calls
+  pub made : history ≡ callsOn fresh calls
+
+pub follows : {book : List ℕ} {history : List Made} → Reached book history → Follows book history
+unfolding bookAfter callsOn resultOf
+follows (made {book = book} f) =
+    let e = f .fresh refl in
+    record { calls = []; kept = subst Kept (sym e) zeros-kept; ledger = ap ledgerOf e ∙ zeros-mean .ledger; made = refl }
+follows (called {book} {book′} {history} octets area {answer} {area′} r c) =
+    let before = follows r in
+    let at : Ledger → Result = λ (b : Ledger). callOf b octets area in
+    record {
+      calls = before .calls ++ (call octets area ∷ []);
+      kept = c .kept;
+      ledger = c .ledger ∙ ap (λ (b : Ledger). callOf b octets area .book) (before .ledger) ∙ sym (after-more fresh (before .calls) (call octets area));
+      made =
+          ap (λ (h : List Made). h ++ (record { made = call octets area; answer = answer; area = area′ } ∷ [])) (before .made)
+          ∙ (λ i. callsOn fresh (before .calls) ++ (record { made = call octets area; answer = (c .answered ∙ ap (λ (b : Ledger). callOf b octets area .answer) (before .ledger)) i; area = (c .written ∙ ap (λ (b : Ledger). callOf b octets area .area) (before .ledger)) i } ∷ []))
+          ∙ sym (calls-more fresh (before .calls) (call octets area));
+    }
+
+-- DEMAND 3 OF THE CODE'S OWN BOOKS
+pub reached-balanced : {book : List ℕ} {history : List Made} → Reached book history → Balanced history (ledgerOf book)
+unfolding Demand3
+reached-balanced {book} {history} r =
+    let f = follows r in
+    subst (λ (h : List Made). Balanced h (ledgerOf book)) (sym (f .made)) (subst (Balanced (callsOn fresh (f .calls))) (sym (f .ledger)) (demand3 (f .calls)))

@@ -1,0 +1,3 @@
+pub mod Calls
+pub mod ByForm
+pub mod Demand3

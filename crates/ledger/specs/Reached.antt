@@ -1,0 +1,17 @@
+-- Books that came from the fresh one by calls, with what was called and answered.
+use Prim.Native.Nat.{ℕ}
+use mathlib.Core.Bool.{true}
+use mathlib.Core.List.{List, [], _∷_, _++_}
+use mathlib.Core.Path.{_≡_}
+use Rattle.rulebook.specs.Calls.{Call, call, Made}
+use Rattle.rulebook.specs.declared.Answer.{Answer}
+use Rattle.book.specs.Zeros.{Freshened}
+use Rattle.ledger.specs.Called.{Called}
+
+pub data Reached : List ℕ → List Made → Type 0 where
+  -- the words that `fresh` made
+  made : {before book : List ℕ} → Freshened before true book → Reached book []
+  -- the words that `call` left, with the call, its answer and its area when it returned
+  called :
+      {book book′ : List ℕ} {history : List Made} (octets area : List ℕ) {answer : Answer} {area′ : List ℕ} → Reached book history → Called book octets area answer book′ area′
+      → Reached book′ (history ++ (record { made = call octets area; answer = answer; area = area′ } ∷ []))

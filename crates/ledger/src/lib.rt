@@ -1,0 +1,123 @@
+// The depository ledger: a fresh book, one call, and what a security's accounts hold.
+ghost use mathlib.Core.Path.{_≡_};
+ghost use Rattle.rulebook.specs.Ledger as Ledger;
+ghost use Rattle.rulebook.specs.Record.{readNumber};
+ghost use Rattle.rulebook.specs.Forms.{effect};
+ghost use Rattle.book.specs.Meaning.{ledgerOf};
+ghost use Rattle.book.specs.Stored.{Stored, Kept, Means};
+ghost use Rattle.book.specs.Zeros.{Freshened};
+ghost use Rattle.book.specs.Handled.{Accepted, Handled};
+ghost use Rattle.ledger.specs.Called.{Called};
+ghost use Rattle.rulebook.specs.Call.{putMinute};
+use rulebook::Answer;
+use rulebook::Counts;
+use rulebook::Day;
+use rulebook::Order;
+use rulebook::Read;
+use rulebook::Shares;
+
+// A fresh book, in a buffer of 1771 words. The answer says whether the buffer has that length; another one is left as it is.
+pub fn fresh(book: &mut [u64]) -> bool
+    ensures { λ r. ⌜ Freshened (now (book .entry)) r (now (book .exit)) ⌝ }
+{
+    book::fresh(book)
+}
+
+// What a security's accounts hold.
+pub fn held(book: &[u64], security: u64) -> Shares
+    requires { ⌜ Kept (now book) ⌝ }
+    ensures { λ r. ⌜ r .0 ≡ Ledger.held security (ledgerOf (now (book .entry)) .holdings) ⌝ }
+{
+    book::held(book, security)
+}
+
+// What an accepted order does, by its form.
+fn handle(book: &mut [u64], order: Order, area: &mut [u8]) -> Counts
+    requires { ⌜ Accepted (now book) order (now area) ⌝ }
+    ensures { λ r. ⌜ Handled (effect (ledgerOf (now (book .entry))) order) (now (book .exit)) (now (area .entry)) (now (area .exit)) r ⌝ }
+{
+    let form = order.form;
+    if form == 1 {
+        return forms::open_day(book, order);
+    }
+    if form == 2 {
+        return forms::admit(book, order, area);
+    }
+    if form == 3 {
+        return forms::deposit(book, order, area);
+    }
+    if form == 4 {
+        return forms::withdraw(book, order, area);
+    }
+    if form <= 9 {
+        return forms::transfer(book, order, area);
+    }
+    if form == 10 {
+        return forms::pay_in(book, order, area);
+    }
+    if form == 11 {
+        return forms::pay_out(book, order, area);
+    }
+    if form <= 13 {
+        return instructions::instruct(book, order);
+    }
+    if form == 14 {
+        return instructions::trade(book, order);
+    }
+    if form == 15 {
+        return instructions::cancel(book, order, area);
+    }
+    if form == 16 {
+        return cycle::run(book, area);
+    }
+    instructions::close(book, order, area)
+}
+
+// Every accepted call sets the last minute.
+fn put_minute(book: &mut [u64], minute: u64)
+    requires { ⌜ Stored (now book) ⌝ }
+    ensures { λ u. ⌜ Means (now (book .exit)) (putMinute minute (ledgerOf (now (book .entry)))) ⌝ }
+{
+    let day = book::day(book);
+    book::put_day(
+        book,
+        Day {
+            number: day.number,
+            opened: day.opened,
+            kind: day.kind,
+            cycles: day.cycles,
+            minute: minute,
+        },
+    );
+}
+
+// This paper's number for what the reader answers.
+fn number_of(read: Read) -> u64
+    ensures { λ r. ⌜ r ≡ readNumber read ⌝ }
+{
+    match read {
+        Read::Order(_) => 0,
+        Read::Refused(number) => number,
+    }
+}
+
+// One call: a record and a lent area, on a book.
+pub fn call(book: &mut [u64], record: &[u8], area: &mut [u8]) -> Answer
+    requires { ⌜ Kept (now book) ⌝ }
+    ensures { λ r. ⌜ Called (now (book .entry)) (now («record» .entry)) (now (area .entry)) r (now (book .exit)) (now (area .exit)) ⌝ }
+{
+    if area.len() < 4096 {
+        return Answer::Refused(1);
+    }
+    let read = record::read(record);
+    let Read::Order(order) = read else {
+        return Answer::Refused(number_of(read));
+    };
+    let refusal = refusals::first_refusal(book, order);
+    if refusal != 0 {
+        return Answer::Refused(refusal);
+    }
+    let counts = handle(book, order, area);
+    put_minute(book, order.minute);
+    Answer::Accepted(counts)
+}

@@ -1,0 +1,251 @@
+-- The rounds as code runs them: the marks, and beside them the figures of every item. Assumes nothing.
+use Prim.Native.Nat.{ℕ, zero, suc, _+_, _-_, _^_, _≤_, _<_}
+use native.Mathlib.Omega.{arith}
+use mathlib.Core.Bool.{Bool, true, false, not, _&&_, _||_}
+use mathlib.Core.List.{List}
+use mathlib.Core.Logic.{_≢_}
+use mathlib.Core.Path.{_≡_, refl, sym, ap, subst, _∙_}
+use borrow.Author.Tests.{eq-eqb, ne-eqb, eqb-true, eqb-false, ltb-true, ltb-false}
+use lib.ListN.{length, getD, set}
+use Rattle.rulebook.specs.Lists.{if_then_else_, _is_, _isNot_, _below_}
+use Rattle.rulebook.specs.Ledger.{Ledger, sameAccount, sumBelow}
+use Rattle.rulebook.specs.Premise.{CashFits}
+use Rattle.rulebook.specs.Cycle.{Marked, seller, buyer, over, bringsShares, takesShares, bringsCash, takesCash, sharesBrought, sharesTaken, cashBrought, cashTaken, sharesMissing, cashMissing, debitsShort, anyShort, dropLast, rounds}
+use Rattle.rulebook.specs.declared.Item.{Item}
+use Rattle.words.specs.declared.Found.the-variants.{At, Nothing}
+use Rattle.words.proofs.Places.{from-get, from-set, length-from}
+use Rattle.words.proofs.Sums.{sum-change}
+use Rattle.rulebook.proofs.Lists.{both}
+use Rattle.accounts.proofs.Keys.{key-test}
+use Rattle.netting.specs.Marks.{itemIn, isOn, markedOf, countOn}
+use Rattle.netting.specs.Figures.{hasAt, owesAt, brings, takes, bringsAll, takesAll, Figures, Cover, RoomAll, shortAt, lastShort, cashKey}
+use Rattle.netting.specs.Filled.{ShareLegs, ShareStart, CashLegs, CashStart}
+use Rattle.netting.specs.Ready.{Ready}
+use Rattle.netting.proofs.Marking.{marking}
+use Rattle.netting.proofs.Netting.{Are, Small, Lined, lined-room, lined-start, lined-cover, lined-less}
+use Rattle.netting.proofs.Drops.{Last, last-at, last-none, last-same, noMark, at, none-at, some-at, drop-at, rounds-stop, rounds-step}
+
+-- ---- keys tell members' cash apart
+
+cash-test : (m c p d : ℕ) → CashFits m c → CashFits p d → (cashKey m c is cashKey p d) ≡ (m is p && c is d)
+cash-test m c p d f g = go (m is p) (c is d) refl refl
+  where
+    go : (x y : Bool) → (m is p) ≡ x → (c is d) ≡ y → (cashKey m c is cashKey p d) ≡ (x && y)
+    go true true e h = eq-eqb (cashKey m c) (cashKey p d) (omega (arith, eqb-true m p e, eqb-true c d h))
+    go true false e h = ne-eqb (cashKey m c) (cashKey p d) (λ s. eqb-false c d h (omega (arith, s, eqb-true m p e)))
+    go false y e h = ne-eqb (cashKey m c) (cashKey p d) (λ s. eqb-false m p e (omega (arith, s, f, g)))
+
+-- a test of figures is that of what is missing
+missing-test : (has owes : ℕ) → (has below owes) ≡ ((owes - has) isNot 0)
+missing-test has owes = go (has below owes) refl
+  where
+    go : (b : Bool) → (has below owes) ≡ b → b ≡ ((owes - has) isNot 0)
+    go true e = sym (ap not (ne-eqb (owes - has) 0 (λ z. omega (arith, z, ltb-true has owes e))))
+    go false e = sym (ap not (eq-eqb (owes - has) 0 (omega (arith, ltb-false has owes e))))
+
+if-most : (t : Bool) (q : ℕ) → q < 2 ^ 40 → (if t then q else 0) < 2 ^ 40
+if-most true q l = l
+if-most false q l = omega arith
+
+pub count-most : (on : ℕ → Bool) (n : ℕ) → countOn on n ≤ n
+unfolding sumBelow
+count-most on zero = omega arith
+count-most on (suc n) = omega (arith, one (on n), count-most on n)
+  where
+    one : (x : Bool) → (if x then 1 else 0) ≤ 1
+    one true = omega arith
+    one false = omega arith
+
+module _ (b : Ledger) (r : Ready b) where
+  abbrev item : ℕ → Item
+  item k = itemIn b.waiting k
+
+  abbrev n : ℕ
+  n = length b.waiting
+
+  -- what an item brings to what the item at k debits, and what it takes from it
+  abbrev shareInto : ℕ → Item → ℕ
+  shareInto k t = bringsShares (seller (item k)) t
+
+  abbrev shareOut : ℕ → Item → ℕ
+  shareOut k t = takesShares (seller (item k)) t
+
+  abbrev shareHave : ℕ → ℕ
+  shareHave k = b.holdings.balance (seller (item k))
+
+  abbrev cashInto : ℕ → Item → ℕ
+  cashInto k t = bringsCash (item k .credited .member) (item k .currency) t
+
+  abbrev cashOut : ℕ → Item → ℕ
+  cashOut k t = takesCash (item k .credited .member) (item k .currency) t
+
+  abbrev cashHave : ℕ → ℕ
+  cashHave k = b.holdings.cash (item k .credited .member) (item k .currency)
+
+  share-are : (legs : List ℕ) → ShareLegs b.waiting legs → Are item n shareInto shareOut legs
+  unfolding bringsShares takesShares
+  share-are legs l = record {
+    brings-as = λ j k h g. rw (l .to-as j h, l .from-as k g, l .number-as j h, key-test (buyer (item j)) (seller (item k)) (r .bookable j h .buys) (r .bookable k g .sells));
+    takes-as = λ j k h g. rw (l .from-as j h, l .from-as k g, l .number-as j h, key-test (seller (item j)) (seller (item k)) (r .bookable j h .sells) (r .bookable k g .sells));
+  }
+
+  cash-are : (legs : List ℕ) → CashLegs b.waiting legs → Are item n cashInto cashOut legs
+  unfolding bringsCash takesCash
+  cash-are legs l = record {
+    brings-as = λ j k h g. rw (l .to-as j h, l .from-as k g, l .number-as j h, cash-test (item j .debited .member) (item j .currency) (item k .credited .member) (item k .currency) (r .bookable j h .paid) (r .bookable k g .pays));
+    takes-as = λ j k h g. rw (l .from-as j h, l .from-as k g, l .number-as j h, cash-test (item j .credited .member) (item j .currency) (item k .credited .member) (item k .currency) (r .bookable j h .pays) (r .bookable k g .pays));
+  }
+
+  share-small : (legs : List ℕ) → Small item n shareInto shareOut legs
+  unfolding bringsShares takesShares
+  share-small legs = record {
+    into-small = λ j k h g. if-most (sameAccount (buyer (item j)) (seller (item k))) _ (r .bookable j h .quantity);
+    out-small = λ j k h g. if-most (sameAccount (seller (item j)) (seller (item k))) _ (r .bookable j h .quantity);
+  }
+
+  cash-small : (legs : List ℕ) → Small item n cashInto cashOut legs
+  unfolding bringsCash takesCash
+  cash-small legs = record {
+    into-small = λ j k h g. if-most (item j .debited .member is item k .credited .member && item j .currency is item k .currency) _ (r .bookable j h .amount);
+    out-small = λ j k h g. if-most (item j .credited .member is item k .credited .member && item j .currency is item k .currency) _ (r .bookable j h .amount);
+  }
+
+  -- the marked legs can be added
+  pub share-room : (marks : ℕ) (legs figures : List ℕ) → ShareLegs b.waiting legs → ShareStart b figures → RoomAll n (isOn marks) legs figures
+  share-room marks legs figures l f = lined-room item n shareInto shareOut legs (share-are legs l) (isOn marks) shareHave figures f (r .size) (λ k h. r .balances _) (share-small legs)
+
+  pub cash-room : (marks : ℕ) (legs figures : List ℕ) → CashLegs b.waiting legs → CashStart b figures → RoomAll n (isOn marks) legs figures
+  cash-room marks legs figures l f = lined-room item n cashInto cashOut legs (cash-are legs l) (isOn marks) cashHave figures f (r .size) (λ k h. r .amounts _ _) (cash-small legs)
+
+  -- the marks and the figures after some rounds
+  pub record Running (due marks : ℕ) (shares cents held funds : List ℕ) : Type 0 where
+    pub share-legs : ShareLegs b.waiting shares
+    pub cash-legs : CashLegs b.waiting cents
+    pub held-lined : Lined item n shareInto shareOut shares shareHave (isOn marks) held
+    pub funds-lined : Lined item n cashInto cashOut cents cashHave (isOn marks) funds
+    -- no mark is new
+    pub fewer-on : countOn (isOn marks) n ≤ countOn (isOn due) n
+    -- there are as many rounds left as marks, or more
+    pub left : ℕ
+    pub enough : countOn (isOn marks) n ≤ left
+    pub same : rounds left b.holdings (markedOf marks b.waiting) ≡ rounds n b.holdings (markedOf due b.waiting)
+
+  mark-at : (on : ℕ → Bool) (k : ℕ) → k < n → getD (marking on item n) k noMark ≡ (on k, item k)
+  mark-at on k l = let z : 0 + k ≡ k = omega arith in from-get (λ i. (on i, item i)) 0 n k noMark l ∙ ap (λ (i : ℕ). (on i, item i)) z
+
+  mark-long : (on : ℕ → Bool) → length (marking on item n) ≡ n
+  mark-long on = length-from (λ i. (on i, item i)) 0 n
+
+  -- ---- before the first round
+
+  pub starts :
+      (due : ℕ) (shares cents held₀ funds₀ held funds : List ℕ) → ShareLegs b.waiting shares → CashLegs b.waiting cents → ShareStart b held₀ → CashStart b funds₀
+      → Figures n (λ k. hasAt held₀ k + bringsAll n (isOn due) shares k) (λ k. owesAt held₀ k + takesAll n (isOn due) shares k) held
+      → Figures n (λ k. hasAt funds₀ k + bringsAll n (isOn due) cents k) (λ k. owesAt funds₀ k + takesAll n (isOn due) cents k) funds
+      → Running due due shares cents held funds
+  starts due shares cents held₀ funds₀ held funds s c hs fs h f = record {
+    share-legs = s;
+    cash-legs = c;
+    held-lined = lined-start item n shareInto shareOut shares (share-are shares s) (isOn due) shareHave held₀ hs held h;
+    funds-lined = lined-start item n cashInto cashOut cents (cash-are cents c) (isOn due) cashHave funds₀ fs funds f;
+    fewer-on = omega arith;
+    left = n;
+    enough = count-most (isOn due) n;
+    same = refl;
+  }
+
+  module _ (due marks : ℕ) (shares cents held funds : List ℕ) (w : Running due marks shares cents held funds) where
+    abbrev ms : List Marked
+    ms = marking (isOn marks) item n
+
+    -- the code's test is the definition's
+    abbrev code : ℕ → Bool
+    code k = isOn marks k && (shortAt held k || shortAt funds k)
+
+    tested : (k : ℕ) → k < n → code k ≡ at (debitsShort b.holdings ms) ms k
+    unfolding debitsShort sharesMissing cashMissing sharesTaken sharesBrought cashTaken cashBrought
+    tested k l =
+        rw (
+          mark-at (isOn marks) k l,
+          w .held-lined .has-as k l,
+          w .held-lined .owes-as k l,
+          w .funds-lined .has-as k l,
+          w .funds-lined .owes-as k l,
+          missing-test (shareHave k + over (shareInto k) ms) (over (shareOut k) ms),
+          missing-test (cashHave k + over (cashInto k) ms) (over (cashOut k) ms),
+        )
+
+    -- ---- no one is short
+
+    pub stops : lastShort (isOn marks) held funds n ≡ Nothing → markedOf marks b.waiting ≡ rounds n b.holdings (markedOf due b.waiting)
+    unfolding markedOf anyShort
+    stops e =
+        let none = none-at (debitsShort b.holdings ms) ms (λ k l. let h : k < n = rw (mark-long (isOn marks)) at l in sym (tested k h) ∙ last-none code n e k h) in
+        sym (rounds-stop b.holdings ms (w .left) none) ∙ w .same
+
+    -- ---- the trade at j is the last that debits a short one
+
+    module _ (j : ℕ) (found : lastShort (isOn marks) held funds n ≡ At j) where
+      last : Last (at (debitsShort b.holdings ms) ms) n j
+      last = last-same _ _ n j tested (last-at code n j found)
+
+      pub inside : j < n
+      inside = last .inside
+
+      pub marked : isOn marks j ≡ true
+      marked = both (isOn marks j) _ (last-at code n j found .passed) .0
+
+      pub share-cover : Cover n shares j held
+      share-cover = lined-cover item n shareInto shareOut shares (share-are shares (w .share-legs)) (isOn marks) shareHave held (w .held-lined) j inside marked
+
+      pub cash-cover : Cover n cents j funds
+      cash-cover = lined-cover item n cashInto cashOut cents (cash-are cents (w .cash-legs)) (isOn marks) cashHave funds (w .funds-lined) j inside marked
+
+      module _ (now : ℕ) (flips : (k : ℕ) → k < 64 → isOn now k ≡ (if k is j then not (isOn marks j) else isOn marks k)) where
+        gone : isOn now j ≡ false
+        gone = flips j (omega (arith, inside, r .size)) ∙ rw (eq-eqb j j refl, marked)
+
+        others : (k : ℕ) → k < n → k ≢ j → isOn marks k ≡ isOn now k
+        others k l d = sym (flips k (omega (arith, r .size)) ∙ rw (ne-eqb k j d))
+
+        pub fewer : countOn (isOn now) n < countOn (isOn marks) n
+        fewer =
+            let s = sum-change n j (λ k. if isOn marks k then 1 else 0) (λ k. if isOn now k then 1 else 0) inside (λ k l d. ap (λ (x : Bool). if x then 1 else 0) (sym (others k l d))) in
+            let t = rw (gone, marked) at s in
+            omega (arith, t)
+
+        -- the marks without it are those of a round
+        dropped : marking (isOn now) item n ≡ dropLast (debitsShort b.holdings ms) ms
+        dropped =
+            let z : 0 + j ≡ j = omega arith in
+            let off : set ms j (isOn now (0 + j), item (0 + j)) ≡ set ms j (false, getD ms j noMark .1) =
+            ap (λ (m : Marked). set ms j m) (ap (λ (k : ℕ). (isOn now k, item k)) z ∙ ap (λ (x : Bool). (x, item j)) gone ∙ ap (λ (m : Marked). (false, m .1)) (sym (mark-at (isOn marks) j inside)))
+            in
+            from-set (λ k. (isOn marks k, item k)) (λ k. (isOn now k, item k)) 0 n j inside
+            (λ k l d. let y : 0 + k ≡ k = omega arith in rw y (ap (λ (x : Bool). (x, item k)) (sym (others k l d))))
+            ∙ off
+            ∙ sym (drop-at (debitsShort b.holdings ms) ms j (subst (λ (x : ℕ). Last (at (debitsShort b.holdings ms) ms) x j) (sym (mark-long (isOn marks))) last))
+
+        short : anyShort b.holdings ms ≡ true
+        unfolding anyShort
+        short = some-at (debitsShort b.holdings ms) ms j (rw (mark-long (isOn marks)) inside) (last .passed)
+
+        next : rounds (w .left - 1) b.holdings (markedOf now b.waiting) ≡ rounds (w .left) b.holdings (markedOf marks b.waiting)
+        unfolding markedOf
+        next =
+            let more : suc (w .left - 1) ≡ w .left = omega (arith, w .enough, fewer) in
+            ap (rounds (w .left - 1) b.holdings) dropped ∙ sym (rounds-step b.holdings ms (w .left - 1) short) ∙ ap (λ (x : ℕ). rounds x b.holdings ms) more
+
+        pub runs-on :
+            (held′ funds′ : List ℕ) → Figures n (λ k. hasAt held k - brings shares j k) (λ k. owesAt held k - takes shares j k) held′
+            → Figures n (λ k. hasAt funds k - brings cents j k) (λ k. owesAt funds k - takes cents j k) funds′ → Running due now shares cents held′ funds′
+        runs-on held′ funds′ h f = record {
+          share-legs = w .share-legs;
+          cash-legs = w .cash-legs;
+          held-lined = lined-less item n shareInto shareOut shares (share-are shares (w .share-legs)) (isOn marks) shareHave held (w .held-lined) j inside marked (isOn now) gone others held′ h;
+          funds-lined = lined-less item n cashInto cashOut cents (cash-are cents (w .cash-legs)) (isOn marks) cashHave funds (w .funds-lined) j inside marked (isOn now) gone others funds′ f;
+          fewer-on = omega (arith, w .fewer-on, fewer);
+          left = w .left - 1;
+          enough = omega (arith, w .enough, fewer);
+          same = next ∙ w .same;
+        }

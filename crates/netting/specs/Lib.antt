@@ -1,0 +1,10 @@
+-- Which of the taken trades settle.
+-- marks on the waiting list
+pub mod Marks
+-- legs and figures in columns, and those of the waiting items
+pub mod Figures
+pub mod Filled
+-- what the cycle needs of a ledger
+pub mod Ready
+-- what its rounds leave
+pub mod Netted
