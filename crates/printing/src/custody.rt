@@ -15,7 +15,7 @@ fn put_security(out: &mut [u8], at: usize, book: &[u64], i: usize) -> usize
     ensures { λ r. ⌜ r ≤ at + 112 ⌝ }
 {
     let security = book::security_at(book, i);
-    let held = book::held(book, security.code);
+    let held = ledger::held(book, security.code);
     lines::put_custody_line(out, at, security, held)
 }
 

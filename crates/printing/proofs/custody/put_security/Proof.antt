@@ -1,16 +1,8 @@
 -- `printing::custody::put_security` meets its contract: the line is that of the security at `i` and of its held count. Assumes nothing.
 use borrow.Author.Needs.{needs}
-use native.Mathlib.Omega.{arith}
-use Rattle.rulebook.proofs.Bounds.{held-fits}
 use Rattle.printing.specs.Printed.{custodyOf}
 use Rattle.printing.proofs.custody.put_security.Statement.{statement}
 use Rattle.printing.proofs.custody.put_security.Tie as tie
-
-held-requires : tie.Need-held-requires
-held-requires c κs =
-    let kept = c .before .before .before .pre .0 in
-    let fits = held-fits _ (kept .premise) (c .security-at .result .code) in
-    (kept .stored, omega arith)
 
 returns : tie.Need-returns
 unfolding custodyOf
@@ -20,4 +12,4 @@ returns c =
     (λ d. rw (← security d, ← held) (c .before .before .put-custody-line .ensures .0), c .before .before .put-custody-line .ensures .1)
 
 pub put-security-spec : {M : Type 1} → statement M
-put-security-spec = tie.close (tie.spec (λ c κs. search needs) held-requires (λ c κs. search needs) (λ c. search needs) returns)
+put-security-spec = tie.close (tie.spec (λ c κs. search needs) (λ c κs. search needs) (λ c κs. search needs) (λ c. search needs) returns)
