@@ -1,0 +1,230 @@
+#!/usr/bin/env python3
+"""Writes record files for the printing program, and what it is to print of them.
+
+    records.py paper           the records of document 01, "Printing program"
+    records.py every           every form accepted, and every refusal from 2 to 18
+    records.py paper printed   what the program prints of them
+    records.py every printed
+
+Each entry is a record, named as the paper names it, with the answer and the rows that the paper gives it.
+"""
+import sys
+
+WIDTHS = {
+    "form": 5, "minute": 11, "security": 14, "currency": 2,
+    "debited_member": 10, "debited_type": 8, "credited_member": 10, "credited_type": 8,
+    "debited_shareholder": 30, "credited_shareholder": 30, "quantity": 40, "amount": 40,
+    "trade_day": 16, "settlement_day": 16, "reference": 32, "spare": 48,
+}
+MOST = 2**40 - 1
+USD = 1
+
+
+def record(**fields):
+    """Fields packed without gaps, most significant bit first."""
+    bits = 0
+    for name, width in WIDTHS.items():
+        bits = bits << width | fields.pop(name, 0)
+    assert not fields, fields
+    return bits.to_bytes(40, "big")
+
+
+def side(name, party):
+    """The debited or the credited member, type and shareholder."""
+    return {f"{name}_{part}": value for part, value in zip(("member", "type", "shareholder"), party)}
+
+
+def open_day(minute, kind):
+    return record(form=1, minute=minute, quantity=kind)
+
+
+def admit(minute, security, quantity):
+    return record(form=2, minute=minute, security=security, quantity=quantity)
+
+
+def deposit(minute, security, quantity, to, **more):
+    return record(form=3, minute=minute, security=security, quantity=quantity, **side("credited", to), **more)
+
+
+def withdraw(minute, security, quantity, of):
+    return record(form=4, minute=minute, security=security, quantity=quantity, **side("debited", of))
+
+
+def move(form, minute, quantity, of, to, settlement_day=1):
+    """Transfer 5, pledge 6, release 7, block 8, unblock 9, in security 101."""
+    return record(form=form, minute=minute, security=101, quantity=quantity, settlement_day=settlement_day,
+                  **side("debited", of), **side("credited", to))
+
+
+def pay_in(minute, member, amount):
+    return record(form=10, minute=minute, currency=USD, credited_member=member, amount=amount)
+
+
+def pay_out(minute, member, amount):
+    return record(form=11, minute=minute, currency=USD, debited_member=member, amount=amount)
+
+
+def trade(form, minute, of, to, quantity, amount, days, reference):
+    """Deliver 12, receive 13, exchange trade 14, in security 101 and USD; a type that a form does not use is 0."""
+    return record(form=form, minute=minute, security=101, currency=USD, quantity=quantity, amount=amount,
+                  trade_day=days[0], settlement_day=days[1], reference=reference,
+                  **side("debited", of), **side("credited", to))
+
+
+def deliver(minute, quantity, amount, reference, days=(1, 1), of=(7, 20, 5), to=(8, 0, 5)):
+    return trade(12, minute, of, to, quantity, amount, days, reference)
+
+
+def receive(minute, quantity, amount, reference, days=(1, 1), of=(7, 0, 5), to=(8, 20, 5)):
+    return trade(13, minute, of, to, quantity, amount, days, reference)
+
+
+def exchange(minute, quantity, amount, reference, days=(1, 4), of=(7, 20, 5), to=(8, 20, 6)):
+    return trade(14, minute, of, to, quantity, amount, days, reference)
+
+
+def cancel(minute, sender, reference):
+    return record(form=15, minute=minute, debited_member=sender, reference=reference)
+
+
+def cycle(minute):
+    return record(form=16, minute=minute)
+
+
+def close(minute):
+    return record(form=17, minute=minute)
+
+
+def paper():
+    holder = (7, 20, 5)
+    return [
+        (open_day(470, 1), 0, 0),
+        (admit(500, 101, 1000), 0, 2),
+        (deposit(540, 101, 400, holder), 0, 2),
+        (withdraw(541, 101, 401, holder), 16, 0),
+    ]
+
+
+def day_and_reading():
+    return [
+        (admit(500, 101, 1000), 6, 0),  # no day is open
+        (open_day(481, 1), 9, 0),  # form 1 has until 480
+        (open_day(470, 3), 5, 0),  # there is no day kind 3
+        (open_day(470, 1), 0, 0),
+        (open_day(471, 1), 6, 0),  # a day is open
+        (record(form=0, minute=480), 3, 0),
+        (record(form=18, minute=480), 3, 0),
+        (deposit(540, 101, 400, (7, 20, 5), reference=1), 4, 0),  # a deposit has no reference
+        (record(form=16, minute=540, spare=1), 4, 0),  # the last 48 bits are zero
+        (deposit(540, 101, 0, (7, 20, 5)), 5, 0),
+        (cycle(1440), 5, 0),  # the day has 1,440 minutes
+        (close(500), 7, 0),  # no cycle has run
+    ]
+
+
+def holdings():
+    holder, other = (7, 20, 5), (8, 20, 5)
+    pledged, blocked = (7, 21, 5), (7, 22, 5)
+    return [
+        (admit(500, 101, 1000), 0, 2),
+        (admit(499, 102, 1000), 8, 0),  # before the last accepted call
+        (deposit(505, 101, 400, holder), 9, 0),  # deposits start at 510
+        (admit(505, 101, 1000), 10, 0),  # admitted already
+        (deposit(540, 999, 400, holder), 10, 0),  # never admitted
+        (deposit(540, 101, 400, (7, 21, 5)), 11, 0),  # 21 is no free type
+        (deposit(540, 101, 400, holder), 0, 2),
+        (deposit(541, 101, 601, holder), 16, 0),  # 600 are outside
+        (withdraw(541, 101, 401, holder), 16, 0),
+        (withdraw(542, 101, 50, holder), 0, 2),
+        (move(5, 543, 100, holder, other), 0, 2),
+        (move(5, 543, 100, holder, holder), 12, 0),  # both sides are one account
+        (move(5, 543, 100, holder, (8, 20, 6)), 12, 0),  # the shareholders differ
+        (move(5, 543, 100, holder, other, settlement_day=2), 13, 0),  # not today
+        (move(6, 544, 50, holder, pledged), 0, 2),
+        (move(6, 544, 50, (7, 110, 5), (7, 121, 5)), 11, 0),
+        (move(6, 544, 50, holder, (8, 21, 5)), 12, 0),  # the members differ
+        (move(7, 545, 20, pledged, holder), 0, 2),
+        (move(8, 546, 10, holder, blocked), 0, 2),
+        (move(9, 547, 10, blocked, holder), 0, 2),
+        (pay_in(548, 8, 500_000), 0, 2),
+        (pay_out(549, 8, 500_001), 16, 0),
+        (pay_out(549, 8, 1), 0, 2),
+    ]
+
+
+def trades():
+    return [
+        (deliver(560, 60, 60_000, 31), 0, 0),
+        (deliver(560, 10, 10_000, 31), 14, 0),  # 7 has 31 waiting
+        (deliver(560, 10, 10_000, 35, to=(7, 0, 5)), 12, 0),  # the members are equal
+        (deliver(560, 10, 10_000, 35, days=(1, 22)), 13, 0),  # more than 20 days on
+        (cancel(560, 7, 31), 15, 0),  # a single
+        (cancel(560, 7, 99), 14, 0),  # none such
+        (receive(561, 60, 61_000, 32), 0, 0),  # pairs with 31
+        (cancel(562, 7, 31), 0, 0),  # the first half
+        (cancel(562, 7, 31), 15, 0),  # marked already
+        (cancel(563, 8, 32), 0, 1),  # the second half
+        (deliver(564, 60, 60_000, 33), 0, 0),
+        (receive(565, 60, 61_000, 34), 0, 0),
+        (deliver(566, 10, 10_000, 35), 0, 0),  # waits for its close
+        (exchange(567, 5, 5_000, 41), 0, 0),
+        (exchange(567, 5, 5_000, 42, days=(1, 5)), 13, 0),  # not trade day + 3
+        (cycle(584), 9, 0),
+        (cycle(585), 0, 4),  # 33 and 34 settle
+        (cycle(705), 0, 0),
+        (cycle(825), 0, 0),
+        (deliver(826, 10, 10_000, 36), 9, 0),  # to settle today: until 825
+        (cycle(826), 7, 0),  # three have run
+    ]
+
+
+def full_tables():
+    securities = [(admit(830, code, 1), 0, 2) for code in range(102, 133)]
+    items = [(deliver(840, 1, 1_000, 100 + n, days=(1, 21)), 0, 0) for n in range(62)]
+    cash = [(pay_in(900, 1 + n % 64, MOST), 0, 2) for n in range(909)]
+    return [
+        *securities,
+        (admit(830, 133, 1), 18, 0),  # 32 are admitted
+        *items,
+        (deliver(840, 1, 1_000, 200, days=(1, 21)), 18, 0),  # 64 wait
+        *cash,
+        (pay_in(900, 1, MOST), 17, 0),  # the ceiling of the currency's total
+    ]
+
+
+def last_days():
+    tail = b"\x08" * 17
+    return [
+        (close(959), 9, 0),
+        (close(960), 0, 1),  # 35 is deleted
+        (open_day(400, 2), 0, 0),
+        (cycle(585), 0, 0),
+        (cycle(705), 0, 0),
+        (close(900), 0, 0),
+        (tail, 2, 0),  # a short tail is one record
+    ]
+
+
+def every():
+    return day_and_reading() + holdings() + trades() + full_tables() + last_days()
+
+
+# code, issued, held, outside of each security
+CUSTODY = {
+    paper: [(101, 1000, 400, 600)],
+    every: [(101, 1000, 350, 650)] + [(code, 1, 0, 1) for code in range(102, 133)],
+}
+
+
+def main(which, what="records"):
+    example = {"paper": paper, "every": every}[which]
+    if what == "printed":
+        for number, (_, answer, rows) in enumerate(example(), 1):
+            print(number, answer, rows)
+        for line in CUSTODY[example]:
+            print("CUSTODY %d ISSUED %d HELD %d OUTSIDE %d" % line)
+    else:
+        sys.stdout.buffer.write(b"".join(octets for octets, _, _ in example()))
+
+
+main(*sys.argv[1:])

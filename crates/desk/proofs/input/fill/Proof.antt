@@ -1,0 +1,39 @@
+-- `desk::input::fill` meets its contract. What is left of the buffer falls at each turn. Assumes nothing.
+use borrow.Author.Needs.{needs}
+use native.Mathlib.Omega.{arith}
+use mathlib.Core.Path.{_≡_}
+use Prim.Native.Nat.{_-_, _≤_}
+use lib.ListN.{length}
+use Rattle.desk.proofs.input.fill.Statement.{statement}
+use Rattle.desk.proofs.input.fill.Tie as tie
+
+abbrev Inv-loop : tie.InvT-loop
+Inv-loop input₀ done₀ input done = (done ≤ length input₀) × (length input ≡ length input₀)
+
+abbrev μ-loop : tie.MeasureT-loop
+μ-loop input₀ done₀ input done = length input₀ - done
+
+pub fill-spec : {M : Type 1} → statement M
+fill-spec =
+    tie.close
+    (tie.spec
+    Inv-loop
+    μ-loop
+    (λ c. search needs)
+    (λ c. search needs)
+    (λ c. search needs)
+    (λ c. search needs)
+    (λ c κs. search needs)
+    (λ c. search needs)
+    (λ c. search needs)
+    (λ c. search needs)
+    (λ c. search needs)
+    (λ c. search needs)
+    (λ c κs. search needs)
+    (λ c. search needs)
+    (λ c. search needs)
+    (λ c. search needs)
+    (λ c. search needs)
+    (λ c. search needs)
+    (λ c. search needs)
+    (λ c. search needs))

@@ -1,0 +1,2 @@
+-- The input buffer.
+pub mod Input

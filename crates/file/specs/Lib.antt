@@ -1,0 +1,2 @@
+-- A record file.
+pub mod Records

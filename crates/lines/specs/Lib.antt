@@ -1,0 +1,3 @@
+-- Texts, and the lines of the printing program.
+pub mod Text
+pub mod Lines

@@ -1,0 +1,35 @@
+// The custody lines of a book.
+ghost use mathlib.Core.Path.{_≡_};
+ghost use Prim.Native.Nat.{_+_, _≤_, _<_};
+ghost use lib.ListN.{length, getD};
+ghost use Rattle.rulebook.specs.declared.Security.{Security};
+ghost use Rattle.book.specs.Meaning.{ledgerOf};
+ghost use Rattle.book.specs.Stored.{Kept};
+ghost use Rattle.lines.specs.Text.{Put};
+ghost use Rattle.printing.specs.Printed.{custodyOf, custodyLines};
+
+// The line of the security at `i`.
+fn put_security(out: &mut [u8], at: usize, book: &[u64], i: usize) -> usize
+    requires { ⌜ Kept (now book) × (i < length (ledgerOf (now book) .holdings .securities)) × (at + 112 ≤ length (now out)) ⌝ }
+    ensures { λ r. ⌜ ((d : Security) → Put (now (out .entry)) at (custodyOf (ledgerOf (now (book .entry)) .holdings) (getD (ledgerOf (now (book .entry)) .holdings .securities) i d)) (now (out .exit)) r) ⌝ }
+    ensures { λ r. ⌜ r ≤ at + 112 ⌝ }
+{
+    let security = book::security_at(book, i);
+    let held = ledger::held(book, security.code);
+    lines::put_custody_line(out, at, security, held)
+}
+
+// Per security, in order of admission: at most 32 lines of at most 112 bytes.
+pub fn put_custody(out: &mut [u8], at: usize, book: &[u64]) -> usize
+    requires { ⌜ Kept (now book) × (at + 3584 ≤ length (now out)) ⌝ }
+    ensures { λ r. ⌜ Put (now (out .entry)) at (custodyLines (ledgerOf (now (book .entry)) .holdings)) (now (out .exit)) r ⌝ }
+{
+    let n = book::securities(book);
+    let mut next = at;
+    let mut i: usize = 0;
+    while i < n {
+        next = put_security(out, next, book, i);
+        i += 1;
+    }
+    next
+}
