@@ -4,10 +4,7 @@ ghost use mathlib.Core.Bool.{false};
 ghost use mathlib.Core.List.{_++_, _∷_, []};
 ghost use Prim.Native.Nat.{_+_, _^_, _≤_, _<_};
 ghost use lib.ListN.{length, getD, set, take};
-<<<<<<< HEAD
 ghost use Rattle.rulebook.specs.Ledger as Ledger;
-=======
->>>>>>> instructions
 ghost use Rattle.rulebook.specs.Ledger.{putDay, putHoldings, putWaiting, putSecurities, admitted, issuedOf, outsideOf, cashTotal};
 ghost use Rattle.rulebook.specs.Movements as movements;
 ghost use Rattle.rulebook.specs.Premise.{CashFits};
