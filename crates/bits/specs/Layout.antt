@@ -34,7 +34,7 @@ abbrev pub Spans : ℕ → List ℕ → Type 0
 Spans at [] = Unit
 Spans at (w ∷ ws) = (1 ≤ w) × (wholeBytes (at + w) ≤ at / 8 + 8) × Spans (at + w) ws
 
--- the values written one after the other
+-- the values written one after the other: what the proofs say of a loop that packs
 abbrev pub puts : List ℕ → ℕ → List ℕ → List ℕ → List ℕ
 puts ds at [] [] = ds
 puts ds at [] (v ∷ vs) = ds

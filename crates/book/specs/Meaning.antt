@@ -49,6 +49,7 @@ holdingsBy p =
       cash = amountOf (p CASH);
     }
 
+-- the same of the whole ledger, for the proofs: one region at a time is replaced
 abbrev pub ledgerBy : (ℕ → List ℕ) → Ledger
 ledgerBy p = record { day = dayIn (p DAY); holdings = holdingsBy p; waiting = itemsOf (p ITEMS) }
 

@@ -19,6 +19,6 @@ whole (w ∷ ws) = w + whole ws
 abbrev pub region : List ℕ → ℕ → List ℕ → List ℕ
 region ws r xs = take (getD ws r 0) (drop (startOf ws r) xs)
 
--- the buffer with ys in the place of region r
+-- the buffer with ys in the place of region r: what a lent region leaves, as the proofs say it
 abbrev pub putRegion : List ℕ → ℕ → List ℕ → List ℕ → List ℕ
 putRegion ws r xs ys = putMid (startOf ws r) (getD ws r 0) xs ys
