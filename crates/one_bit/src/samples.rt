@@ -1,4 +1,5 @@
 // A valid order of each form.
+ghost use mathlib.Core.Path.{_≡_};
 use rulebook::Cents;
 use rulebook::Order;
 use rulebook::Party;
@@ -24,7 +25,9 @@ fn order(
     trade_day: u64,
     settlement_day: u64,
     reference: u64,
-) -> Order {
+) -> Order
+    ensures { λ r. ⌜ (r .form ≡ form) × (r .minute ≡ 540) ⌝ }
+{
     Order {
         form,
         minute: 540,
@@ -40,7 +43,9 @@ fn order(
     }
 }
 
-pub fn sample(form: u64) -> Order {
+pub fn sample(form: u64) -> Order
+    ensures { λ r. ⌜ (r .form ≡ form) × (r .minute ≡ 540) ⌝ }
+{
     let nobody = party(0, 0, 0);
     let debited = party(7, 20, 5);
     let credited = party(8, 20, 5);
