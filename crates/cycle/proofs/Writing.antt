@@ -16,6 +16,7 @@ use Rattle.rulebook.proofs.RowCounts.{posting-length, legs-length}
 use Rattle.words.specs.Places.{listFrom}
 use Rattle.words.proofs.Sums.{sum-last}
 use Rattle.rows.specs.Widths.{TradeFits}
+use Rattle.rows.proofs.RowBytes.{rows-append}
 use Rattle.rows.proofs.Laws.{behind, movement-rows, trade-rows}
 use Rattle.netting.specs.Marks.{itemIn, isOn, markedOf, countOn, rowsOf}
 use Rattle.netting.specs.Ready.{Bookable}
@@ -33,11 +34,6 @@ trade-fits t k = record {
 
 abbrev bytes : List Item → List ℕ
 bytes ts = rowsBytes (postingRows (legs ts))
-
-rows-append : (xs ys : List Row) → rowsBytes (xs ++ ys) ≡ rowsBytes xs ++ rowsBytes ys
-unfolding rowsBytes
-rows-append [] ys = refl
-rows-append (x ∷ xs) ys = ap (λ (l : List ℕ). rowBytes x ++ l) (rows-append xs ys) ∙ sym (append-assoc (rowBytes x) (rowsBytes xs) (rowsBytes ys))
 
 postings-append : (xs ys : List Movement) → postingRows (xs ++ ys) ≡ postingRows xs ++ postingRows ys
 unfolding postingRows

@@ -27,7 +27,7 @@ use Rattle.book.specs.Handled.{Handled}
 use Rattle.book.proofs.Laws.{next}
 use Rattle.instructions.specs.Closing.{kept, notices, closeCounts, countedOne, CanCount, itemsClosed}
 use Rattle.instructions.proofs.Notices.{notice-fits}
-use Rattle.instructions.proofs.RowBytes.{rows-length, rows-append}
+use Rattle.rows.proofs.RowBytes.{rows-length, rows-append}
 use Rattle.instructions.proofs.Closing.{kind-most, kept-one, notices-same, counts-same, kept-same, notices-one, counted-one, rows-most, counted-most}
 
 module _ (day : ℕ) (start free : List ℕ) where

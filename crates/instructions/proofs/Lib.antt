@@ -3,6 +3,5 @@ pub mod Handling
 pub mod Arriving
 pub mod Notices
 pub mod Cancels
-pub mod RowBytes
 pub mod Closing
 pub mod Closed

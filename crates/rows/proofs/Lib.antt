@@ -1,2 +1,3 @@
 pub mod Laws
+pub mod RowBytes
 pub mod P2
