@@ -7,7 +7,7 @@ use Rattle.rulebook.specs.declared.Account.{Account}
 abbrev pub keyOf : Account → ℕ
 keyOf a = a.security * 2 ^ 48 + a.member * 2 ^ 38 + a.typ * 2 ^ 30 + a.shareholder
 
--- the security of a key
+-- the security of a key, by which the proofs sum what is held
 abbrev pub securityOf : ℕ → ℕ
 securityOf key = key / 2 ^ 48
 
