@@ -2,12 +2,14 @@
 ghost use mathlib.Core.Path.{_≡_};
 ghost use mathlib.Core.Bool.{false};
 ghost use mathlib.Core.List.{_++_, _∷_, []};
-ghost use Prim.Native.Nat.{_+_, _^_, _≤_, _<_};
+ghost use Prim.Native.Nat.{ℕ, _+_, _^_, _≤_, _<_};
 ghost use lib.ListN.{length, getD, set, take};
 ghost use Rattle.rulebook.specs.Ledger as Ledger;
 ghost use Rattle.rulebook.specs.Ledger.{putDay, putHoldings, putWaiting, putSecurities, admitted, issuedOf, outsideOf, cashTotal};
+ghost use Rattle.rulebook.specs.Matching.{pairsWith};
 ghost use Rattle.rulebook.specs.Movements as movements;
 ghost use Rattle.rulebook.specs.Premise.{CashFits};
+ghost use Rattle.rulebook.specs.Waiting.{sentBy};
 ghost use Rattle.words.specs.Places.{removeAt};
 ghost use Rattle.accounts.specs.Keys.{InRange};
 ghost use Rattle.accounts.specs.Map.{CreditFits};
@@ -134,6 +136,22 @@ pub fn item_at(book: &[u64], i: usize) -> Item
     ensures { λ r. ⌜ ((d : Item) → r ≡ getD (ledgerOf (now (book .entry)) .waiting) i d) ⌝ }
 {
     items::item_at(&book[ITEMS..END], i)
+}
+
+// Whether the item at `i` may wait under a reference: false where neither of its references is that one.
+pub fn may_bear(book: &[u64], i: usize, reference: u64) -> bool
+    requires { ⌜ Stored (now book) × (i < length (ledgerOf (now book) .waiting)) ⌝ }
+    ensures { λ r. ⌜ ((d : Item) (sender : ℕ) → r ≡ false → sentBy sender reference (getD (ledgerOf (now (book .entry)) .waiting) i d) ≡ false) ⌝ }
+{
+    items::may_bear(&book[ITEMS..END], i, reference)
+}
+
+// Whether the item at `i` may pair with one of that quantity: false where it is no single of that quantity.
+pub fn may_pair(book: &[u64], i: usize, quantity: Shares) -> bool
+    requires { ⌜ Stored (now book) × (i < length (ledgerOf (now book) .waiting)) ⌝ }
+    ensures { λ r. ⌜ ((d arriving : Item) (limit : ℕ) → arriving .quantity ≡ quantity → r ≡ false → pairsWith limit arriving (getD (ledgerOf (now (book .entry)) .waiting) i d) ≡ false) ⌝ }
+{
+    items::may_pair(&book[ITEMS..END], i, quantity)
 }
 
 // The item takes the place of the one at `i`.

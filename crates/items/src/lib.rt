@@ -1,8 +1,11 @@
 // The waiting list of a book, as 1025 words: how many items there are, and 64 rows of 16 words, in order of arrival.
 ghost use mathlib.Core.Path.{_≡_};
 ghost use mathlib.Core.List.{_++_, _∷_, []};
-ghost use Prim.Native.Nat.{_+_, _*_, _≤_, _<_};
+ghost use mathlib.Core.Bool.{false};
+ghost use Prim.Native.Nat.{ℕ, _+_, _*_, _≤_, _<_};
 ghost use lib.ListN.{length, getD, set, take};
+ghost use Rattle.rulebook.specs.Waiting.{sentBy};
+ghost use Rattle.rulebook.specs.Matching.{pairsWith};
 ghost use Rattle.words.specs.Places.{removeAt};
 ghost use Rattle.words.specs.Tables.{rows};
 ghost use Rattle.items.specs.Waiting.{Sized, stateOf, stateWords, itemOf, wordsOf, putRow, itemsOf};
@@ -111,6 +114,30 @@ pub fn item_at(items: &[u64], i: usize) -> Item
     let at = i * 16 + 1;
     let end = at + 16;
     item_of(&items[at..end])
+}
+
+// Whether the item at `i` may wait under a reference, by its words where they lie: false where neither of its references is that one.
+pub fn may_bear(items: &[u64], i: usize, reference: u64) -> bool
+    requires { ⌜ Sized (now items) × (i < rows (now items)) ⌝ }
+    ensures { λ r. ⌜ ((d : Item) (sender : ℕ) → r ≡ false → sentBy sender reference (getD (itemsOf (now (items .entry))) i d) ≡ false) ⌝ }
+{
+    let at = i * 16 + 1;
+    if reference == items[at + 13] {
+        return true;
+    }
+    reference == items[at + 14]
+}
+
+// Whether the item at `i` may pair with one of that quantity, by its words where they lie: false where it is no single of that quantity.
+pub fn may_pair(items: &[u64], i: usize, quantity: Shares) -> bool
+    requires { ⌜ Sized (now items) × (i < rows (now items)) ⌝ }
+    ensures { λ r. ⌜ ((d arriving : Item) (limit : ℕ) → arriving .quantity ≡ quantity → r ≡ false → pairsWith limit arriving (getD (itemsOf (now (items .entry))) i d) ≡ false) ⌝ }
+{
+    let at = i * 16 + 1;
+    if items[at + 8] != quantity.0 {
+        return false;
+    }
+    items[at + 12] == 0
 }
 
 // The item's words go into row `i`.

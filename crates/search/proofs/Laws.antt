@@ -1,7 +1,7 @@
 -- What a search finds, place by place, and what is known of what it found. Assumes nothing.
 use Prim.Native.Nat.{ℕ, zero, suc, _+_, _≤_, _<_}
-use mathlib.Core.Path.{_≡_, refl, sym, ap, _∙_}
-use mathlib.Core.Bool.{Bool, true, false, _||_}
+use mathlib.Core.Path.{_≡_, refl, sym, _∙_}
+use mathlib.Core.Bool.{Bool, true, false, not, _||_}
 use mathlib.Core.List.{List, [], _∷_}
 use native.Mathlib.Numerals.{add-one}
 use native.Mathlib.Omega.{arith}
@@ -14,23 +14,27 @@ use Rattle.search.specs.Place.{placeFrom, placeIn, isFound}
 
 -- ---- the loop: what is left of the list decides
 
-module _ {A : Type 0} (test : A → Bool) (l : List A) (i : ℕ) (h : i < length l) (x : A) (at : x ≡ getD l i x) where
-  next : placeFrom test i (drop i l) ≡ (if test x then At i else placeFrom test (i + 1) (drop (i + 1) l))
+module _ {A : Type 0} (test : A → Bool) (l : List A) (i : ℕ) (h : i < length l) (d : A) where
+  next : placeFrom test i (drop i l) ≡ (if test (getD l i d) then At i else placeFrom test (i + 1) (drop (i + 1) l))
   unfolding placeFrom
-  next = rw (add-one, drop-cons l i x h) (ap (λ (y : A). if test y then At i else placeFrom test (suc i) (drop (suc i) l)) (sym at))
+  next = rw (add-one, drop-cons l i d h) refl
 
   -- the one at i passes
-  pub place-here : test x ≡ true → placeFrom test i (drop i l) ≡ At i
+  pub place-here : test (getD l i d) ≡ true → placeFrom test i (drop i l) ≡ At i
   place-here e = next ∙ rw e
 
   -- the one at i does not pass
-  pub place-later : test x ≡ false → placeFrom test (i + 1) (drop (i + 1) l) ≡ placeFrom test i (drop i l)
+  pub place-later : test (getD l i d) ≡ false → placeFrom test (i + 1) (drop (i + 1) l) ≡ placeFrom test i (drop i l)
   place-later e = sym (next ∙ rw e)
 
 -- none is left
 pub place-none : {A : Type 0} (test : A → Bool) (l : List A) (i : ℕ) → length l ≤ i → placeFrom test i (drop i l) ≡ Nothing
 unfolding placeFrom
 place-none test l i h = rw (drop-of-length-le l h)
+
+pub not-true : (a : Bool) → not a ≡ true → a ≡ false
+not-true true e = sym e
+not-true false e = refl
 
 -- ---- what was found
 

@@ -1,5 +1,7 @@
 // Searches in the waiting list: the first item that a test finds.
 ghost use mathlib.Core.Path.{_≡_};
+ghost use Prim.Native.Nat.{_<_};
+ghost use lib.ListN.{length, getD};
 ghost use Rattle.rulebook.specs.Waiting.{sentBy};
 ghost use Rattle.rulebook.specs.Matching.{pairsWith};
 ghost use Rattle.book.specs.Meaning.{ledgerOf};
@@ -7,6 +9,28 @@ ghost use Rattle.book.specs.Stored.{Stored};
 ghost use Rattle.search.specs.Place.{placeIn, isFound};
 use rulebook::Item;
 use words::Found;
+
+// Whether the item at `i` waits under that sender's reference; it is read whole only where it bears the reference.
+fn is_sent(book: &[u64], i: usize, sender: u64, reference: u64) -> bool
+    requires { ⌜ Stored (now book) × (i < length (ledgerOf (now book) .waiting)) ⌝ }
+    ensures { λ r. ⌜ ((d : Item) → r ≡ sentBy sender reference (getD (ledgerOf (now (book .entry)) .waiting) i d)) ⌝ }
+{
+    if !book::may_bear(book, i, reference) {
+        return false;
+    }
+    waiting::sent_by(sender, reference, book::item_at(book, i))
+}
+
+// Whether the item at `i` pairs with an arriving one; it is read whole only where it is a single of the quantity.
+fn is_pairing(book: &[u64], i: usize, limit: u64, arriving: Item) -> bool
+    requires { ⌜ Stored (now book) × (i < length (ledgerOf (now book) .waiting)) ⌝ }
+    ensures { λ r. ⌜ ((d : Item) → r ≡ pairsWith limit arriving (getD (ledgerOf (now (book .entry)) .waiting) i d)) ⌝ }
+{
+    if !book::may_pair(book, i, arriving.quantity) {
+        return false;
+    }
+    waiting::pairs_with(limit, arriving, book::item_at(book, i))
+}
 
 // The item that waits under that sender's reference.
 pub fn first_sent(book: &[u64], sender: u64, reference: u64) -> Found
@@ -16,8 +40,7 @@ pub fn first_sent(book: &[u64], sender: u64, reference: u64) -> Found
     let n = book::items(book);
     let mut i: usize = 0;
     while i < n {
-        let item = book::item_at(book, i);
-        if waiting::sent_by(sender, reference, item) {
+        if is_sent(book, i, sender, reference) {
             return Found::At(i);
         }
         i += 1;
@@ -33,8 +56,7 @@ pub fn first_pairing(book: &[u64], limit: u64, arriving: Item) -> Found
     let n = book::items(book);
     let mut i: usize = 0;
     while i < n {
-        let item = book::item_at(book, i);
-        if waiting::pairs_with(limit, arriving, item) {
+        if is_pairing(book, i, limit, arriving) {
             return Found::At(i);
         }
         i += 1;

@@ -2,10 +2,11 @@
 use Prim.Native.Nat.{_-_, _≤_, _<_}
 use mathlib.Core.Path.{_≡_, refl, sym, _∙_}
 use native.Mathlib.Omega.{arith}
+use mathlib.Core.List.{[]}
 use lib.ListN.{length, drop}
-use borrow.Author.Needs.{needs}
 use Rattle.rulebook.specs.Matching.{pairsWith}
 use Rattle.book.specs.Meaning.{waitingOf}
+use Rattle.items.specs.Waiting.{itemOf}
 use Rattle.search.specs.Place.{placeFrom, placeIn}
 use Rattle.search.proofs.Laws.{place-here, place-later, place-none}
 use Rattle.search.proofs.first_pairing.Statement.{statement}
@@ -22,23 +23,19 @@ abbrev μ-loop : tie.MeasureT-loop
 inside : (c : tie.In-loop Inv-loop μ-loop) → c .before .loop .i < length (waitingOf (c .before .before .before .before .args .book .now))
 inside c = omega (arith, c .before .before .items .ensures, c .loop-test .taken)
 
-item-at-requires : tie.Need-item-at-requires Inv-loop μ-loop
-item-at-requires c κs = (c .before .before .before .before .pre, inside c)
+is-pairing-requires : tie.Need-is-pairing-requires Inv-loop μ-loop
+is-pairing-requires c κs = (c .before .before .before .before .pre, inside c)
 
 returns : tie.Need-returns Inv-loop μ-loop
 returns c =
-    let turn = c .before .before .before in
-    let item = c .before .before .item-at in
-    sym (place-here (pairsWith _ _) _ _ (inside turn) (item .result) (item .ensures (item .result)) (sym (c .before .pairs-with .ensures) ∙ c .if1 .taken))
-    ∙ turn .before .loop .inv .1
+    let turn = c .before .before in
+    sym (place-here (pairsWith _ _) _ _ (inside turn) (itemOf []) (sym (c .before .is-pairing .ensures (itemOf [])) ∙ c .if1 .taken)) ∙ turn .before .loop .inv .1
 
 loop-again : tie.Need-loop-again Inv-loop μ-loop
 loop-again c =
-    let turn = c .before .before .before in
-    let item = c .before .before .item-at in (
+    let turn = c .before .before in (
       omega (arith, turn .loop-test .taken),
-      place-later (pairsWith _ _) _ _ (inside turn) (item .result) (item .ensures (item .result)) (sym (c .before .pairs-with .ensures) ∙ c .if1 .left)
-          ∙ turn .before .loop .inv .1,
+      place-later (pairsWith _ _) _ _ (inside turn) (itemOf []) (sym (c .before .is-pairing .ensures (itemOf [])) ∙ c .if1 .left) ∙ turn .before .loop .inv .1,
     )
 
 -- no place is left
@@ -51,4 +48,4 @@ returns-2 c = sym (place-none (pairsWith _ _) _ _ (outside c)) ∙ c .before .lo
 pub first-pairing-spec : {M : Type 1} → statement M
 first-pairing-spec =
     tie.close
-    (tie.spec Inv-loop μ-loop (λ c κs. c .before .pre) (λ c. (omega arith, refl)) item-at-requires (λ c κs. search needs) returns (λ c. omega arith) (λ c. omega arith) loop-again returns-2)
+    (tie.spec Inv-loop μ-loop (λ c κs. c .before .pre) (λ c. (omega arith, refl)) is-pairing-requires returns (λ c. omega arith) (λ c. omega arith) loop-again returns-2)
