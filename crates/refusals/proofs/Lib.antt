@@ -1,3 +1,4 @@
 pub mod Laws
 pub mod Growth
 pub mod Orders
+pub mod Roomy

@@ -132,6 +132,9 @@ fn no_space(book: &[u64], order: Order) -> bool
     if form == 2 {
         return 31 < book::securities(book);
     }
+    if !is_list_full(book) {
+        return false;
+    }
     if form == 3 {
         let to = book::balance(book, checks::account_of(order.security, order.credited));
         return (to.0 == 0) & is_full(book);
@@ -142,12 +145,9 @@ fn no_space(book: &[u64], order: Order) -> bool
         return (to.0 == 0) & (from.0 != order.quantity.0) & is_full(book);
     }
     if checks::is_within(12, 13, form) {
-        return !is_matched(book, order) & is_list_full(book);
+        return !is_matched(book, order);
     }
-    if form == 14 {
-        return is_list_full(book);
-    }
-    false
+    form == 14
 }
 
 // The first refusal that applies, from 6 to 18; 0 where none does.

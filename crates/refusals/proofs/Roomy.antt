@@ -1,0 +1,69 @@
+-- A book with room for one more item, and so for one more account, lacks space for no form but an admission. Assumes nothing.
+use Prim.Native.Nat.{ℕ, _+_, _≤_}
+use mathlib.Core.Path.{_≡_, refl, sym, _∙_}
+use mathlib.Core.Bool.{Bool, true, false, not, _||_, and-false, false≢true}
+use native.Mathlib.Omega.{arith}
+use borrow.Author.Tests.{eqb-true}
+use lib.ListN.{length}
+use Rattle.rulebook.specs.Lists.{_is_, _below_, within}
+use Rattle.rulebook.specs.Ledger.{Ledger}
+use Rattle.rulebook.specs.Premise.{Premise}
+use Rattle.rulebook.specs.Refusals.{wrongPair, wrongParties, tooLittle, noSpace}
+use Rattle.rulebook.specs.declared.Order.{Order}
+use Rattle.rulebook.proofs.Sizes.{never-grows}
+use Rattle.rulebook.proofs.Space.{deposit-space, transfer-space, instruct-space, trade-space, sides-apart}
+use Rattle.rulebook.proofs.Orders.{debit-enough}
+use Rattle.book.specs.Handled.{WasRead}
+use Rattle.refusals.proofs.Laws.{within-parts}
+use Rattle.refusals.proofs.Growth.{wider, instruction, never}
+use Rattle.refusals.proofs.Orders.{ranges, some-quantity}
+
+or-none : (a b : Bool) → (a || b) ≡ false → b ≡ false
+or-none true b e = absurd (false≢true (sym e))
+or-none false b e = e
+
+pub not-false : (a : Bool) → not a ≡ false → a ≡ true
+not-false true e = refl
+not-false false e = sym e
+
+-- the last form that can lack space, in a book without room for one more item
+pub last :
+    (b : Ledger) (o : Order) → Premise b → (63 below length b.waiting || 255 below (b.holdings.accounts + length b.waiting)) ≡ true → 1 ≤ o.form → o.form ≤ 17
+    → (o.form is 2) ≡ false → (o.form is 3) ≡ false → within 5 9 o.form ≡ false → within 12 13 o.form ≡ false → noSpace b o ≡ (o.form is 14)
+last b o p full l u two three five twelve = go (o.form is 14) refl
+  where
+    go : (t : Bool) → (o.form is 14) ≡ t → noSpace b o ≡ (o.form is 14)
+    go true e = trade-space b o (p .sizes) (eqb-true o.form 14 e) ∙ full ∙ sym e
+    go false e = never-grows b o (never o.form l u two three five twelve e) (p .sizes) ∙ sym e
+
+module _ (b : Ledger) (o : Order) (w : WasRead o) (p : Premise b) (enough : tooLittle b.holdings o ≡ false) (pair : wrongPair o ≡ false) (parties : wrongParties o ≡ false) where
+  pub roomy :
+      (o.form is 2) ≡ false → (63 below length b.waiting || 255 below (b.holdings.accounts + length b.waiting)) ≡ false → noSpace b o ≡ false
+  roomy two room = on-3 (o.form is 3) refl
+    where
+      full : (255 below (b.holdings.accounts + length b.waiting)) ≡ false
+      full = or-none (63 below length b.waiting) (255 below (b.holdings.accounts + length b.waiting)) room
+
+      on-14 : (t : Bool) → (o.form is 14) ≡ t → (o.form is 3) ≡ false → within 5 9 o.form ≡ false → within 12 13 o.form ≡ false → noSpace b o ≡ false
+      on-14 true e three five twelve = trade-space b o (p .sizes) (eqb-true o.form 14 e) ∙ room
+      on-14 false e three five twelve =
+          let f = ranges o w .form in
+          never-grows b o (never o.form (f .0) (f .1) two three five twelve e) (p .sizes)
+
+      on-12 : (t : Bool) → within 12 13 o.form ≡ t → (o.form is 3) ≡ false → within 5 9 o.form ≡ false → noSpace b o ≡ false
+      on-12 true e three five = instruct-space b o (p .sizes) (instruction o.form e) ∙ simp (room, and-false)
+      on-12 false e three five = on-14 (o.form is 14) refl three five e
+
+      on-5 : (t : Bool) → within 5 9 o.form ≡ t → (o.form is 3) ≡ false → noSpace b o ≡ false
+      on-5 true e three =
+          let r = within-parts 5 9 o.form e in
+          let l : 3 ≤ o.form = omega (arith, r .0) in
+          transfer-space b o (p .sizes) (r .0) (r .1) (some-quantity o w l (r .1)) (debit-enough b o enough (wider o.form e)) (sides-apart b o (r .0) (r .1) pair parties)
+          ∙ simp (full, and-false)
+      on-5 false e three = on-12 (within 12 13 o.form) refl three e
+
+      on-3 : (t : Bool) → (o.form is 3) ≡ t → noSpace b o ≡ false
+      on-3 true e =
+          let f : o.form ≡ 3 = eqb-true o.form 3 e in
+          deposit-space b o (p .sizes) f (some-quantity o w (omega arith) (omega arith)) ∙ simp (full, and-false)
+      on-3 false e = on-5 (within 5 9 o.form) refl e
