@@ -1,11 +1,12 @@
 -- The rounds as code runs them: the marks, and beside them the figures of every item. Assumes nothing.
 use Prim.Native.Nat.{ℕ, zero, suc, _+_, _-_, _^_, _≤_, _<_}
 use native.Mathlib.Omega.{arith}
-use mathlib.Core.Bool.{Bool, true, false, not, _&&_, _||_}
+use mathlib.Core.Bool.{Bool, true, false, not, _&&_, _||_, false≢true}
 use mathlib.Core.List.{List}
 use mathlib.Core.Logic.{_≢_}
 use mathlib.Core.Path.{_≡_, refl, sym, ap, subst, _∙_}
-use borrow.Author.Tests.{eq-eqb, ne-eqb, eqb-true, eqb-false, ltb-true, ltb-false}
+use borrow.Author.Tests.{eq-eqb, ne-eqb, eqb-true, eqb-false, ltb-true, ltb-false, le-ltb}
+use lib.Dec.{ltb}
 use lib.ListN.{length, getD, set}
 use Rattle.rulebook.specs.Lists.{if_then_else_, _is_, _isNot_, _below_}
 use Rattle.rulebook.specs.Ledger.{Ledger, sameAccount, sumBelow}
@@ -16,11 +17,14 @@ use Rattle.words.specs.declared.Found.the-variants.{At, Nothing}
 use Rattle.words.proofs.Places.{from-get, from-set, length-from}
 use Rattle.words.proofs.Sums.{sum-change}
 use Rattle.rulebook.proofs.Lists.{both}
-use Rattle.accounts.proofs.Keys.{key-test}
+use Rattle.accounts.specs.Keys.{keyOf}
+use Rattle.accounts.proofs.Keys.{key-test, key-once}
 use Rattle.netting.specs.Marks.{itemIn, isOn, markedOf, countOn}
-use Rattle.netting.specs.Figures.{hasAt, owesAt, brings, takes, bringsAll, takesAll, Figures, Cover, RoomAll, shortAt, lastShort, cashKey}
+use Rattle.netting.specs.Figures.{fromAt, toAt, hasAt, owesAt, brings, takes, bringsAll, takesAll, Figures, Cover, RoomAll, shortAt, lastShort, cashKey}
 use Rattle.netting.specs.Filled.{ShareLegs, ShareStart, CashLegs, CashStart}
+use Rattle.netting.specs.Slots.{Slots, viewed}
 use Rattle.netting.specs.Ready.{Ready}
+use Rattle.netting.proofs.Slotted.{has-viewed, owes-viewed, viewed-long, slot-leg, slot-own}
 use Rattle.netting.proofs.Marking.{marking}
 use Rattle.netting.proofs.Netting.{Are, Small, Lined, lined-room, lined-start, lined-cover, lined-less}
 use Rattle.netting.proofs.Drops.{Last, last-at, last-none, last-same, noMark, at, none-at, some-at, drop-at, rounds-stop, rounds-step}
@@ -55,6 +59,26 @@ count-most on (suc n) = omega (arith, one (on n), count-most on n)
     one : (x : Bool) → (if x then 1 else 0) ≤ 1
     one true = omega arith
     one false = omega arith
+
+-- what was not short stays so where a leg is taken away, but for what that leg credits
+still :
+    (m : ℕ) (legs before after : List ℕ) (j : ℕ) → Figures m (λ k. hasAt before k - brings legs j k) (λ k. owesAt before k - takes legs j k) after
+    → (k : ℕ) → ((toAt legs j is fromAt legs k) ≡ true → shortAt after k ≡ false) → k < m → shortAt before k ≡ false → shortAt after k ≡ false
+still m legs before after j f k credited h e = go (toAt legs j is fromAt legs k) refl
+  where
+    go : (t : Bool) → (toAt legs j is fromAt legs k) ≡ t → shortAt after k ≡ false
+    go true t = credited t
+    go false t =
+        let none : brings legs j k ≡ 0 = rw t in
+        le-ltb (hasAt after k) (owesAt after k) (omega (arith, none, f .has-as k h, f .owes-as k h, ltb-false (hasAt before k) (owesAt before k) e))
+
+off : (a b : Bool) → a ≡ false → (a && b) ≡ false
+off a b e = rw e
+
+neither : (a b c d e : Bool) → (a && (b || c)) ≡ false → (b ≡ false → d ≡ false) → (c ≡ false → e ≡ false) → (a && (d || e)) ≡ false
+neither false b c d e h f g = refl
+neither true true c d e h f g = absurd (false≢true (sym h))
+neither true false c d e h f g = rw (f refl, g h)
 
 module _ (b : Ledger) (r : Ready b) where
   abbrev item : ℕ → Item
@@ -116,6 +140,36 @@ module _ (b : Ledger) (r : Ready b) where
 
   pub cash-room : (marks : ℕ) (legs figures : List ℕ) → CashLegs b.waiting legs → CashStart b figures → RoomAll n (isOn marks) legs figures
   cash-room marks legs figures l f = lined-room item n cashInto cashOut legs (cash-are legs l) (isOn marks) cashHave figures f (r .size) (λ k h. r .amounts _ _) (cash-small legs)
+
+  -- the figures before any leg is added, read through slots
+  abbrev near : (legs slots : List ℕ) → Slots n legs slots → (k : ℕ) → k < n → (hasAt slots k < n) × (fromAt legs (hasAt slots k) ≡ fromAt legs k)
+  near legs slots s k h = let e = s .has-as k h in rw e (slot-leg legs n (fromAt legs k) (slot-own legs n (r .size) k h))
+
+  pub share-viewed : (legs slots figures : List ℕ) → ShareLegs b.waiting legs → Slots n legs slots → ShareStart b figures → ShareStart b (viewed slots figures)
+  share-viewed legs slots figures l s f = record {
+    long = viewed-long slots figures;
+    has-as = λ k h.
+        let i = near legs slots s k h in
+        let key : keyOf (seller (item (hasAt slots k))) ≡ keyOf (seller (item k)) = sym (l .from-as (hasAt slots k) (i .0)) ∙ i .1 ∙ l .from-as k h in
+        has-viewed slots figures k (omega (arith, r .size)) ∙ f .has-as (hasAt slots k) (i .0)
+        ∙ ap b.holdings.balance (key-once (seller (item (hasAt slots k))) (seller (item k)) (r .bookable (hasAt slots k) (i .0) .sells) (r .bookable k h .sells) key);
+    owes-as = λ k h. owes-viewed slots figures k (omega (arith, r .size)) ∙ f .owes-as (hasAt slots k) (near legs slots s k h .0);
+  }
+
+  pub cash-viewed : (legs slots figures : List ℕ) → CashLegs b.waiting legs → Slots n legs slots → CashStart b figures → CashStart b (viewed slots figures)
+  cash-viewed legs slots figures l s f = record {
+    long = viewed-long slots figures;
+    has-as = λ k h.
+        let i = near legs slots s k h in
+        let key : cashKey (item (hasAt slots k) .credited .member) (item (hasAt slots k) .currency) ≡ cashKey (item k .credited .member) (item k .currency) = sym (l .from-as (hasAt slots k) (i .0)) ∙ i .1 ∙ l .from-as k h in
+        let one = r .bookable (hasAt slots k) (i .0) .pays in
+        let two = r .bookable k h .pays in
+        let m : item (hasAt slots k) .credited .member ≡ item k .credited .member = omega (arith, key, one .currency-most, one .currency-least, two .currency-most, two .currency-least) in
+        let c : item (hasAt slots k) .currency ≡ item k .currency = omega (arith, key, m) in
+        has-viewed slots figures k (omega (arith, r .size)) ∙ f .has-as (hasAt slots k) (i .0)
+        ∙ ap (λ (x : ℕ). b.holdings.cash x (item (hasAt slots k) .currency)) m ∙ ap (b.holdings.cash (item k .credited .member)) c;
+    owes-as = λ k h. owes-viewed slots figures k (omega (arith, r .size)) ∙ f .owes-as (hasAt slots k) (near legs slots s k h .0);
+  }
 
   -- the marks and the figures after some rounds
   pub record Running (due marks : ℕ) (shares cents held funds : List ℕ) : Type 0 where
@@ -235,6 +289,24 @@ module _ (b : Ledger) (r : Ready b) where
         next =
             let more : suc (w .left - 1) ≡ w .left = omega (arith, w .enough, fewer) in
             ap (rounds (w .left - 1) b.holdings) dropped ∙ sym (rounds-step b.holdings ms (w .left - 1) short) ∙ ap (λ (x : ℕ). rounds x b.holdings ms) more
+
+        -- none from j on is short, unless what j credits is
+        pub behind-still :
+            (held′ funds′ : List ℕ) → Figures n (λ k. hasAt held k - brings shares j k) (λ k. owesAt held k - takes shares j k) held′
+            → Figures n (λ k. hasAt funds k - brings cents j k) (λ k. owesAt funds k - takes cents j k) funds′
+            → (k : ℕ) → ((toAt shares j is fromAt shares k) ≡ true → shortAt held′ k ≡ false) → ((toAt cents j is fromAt cents k) ≡ true → shortAt funds′ k ≡ false)
+            → j ≤ k → k < n → (isOn now k && (shortAt held′ k || shortAt funds′ k)) ≡ false
+        behind-still held′ funds′ h f k a c l m = go (ltb j k) refl
+          where
+            go : (t : Bool) → ltb j k ≡ t → (isOn now k && (shortAt held′ k || shortAt funds′ k)) ≡ false
+            go true t =
+                let d : j < k = ltb-true j k t in
+                neither (isOn now k) (shortAt held k) (shortAt funds k) (shortAt held′ k) (shortAt funds′ k)
+                (rw (sym (others k m (λ e. omega (arith, e)))) (last-at code n j found .behind k d m))
+                (still n shares held held′ j h k a m) (still n cents funds funds′ j f k c m)
+            go false t =
+                let e : k ≡ j = omega (arith, ltb-false j k t) in
+                off (isOn now k) _ (ap (isOn now) e ∙ gone)
 
         pub runs-on :
             (held′ funds′ : List ℕ) → Figures n (λ k. hasAt held k - brings shares j k) (λ k. owesAt held k - takes shares j k) held′

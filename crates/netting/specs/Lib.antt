@@ -4,6 +4,8 @@ pub mod Marks
 -- legs and figures in columns, and those of the waiting items
 pub mod Figures
 pub mod Filled
+-- where the figures stand
+pub mod Slots
 -- what the cycle needs of a ledger
 pub mod Ready
 -- what its rounds leave

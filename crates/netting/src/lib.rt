@@ -2,13 +2,32 @@
 mod figures;
 mod legs;
 pub mod marks;
+mod slots;
 pub mod trades;
 
+ghost use Prim.Native.Nat.{_≤_};
 ghost use Rattle.book.specs.Meaning.{ledgerOf};
 ghost use Rattle.book.specs.Stored.{Stored};
 ghost use Rattle.netting.specs.Netted.{Netted};
 ghost use Rattle.netting.specs.Ready.{Ready};
 use words::Found;
+
+// Below which place the next short one is looked for: the one that was dropped stands there, or what it credited is debited last.
+fn next_top(less: usize, poorer: usize, j: usize, n: usize) -> usize
+    requires { ⌜ (less ≤ n) × (poorer ≤ n) × (j ≤ n) ⌝ }
+    ensures { λ r. ⌜ (r ≤ n) × (less ≤ r) × (poorer ≤ r) × (j ≤ r) ⌝ }
+{
+    if less < j {
+        if poorer < j {
+            return j;
+        }
+        return poorer;
+    }
+    if less < poorer {
+        return poorer;
+    }
+    less
+}
 
 // While any is short, the last marked trade that debits a short one loses its mark.
 pub fn settling_marks(book: &[u64], due: u64) -> u64
@@ -19,19 +38,25 @@ pub fn settling_marks(book: &[u64], due: u64) -> u64
     let mut shares = [0u64; 192];
     let mut held = [0u64; 128];
     legs::fill_shares(&mut shares, &mut held, book);
-    figures::add_marked(&mut held, &shares, due, n);
+    let mut held_at = [0u64; 128];
+    slots::fill(&mut held_at, &shares, n);
+    figures::add_marked(&mut held, &shares, &held_at, due, n);
     let mut cents = [0u64; 192];
     let mut funds = [0u64; 128];
     legs::fill_cash(&mut cents, &mut funds, book);
-    figures::add_marked(&mut funds, &cents, due, n);
+    let mut funds_at = [0u64; 128];
+    slots::fill(&mut funds_at, &cents, n);
+    figures::add_marked(&mut funds, &cents, &funds_at, due, n);
     let mut marks = due;
+    let mut top = n;
     loop {
-        let found = figures::last_short(&held, &funds, marks, n);
+        let found = figures::last_short(&held, &held_at, &funds, &funds_at, marks, top);
         let Found::At(j) = found else {
             return marks;
         };
-        figures::drop_trade(&mut held, &shares, j, n);
-        figures::drop_trade(&mut funds, &cents, j, n);
+        let less = figures::drop_trade(&mut held, &shares, &held_at, j, n);
+        let poorer = figures::drop_trade(&mut funds, &cents, &funds_at, j, n);
         marks = marks::flip(marks, j);
+        top = next_top(less, poorer, j, n);
     }
 }

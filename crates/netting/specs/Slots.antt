@@ -1,0 +1,53 @@
+-- Slots: the figures of what a leg debits stand at the last leg that debits the same.
+use Prim.Native.Nat.{ℕ, _+_, _-_, _%_, _<_}
+use mathlib.Core.List.{List}
+use mathlib.Core.Path.{_≡_}
+use lib.ListN.{length, getD}
+use Rattle.rulebook.specs.Lists.{if_then_else_, _is_, _below_}
+use Rattle.words.specs.declared.Found.{Found}
+use Rattle.words.specs.declared.Found.the-variants.{At, Nothing}
+use Rattle.words.specs.Places.{listFrom}
+use Rattle.netting.specs.Figures.{fromAt, toAt, hasAt, owesAt, Figures, lastBelow}
+
+abbrev pub slotAt : Found → ℕ
+slotAt (At i) = i
+slotAt Nothing = 64
+
+-- the last of n legs that debits the key; 64 where none does
+unfoldable pub slotOf : List ℕ → (n key : ℕ) → ℕ
+slotOf legs n key = slotAt (lastBelow (λ k. fromAt legs k is key) n)
+
+-- ---- the legs of each bucket as a list, so that a slot is found among few
+
+unfoldable pub bucketOf : ℕ → ℕ
+bucketOf key = key % 61
+
+-- the last of n legs in a bucket; 64 where there is none
+abbrev pub lastIn : List ℕ → (n bucket : ℕ) → ℕ
+lastIn legs n bucket = slotAt (lastBelow (λ k. bucketOf (fromAt legs k) is bucket) n)
+
+-- two columns of 64 words: the leg before each leg in its bucket, and each bucket's last leg
+pub record Linked (n : ℕ) (legs links : List ℕ) : Type 0 where
+  pub long : length links ≡ 128
+  pub next-as : (k : ℕ) → k < n → getD links k 0 ≡ lastIn legs k (bucketOf (fromAt legs k))
+  pub head-as : (bucket : ℕ) → bucket < 64 → getD links (bucket + 64) 0 ≡ lastIn legs n bucket
+
+-- before any leg is linked
+pub record Unlinked (links : List ℕ) : Type 0 where
+  pub long : length links ≡ 128
+  pub none : (k : ℕ) → k < 128 → getD links k 0 ≡ 64
+
+-- ---- slots
+
+-- two columns of 64 words: the slots of what each leg debits, and of what it credits
+abbrev pub Slots : (n : ℕ) → (legs slots : List ℕ) → Type 0
+Slots n legs slots = Figures n (λ k. slotOf legs n (fromAt legs k)) (λ k. slotOf legs n (toAt legs k)) slots
+
+-- the figures of each leg, read through the slots
+unfoldable pub viewed : (slots figures : List ℕ) → List ℕ
+viewed slots figures = listFrom (λ k. if k below 64 then hasAt figures (hasAt slots k) else owesAt figures (hasAt slots (k - 64))) 0 128
+
+-- slots of debits are places of figures
+pub record Low (n : ℕ) (slots : List ℕ) : Type 0 where
+  pub long : length slots ≡ 128
+  pub low : (k : ℕ) → k < n → hasAt slots k < 64
