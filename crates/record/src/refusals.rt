@@ -1,7 +1,7 @@
 // Refusals 3, 4 and 5, which reader and writer share.
 use crate::places;
 ghost use mathlib.Core.Path.{_≡_};
-ghost use mathlib.Core.Bool.{not, _&&_};
+ghost use mathlib.Core.Bool.{true, not, _&&_};
 ghost use mathlib.Core.List.{[], _∷_, map};
 ghost use Prim.Native.Nat.{ℕ, _/_, _^_, _≤_, _<_};
 ghost use lib.Bits.{bitAnd};
@@ -157,6 +157,22 @@ fn fields_refusal(form: usize, fields: &[u64; 16]) -> u64
     number
 }
 
+// Whether neither 4 nor 5 applies to the fields of a form: the short way for a record that is read.
+fn are_right(form: usize, fields: &[u64; 16]) -> bool
+    requires { ⌜ (1 ≤ form) × (form ≤ 17) × (getD (now fields) 0 0 ≡ form) ⌝ }
+    ensures { λ r. ⌜ (r ≡ true → 0 ≡ first ((4, unusedNotZero (now (fields .entry))) ∷ (5, usedOutOfRange (now (fields .entry))) ∷ [])) ⌝ }
+{
+    let used = used_by(form);
+    let most = most_of(form);
+    for place in 0..16 {
+        let is_used = used >> place & 1 == 1;
+        if field_refusal(is_used, least_of(place), most[place], fields[place]) != 0 {
+            return false;
+        }
+    }
+    true
+}
+
 // The first of 3, 4, 5 that applies, or 0.
 pub fn refusal(fields: &[u64; 16]) -> u64
     ensures { λ r. ⌜ r ≡ fieldsRefusal (now (fields .entry)) ⌝ }
@@ -167,6 +183,9 @@ pub fn refusal(fields: &[u64; 16]) -> u64
     }
     if 17 < form {
         return 3;
+    }
+    if are_right(form as usize, fields) {
+        return 0;
     }
     fields_refusal(form as usize, fields)
 }
