@@ -191,13 +191,34 @@ pub fn wrong_pair(order: Order) -> bool
     let form = order.form;
     let debited = order.debited.typ;
     let credited = order.credited.typ;
-    (((form == 3) | (form == 13)) & !is_free(credited))
-        | (((form == 4) | (form == 12)) & !is_free(debited))
-        | (((form == 5) | (form == 14)) & !are_alike(debited, credited))
-        | ((form == 6) & !is_pledge(debited, credited))
-        | ((form == 7) & !is_pledge(credited, debited))
-        | ((form == 8) & !is_block(debited, credited))
-        | ((form == 9) & !is_block(credited, debited))
+    if form == 3 {
+        return !is_free(credited);
+    }
+    if form == 13 {
+        return !is_free(credited);
+    }
+    if form == 4 {
+        return !is_free(debited);
+    }
+    if form == 12 {
+        return !is_free(debited);
+    }
+    if form == 5 {
+        return !are_alike(debited, credited);
+    }
+    if form == 14 {
+        return !are_alike(debited, credited);
+    }
+    if form == 6 {
+        return !is_pledge(debited, credited);
+    }
+    if form == 7 {
+        return !is_pledge(credited, debited);
+    }
+    if form == 8 {
+        return !is_block(debited, credited);
+    }
+    (form == 9) & !is_block(credited, debited)
 }
 
 pub fn account_of(security: u64, party: Party) -> Account
