@@ -20,8 +20,8 @@ use Rattle.accounts.proofs.HeldRows.{rows-counted}
 use Rattle.accounts.specs.Map.{balanceOf, withAccounts}
 use Rattle.accounts.specs.Map as accounts
 use Rattle.cash.specs.Amounts.{amountOf, withCash}
-use Rattle.items.specs.Waiting.{itemsOf}
-use Rattle.items.specs.Waiting as items
+use Rattle.waiting_list.specs.Waiting.{itemsOf}
+use Rattle.waiting_list.specs.Waiting as items
 use Rattle.book.specs.Meaning.{widths, DAY, SECURITIES, ACCOUNTS, CASH, ITEMS, part, dayIn, ledgerBy, holdingsOf, waitingOf, ledgerOf}
 use Rattle.book.specs.Stored.{StoredBy, Stored, Means}
 

@@ -17,7 +17,7 @@ use Rattle.securities.specs.Admitted.{securitiesOf}
 use Rattle.accounts.specs.Keys.{inRange}
 use Rattle.accounts.specs.Map.{balanceOf}
 use Rattle.cash.specs.Amounts.{kept, place, amountOf}
-use Rattle.items.specs.Waiting.{itemsOf}
+use Rattle.waiting_list.specs.Waiting.{itemsOf}
 use Rattle.book.specs.Meaning.{ACCOUNTS, CASH, part, holdingsOf, waitingOf, ledgerOf}
 use Rattle.book.specs.Stored.{Stored, Kept, Means}
 use Rattle.book.specs.Zeros.{zeros}

@@ -11,7 +11,7 @@ use Rattle.words.specs.Tables.{rows}
 use Rattle.securities.specs.Admitted.{securitiesOf}
 use Rattle.accounts.specs.Map.{balanceOf}
 use Rattle.cash.specs.Amounts.{amountOf}
-use Rattle.items.specs.Waiting.{itemsOf}
+use Rattle.waiting_list.specs.Waiting.{itemsOf}
 
 -- the day, the securities, the accounts, the members' cash, the waiting list
 abbrev pub widths : List ℕ

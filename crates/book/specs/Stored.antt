@@ -7,7 +7,7 @@ use Rattle.rulebook.specs.Ledger.{Ledger}
 use Rattle.rulebook.specs.Premise.{Premise}
 use Rattle.securities.specs.Admitted as securities
 use Rattle.accounts.specs.Map as accounts
-use Rattle.items.specs.Waiting as items
+use Rattle.waiting_list.specs.Waiting as items
 use Rattle.book.specs.Meaning.{DAY, SECURITIES, ACCOUNTS, ITEMS, part, ledgerOf}
 
 -- of its parts

@@ -135,7 +135,7 @@ pub fn item_at(book: &[u64], i: usize) -> Item
     requires { ⌜ Stored (now book) × (i < length (ledgerOf (now book) .waiting)) ⌝ }
     ensures { λ r. ⌜ ((d : Item) → r ≡ getD (ledgerOf (now (book .entry)) .waiting) i d) ⌝ }
 {
-    items::item_at(&book[ITEMS..END], i)
+    waiting_list::item_at(&book[ITEMS..END], i)
 }
 
 // Whether the item at `i` may wait under a reference: false where neither of its references is that one.
@@ -143,7 +143,7 @@ pub fn may_bear(book: &[u64], i: usize, reference: u64) -> bool
     requires { ⌜ Stored (now book) × (i < length (ledgerOf (now book) .waiting)) ⌝ }
     ensures { λ r. ⌜ ((d : Item) (sender : ℕ) → r ≡ false → sentBy sender reference (getD (ledgerOf (now (book .entry)) .waiting) i d) ≡ false) ⌝ }
 {
-    items::may_bear(&book[ITEMS..END], i, reference)
+    waiting_list::may_bear(&book[ITEMS..END], i, reference)
 }
 
 // Whether the item at `i` may pair with one of that quantity: false where it is no single of that quantity.
@@ -151,7 +151,7 @@ pub fn may_pair(book: &[u64], i: usize, quantity: Shares) -> bool
     requires { ⌜ Stored (now book) × (i < length (ledgerOf (now book) .waiting)) ⌝ }
     ensures { λ r. ⌜ ((d arriving : Item) (limit : ℕ) → arriving .quantity ≡ quantity → r ≡ false → pairsWith limit arriving (getD (ledgerOf (now (book .entry)) .waiting) i d) ≡ false) ⌝ }
 {
-    items::may_pair(&book[ITEMS..END], i, quantity)
+    waiting_list::may_pair(&book[ITEMS..END], i, quantity)
 }
 
 // The item takes the place of the one at `i`.
@@ -159,7 +159,7 @@ pub fn put_item(book: &mut [u64], i: usize, item: Item)
     requires { ⌜ Stored (now book) × (i < length (ledgerOf (now book) .waiting)) ⌝ }
     ensures { λ u. ⌜ Means (now (book .exit)) (putWaiting (set (ledgerOf (now (book .entry)) .waiting) i item) (ledgerOf (now (book .entry)))) ⌝ }
 {
-    items::put_item(&mut book[ITEMS..END], i, item);
+    waiting_list::put_item(&mut book[ITEMS..END], i, item);
 }
 
 // The item goes last.
@@ -167,7 +167,7 @@ pub fn push(book: &mut [u64], item: Item)
     requires { ⌜ Stored (now book) × (length (ledgerOf (now book) .waiting) < 64) ⌝ }
     ensures { λ u. ⌜ Means (now (book .exit)) (putWaiting (ledgerOf (now (book .entry)) .waiting ++ (item ∷ [])) (ledgerOf (now (book .entry)))) ⌝ }
 {
-    items::push(&mut book[ITEMS..END], item);
+    waiting_list::push(&mut book[ITEMS..END], item);
 }
 
 // The item at `i` is removed, the others stay in their order.
@@ -175,7 +175,7 @@ pub fn remove(book: &mut [u64], i: usize)
     requires { ⌜ Stored (now book) × (i < length (ledgerOf (now book) .waiting)) ⌝ }
     ensures { λ u. ⌜ Means (now (book .exit)) (putWaiting (removeAt i (ledgerOf (now (book .entry)) .waiting)) (ledgerOf (now (book .entry)))) ⌝ }
 {
-    items::remove(&mut book[ITEMS..END], i);
+    waiting_list::remove(&mut book[ITEMS..END], i);
 }
 
 // The first `n` items alone.
@@ -183,7 +183,7 @@ pub fn keep_first(book: &mut [u64], n: usize)
     requires { ⌜ Stored (now book) × (n ≤ length (ledgerOf (now book) .waiting)) ⌝ }
     ensures { λ u. ⌜ Means (now (book .exit)) (putWaiting (take n (ledgerOf (now (book .entry)) .waiting)) (ledgerOf (now (book .entry)))) ⌝ }
 {
-    items::keep_first(&mut book[ITEMS..END], n);
+    waiting_list::keep_first(&mut book[ITEMS..END], n);
 }
 
 // ---- cash

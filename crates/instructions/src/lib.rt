@@ -40,10 +40,10 @@ fn pair_of(arriving: Item, waits: Item) -> Item
     ensures { λ r. ⌜ r ≡ paired arriving waits ⌝ }
 {
     let state = waits.state;
-    if waiting::is_deliver(state) {
-        return waiting::pair_up(waits, arriving);
+    if item::is_deliver(state) {
+        return item::pair_up(waits, arriving);
     }
-    waiting::pair_up(arriving, waits)
+    item::pair_up(arriving, waits)
 }
 
 // 12 and 13. The earlier single is removed and the pair goes last. Otherwise the single goes last.
@@ -56,8 +56,8 @@ pub fn instruct(book: &mut [u64], order: Order) -> Counts
         delivers: delivers,
         reference: order.reference,
     };
-    let arriving = waiting::item_of(state, order);
-    let found = search::first_pairing(book, waiting::tolerance_of(order.currency), arriving);
+    let arriving = item::item_of(state, order);
+    let found = search::first_pairing(book, item::tolerance_of(order.currency), arriving);
     match found {
         Found::At(i) => {
             let waits = book::item_at(book, i);
@@ -82,7 +82,7 @@ pub fn trade(book: &mut [u64], order: Order) -> Counts
     let state = State::Trade {
         reference: order.reference,
     };
-    book::push(book, waiting::item_of(state, order));
+    book::push(book, item::item_of(state, order));
     counts_of(0, 0)
 }
 
@@ -93,15 +93,15 @@ pub fn cancel(book: &mut [u64], order: Order, area: &mut [u8]) -> Counts
     requires { ⌜ Accepted (now book) order (now area) × (order .form ≡ 15) ⌝ }
     ensures { λ r. ⌜ Handled (cancel (ledgerOf (now (book .entry))) order) (now (book .exit)) (now (area .entry)) (now (area .exit)) r ⌝ }
 {
-    let sender = waiting::sender_of(order);
+    let sender = item::sender_of(order);
     let found = search::first_sent(book, sender, order.reference);
     // refusal 14 does not apply: there is one
     let Found::At(i) = found else {
         return counts_of(0, 0);
     };
-    let item = waiting::mark(sender, book::item_at(book, i));
+    let item = item::mark(sender, book::item_at(book, i));
     let state = item.state;
-    if waiting::both_marked(state) {
+    if item::both_marked(state) {
         book::remove(book, i);
         rows::write_notice(area, 4, item);
         return counts_of(1, 2);
@@ -117,7 +117,7 @@ fn count_leaving(counted: Counts, kind: u64, state: State) -> Counts
     requires { ⌜ CanCount counted ⌝ }
     ensures { λ r. ⌜ r ≡ countedOne counted kind state ⌝ }
 {
-    let sides = waiting::sides_of(state);
+    let sides = item::sides_of(state);
     if kind == 3 {
         return Counts {
             rows: counted.rows + 1,
@@ -149,9 +149,9 @@ fn close_items(book: &mut [u64], number: u64, area: &mut [u8]) -> Counts
     let mut i: usize = 0;
     while i < n {
         let item = book::item_at(book, i);
-        let kind = waiting::close_kind(number, item);
+        let kind = item::close_kind(number, item);
         if kind == 0 {
-            book::put_item(book, j, waiting::unmark(item));
+            book::put_item(book, j, item::unmark(item));
             j += 1;
         } else {
             let state = item.state;

@@ -35,11 +35,7 @@ fn wrong_reference(book: &[u64], order: Order) -> bool
     if !checks::is_within(12, 15, form) {
         return false;
     }
-    let waits = search::is_found(search::first_sent(
-        book,
-        waiting::sender_of(order),
-        order.reference,
-    ));
+    let waits = search::is_found(search::first_sent(book, item::sender_of(order), order.reference));
     (checks::is_within(12, 14, form) & waits) | ((form == 15) & !waits)
 }
 
@@ -51,13 +47,13 @@ fn wrong_cancel(book: &[u64], order: Order) -> bool
     if order.form != 15 {
         return false;
     }
-    let sender = waiting::sender_of(order);
+    let sender = item::sender_of(order);
     let found = search::first_sent(book, sender, order.reference);
     let Found::At(i) = found else {
         return false;
     };
     let item = book::item_at(book, i);
-    waiting::not_cancellable(sender, item)
+    item::not_cancellable(sender, item)
 }
 
 // 16. The balance to be debited (outside count in a deposit) is less than asked (3 to 9, 11).
@@ -119,8 +115,8 @@ fn is_matched(book: &[u64], order: Order) -> bool
         delivers: delivers,
         reference: order.reference,
     };
-    let arriving = waiting::item_of(state, order);
-    search::is_found(search::first_pairing(book, waiting::tolerance_of(order.currency), arriving))
+    let arriving = item::item_of(state, order);
+    search::is_found(search::first_pairing(book, item::tolerance_of(order.currency), arriving))
 }
 
 // 18. The call would leave more than 32 securities, more than 64 items, or accounts plus items above 256.

@@ -18,7 +18,7 @@ fn is_sent(book: &[u64], i: usize, sender: u64, reference: u64) -> bool
     if !book::may_bear(book, i, reference) {
         return false;
     }
-    waiting::sent_by(sender, reference, book::item_at(book, i))
+    item::sent_by(sender, reference, book::item_at(book, i))
 }
 
 // Whether the item at `i` pairs with an arriving one; it is read whole only where it is a single of the quantity.
@@ -29,7 +29,7 @@ fn is_pairing(book: &[u64], i: usize, limit: u64, arriving: Item) -> bool
     if !book::may_pair(book, i, arriving.quantity) {
         return false;
     }
-    waiting::pairs_with(limit, arriving, book::item_at(book, i))
+    item::pairs_with(limit, arriving, book::item_at(book, i))
 }
 
 // The item that waits under that sender's reference.

@@ -6,7 +6,7 @@ use mathlib.Core.List.{[]}
 use lib.ListN.{length, drop}
 use Rattle.rulebook.specs.Waiting.{sentBy}
 use Rattle.book.specs.Meaning.{waitingOf}
-use Rattle.items.specs.Waiting.{itemOf}
+use Rattle.waiting_list.specs.Waiting.{itemOf}
 use Rattle.search.specs.Place.{placeFrom, placeIn}
 use Rattle.search.proofs.Laws.{place-here, place-later, place-none}
 use Rattle.search.proofs.first_sent.Statement.{statement}

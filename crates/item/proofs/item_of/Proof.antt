@@ -1,0 +1,11 @@
+-- `item::item_of` meets its contract. Assumes nothing.
+use Rattle.rulebook.specs.Waiting.{itemOf}
+use Rattle.item.proofs.item_of.Statement.{statement}
+use Rattle.item.proofs.item_of.Tie as tie
+
+returns : tie.Need-returns
+unfolding itemOf
+returns c = cc
+
+pub item-of-spec : {M : Type 1} → statement M
+item-of-spec = tie.close (tie.spec returns)

@@ -1,0 +1,11 @@
+-- `item::with_state` meets its contract. Assumes nothing.
+use Rattle.rulebook.specs.Waiting.{withState}
+use Rattle.item.proofs.with_state.Statement.{statement}
+use Rattle.item.proofs.with_state.Tie as tie
+
+returns : tie.Need-returns
+unfolding withState
+returns c = cc
+
+pub with-state-spec : {M : Type 1} → statement M
+with-state-spec = tie.close (tie.spec returns)
