@@ -1,10 +1,10 @@
 -- How far a buffer was filled.
-use Prim.Native.Nat.{ℕ, _<_}
+use Prim.Native.Nat.{ℕ, _≤_}
+use mathlib.Core.Bool.{true}
+use mathlib.Core.Path.{_≡_}
 use Rattle.desk.specs.declared.input.Filled.{Filled}
-use Rattle.desk.specs.declared.input.Filled.the-variants.{Full, End, Failed}
 
--- an input that ended, or a read that failed, left room in the buffer
-abbrev pub Within : Filled → ℕ → Type 0
-Within Full size = Unit {0}
-Within (End n) size = n < size
-Within (Failed n) size = n < size
+-- what is to be called lies inside the buffer, and is all of it where more may follow
+pub record Within (filled : Filled) (size : ℕ) : Type 0 where
+  pub inside : filled .size ≤ size
+  pub full : filled .more ≡ true → filled .size ≡ size

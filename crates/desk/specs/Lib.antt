@@ -1,2 +1,3 @@
--- The input buffer.
+-- The input buffer, and what the program makes of what it reads.
 pub mod Input
+pub mod Printed

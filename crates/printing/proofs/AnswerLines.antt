@@ -27,7 +27,7 @@ module _ (more : List (List ℕ)) where
   book-append book area [] = refl
   book-append book area (octets ∷ records) = book-append (callOf book octets area .book) (callOf book octets area .area) records
 
-  area-append : (book : Ledger) (area : List ℕ) (records : List (List ℕ)) → areaAfter book area (records ++ more) ≡ areaAfter (bookAfter book area records) (areaAfter book area records) more
+  pub area-append : (book : Ledger) (area : List ℕ) (records : List (List ℕ)) → areaAfter book area (records ++ more) ≡ areaAfter (bookAfter book area records) (areaAfter book area records) more
   unfolding bookAfter areaAfter
   area-append book area [] = refl
   area-append book area (octets ∷ records) = area-append (callOf book octets area .book) (callOf book octets area .area) records

@@ -82,3 +82,15 @@ pub record Answered (number : ℕ) (records : List (List ℕ)) (before after : L
   pub ledger : ledgerOf after.book ≡ bookAfter (ledgerOf before.book) before.area records
   pub area : after.area ≡ areaAfter (ledgerOf before.book) before.area records
   pub lines : Put before.out before.at (answerLines number (ledgerOf before.book) before.area records) after.out after.at
+
+-- a file's records were called, and its lines stand at the start of the buffer, up to their end; the next record's number has moved on by as many
+pub record BlockPut (block : List ℕ) (number : ℕ) (before : Lent) (number′ : ℕ) (after : Lent) : Type 0 where
+  pub answered : Answered number (recordsOf block) before after
+  pub numbered : number′ ≡ number + length (recordsOf block)
+
+-- a file's records were called, from a number on: what the book and the area are after them, and the next record's number
+pub record FileCalled (file : List ℕ) (number : ℕ) (book lent : List ℕ) (number′ : ℕ) (book′ lent′ : List ℕ) : Type 0 where
+  pub kept : Kept book′
+  pub ledger : ledgerOf book′ ≡ bookAfter (ledgerOf book) lent (recordsOf file)
+  pub area : lent′ ≡ areaAfter (ledgerOf book) lent (recordsOf file)
+  pub numbered : number′ ≡ number + length (recordsOf file)

@@ -4,7 +4,7 @@ ghost use Prim.Native.Nat.{_+_, _*_, _^_, _≤_, _<_};
 ghost use lib.ListN.{length};
 ghost use Rattle.book.specs.Stored.{Kept};
 ghost use Rattle.file.specs.Records.{recordsOf};
-ghost use Rattle.printing.specs.Printed.{lent, Answered};
+ghost use Rattle.printing.specs.Printed.{lent, Answered, BlockPut};
 use file::Cursor;
 use file::Next;
 
@@ -49,4 +49,21 @@ pub fn put_answers(
         n += 1;
         cursor = next;
     }
+}
+
+// The records of a block are called, and their lines stand at the buffer's start. The first record's number moves on to that of the record behind
+// the block.
+pub fn put_block(
+    out: &mut [u8],
+    number: &mut u64,
+    book: &mut [u64],
+    block: &[u8],
+    area: &mut [u8],
+) -> usize
+    requires { ⌜ Kept (now book) × (65536 ≤ length (now out)) × (length (now block) ≤ 40960) × (now number + 1024 < 2 ^ 64) ⌝ }
+    ensures { λ r. ⌜ BlockPut (now (block .entry)) (now (number .entry)) (lent (now (book .entry)) (now (area .entry)) (now (out .entry)) 0) (now (number .exit)) (lent (now (book .exit)) (now (area .exit)) (now (out .exit)) r) ⌝ }
+{
+    let end = put_answers(out, 0, *number, book, block, area);
+    *number = *number + (block.len() as u64 + 39) / 40;
+    end
 }

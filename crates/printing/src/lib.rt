@@ -3,4 +3,5 @@ mod answers;
 mod custody;
 
 pub use answers::put_answers;
+pub use answers::put_block;
 pub use custody::put_custody;

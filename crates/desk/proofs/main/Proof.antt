@@ -4,21 +4,16 @@ use Rattle.book.proofs.Zeros.{zeros-kept}
 use Rattle.desk.proofs.main.Statement.{statement}
 use Rattle.desk.proofs.main.Tie as tie
 
+abbrev made : tie.After-number → tie.Then2
+made c = c .before .before .before .before .before
+
 run-requires : tie.Need-run-requires
-run-requires c κs = (rw (c .before .before .before .before .before .before .fresh .ensures .fresh (search needs)) zeros-kept, search needs, search needs)
+run-requires c κs = (rw (made c .before .before .fresh .ensures .fresh (made c .if2 .taken)) zeros-kept, search needs, search needs)
 
 pub main-spec : {M : Type 1} → statement M
 main-spec =
     tie.close
     (tie.spec
-    (λ c κs. search needs)
-    (λ c κs. search needs)
-    (λ c. search needs)
-    (λ c κs. search needs)
-    (λ c. search needs)
-    (λ c. search needs)
-    (λ c. search needs)
-    (λ c. search needs)
-    run-requires
-    (λ c. search needs)
-    (λ c. search needs))
+    (λ c κs. search needs) (λ c. search needs) (λ c κs. search needs) (λ c. search needs)
+    (λ c κs. search needs) (λ c κs. search needs) (λ c. search needs) (λ c κs. search needs)
+    (λ c. search needs) (λ c. search needs) (λ c. search needs) (λ c. search needs) run-requires (λ c. search needs) (λ c. search needs))

@@ -1,91 +1,75 @@
 -- `desk::print_block` meets its contract: what was read lies inside the buffer. Assumes nothing.
 use borrow.Author.Needs.{needs}
 use native.Mathlib.Omega.{arith}
-use mathlib.Core.Path.{_≡_, sym, subst}
-use Prim.Native.Nat.{ℕ, _-_, _%_, _≤_, _<_}
-use mathlib.Core.List.{List}
+use mathlib.Core.Bool.{Bool, true, false≢true}
+use mathlib.Core.Path.{_≡_, sym, _∙_}
+use Prim.Native.Nat.{_≤_}
 use lib.ListN.{length, take, length-take}
 use lib.Seq.{length-take-le}
-use Rattle.desk.specs.Input.{Within}
-use Rattle.desk.specs.declared.input.Filled.{Filled}
-use Rattle.desk.specs.declared.input.Filled.the-variants.{End, Failed}
+use Rattle.printing.proofs.Blocks.{block-called}
+use Rattle.desk.specs.Printed.{ReadAndCalled}
 use Rattle.desk.proofs.print_block.Statement.{statement}
 use Rattle.desk.proofs.print_block.Tie as tie
 
-ended : {filled : Filled} {n size : ℕ} → filled ≡ End n → Within filled size → n < size
-ended {size = size} e w = subst (λ (f : Filled). Within f size) e w
+-- ---- places
 
-failed : {filled : Filled} {n size : ℕ} → filled ≡ Failed n → Within filled size → n < size
-failed {size = size} e w = subst (λ (f : Filled). Within f size) e w
+abbrev lent : tie.After-fill → tie.Start
+lent c = c .before .before .before .before .before .before
 
-prefix : (n : ℕ) (l : List ℕ) {most : ℕ} → length l ≤ most → length (take n l) ≤ most
-prefix n l h = rw (length-take n l) (omega arith)
+abbrev filled : tie.After-print-answers-arg4 → tie.After-fill
+filled c = c .before .before .before .before .before .before
 
-slice-reshare-prefix-print-answers : tie.Need-slice-reshare-prefix-print-answers
-slice-reshare-prefix-print-answers c =
-    let within = ended (c .before .before .before .filled .given .1) (c .before .before .before .before .before .before .before .fill .ensures) in
-    omega (arith, c .before .before .before .before .before .before .before .fill .kept .0)
+abbrev printed : tie.After-slice-known8 → tie.After-print-answers
+printed c = c .before .before .before .before .before .before
+
+abbrev ended : tie.After-slice-known9 → tie.Else1
+ended c = c .before .before .before .before .before .before
+
+-- ---- needs
 
 slice-aggregate-print-answers : tie.Need-slice-aggregate-print-answers
 slice-aggregate-print-answers c =
-    let within = ended (c .before .before .before .before .filled .given .1) (c .before .before .before .before .before .before .before .before .fill .ensures) in
-    sym (length-take-le _ _ (omega (arith, c .before .before .before .before .before .before .before .before .fill .kept .0)))
+    let fill = filled c .fill in
+    sym (length-take-le _ _ (omega (arith, fill .ensures .inside, fill .kept .0)))
 
-print-answers-requires-2 : tie.Need-print-answers-requires-2
-print-answers-requires-2 c κs =
-    let start = c .before .before .before .before .before .before .before .before .before .before .before .before .before .before .before in
-    (start .pre .0, start .pre .2, prefix (c .before .before .before .before .before .filled .given .0 .0) (c .before .before .before .before .before .before .before .before .before .fill .last .0) (omega (arith, c .before .before .before .before .before .before .before .before .before .fill .kept .0)), start .pre .3)
+print-answers-requires : tie.Need-print-answers-requires
+print-answers-requires c κs =
+    let fill = filled (c .before) .fill in
+    let start = lent (filled (c .before)) in
+    (start .pre .0, start .pre .2, omega (arith, length-take (fill .result .size) (fill .last .0), fill .kept .0, start .pre .1), start .pre .3)
 
-slice-reshare-prefix-print-answers-2 : tie.Need-slice-reshare-prefix-print-answers-2
-slice-reshare-prefix-print-answers-2 c =
-    let within = failed (c .before .before .before .filled2 .given .1) (c .before .before .before .before .before .before .before .fill .ensures) in
-    omega (arith, c .before .before .before .before .before .before .before .fill .kept .0)
+-- whatever was printed, the bytes that were read are called
+returns : tie.Need-returns
+returns c =
+    let called = printed (c .before) in
+    record { size = filled (called .before .before) .fill .result .size; called = block-called (called .print-answers .ensures .put); whole = λ e. absurd (false≢true e) }
 
-slice-aggregate-print-answers-2 : tie.Need-slice-aggregate-print-answers-2
-slice-aggregate-print-answers-2 c =
-    let within = failed (c .before .before .before .before .filled2 .given .1) (c .before .before .before .before .before .before .before .before .fill .ensures) in
-    sym (length-take-le _ _ (omega (arith, c .before .before .before .before .before .before .before .before .fill .kept .0)))
+returns-2 : tie.Need-returns-2
+returns-2 c =
+    let called = printed (ended c .before) in
+    let fill = filled (called .before .before) in
+    record {
+      size = fill .fill .result .size;
+      called = block-called (called .print-answers .ensures .put);
+      whole = λ e. fill .fill .ensures .full e ∙ lent fill .pre .1;
+    }
 
-print-answers-requires-3 : tie.Need-print-answers-requires-3
-print-answers-requires-3 c κs =
-    let start = c .before .before .before .before .before .before .before .before .before .before .before .before .before .before .before in
-    let n = c .before .before .before .before .before .filled2 .given .0 .0 in
-    (start .pre .0, start .pre .2, prefix (n - n % 40) (c .before .before .before .before .before .before .before .before .before .fill .last .0) (omega (arith, c .before .before .before .before .before .before .before .before .before .fill .kept .0)), start .pre .3)
+returns-3 : tie.Need-returns-3
+returns-3 c =
+    let called = printed (c .before .before) in
+    let fill = filled (called .before .before) in
+    record {
+      size = fill .fill .result .size;
+      called = block-called (called .print-answers .ensures .put);
+      whole = λ e. fill .fill .ensures .full e ∙ lent fill .pre .1;
+    }
 
 pub print-block-spec : {M : Type 1} → statement M
 print-block-spec =
     tie.close
     (tie.spec
+    (λ c κs. search needs) (λ c. search needs) slice-aggregate-print-answers print-answers-requires
+    (λ c. search needs) (λ c. search needs) (λ c. search needs) (λ c. search needs) returns
     (λ c κs. search needs)
-    (λ c. search needs)
-    (λ c κs. search needs)
-    (λ c. search needs)
-    slice-reshare-prefix-print-answers
-    slice-aggregate-print-answers
-    print-answers-requires-2
-    (λ c κs. search needs)
-    (λ c. search needs)
-    (λ c. search needs)
-    slice-reshare-prefix-print-answers-2
-    slice-aggregate-print-answers-2
-    print-answers-requires-3
-    (λ c. search needs)
-    (λ c. search needs)
-    (λ c. search needs)
-    (λ c. search needs)
-    (λ c. search needs)
-    (λ c. search needs)
-    (λ c. search needs)
-    (λ c. search needs)
-    (λ c. search needs)
-    (λ c. search needs)
-    (λ c. search needs)
-    (λ c. search needs)
-    (λ c. search needs)
-    (λ c. search needs)
-    (λ c. search needs)
-    (λ c. search needs)
-    (λ c. search needs)
-    (λ c. search needs)
-    (λ c. search needs)
-    (λ c. search needs))
+    (λ c. search needs) (λ c. search needs) (λ c. search needs) (λ c. search needs) returns-2
+    (λ c. search needs) (λ c. search needs) (λ c. search needs) (λ c. search needs) returns-3)
