@@ -1,7 +1,7 @@
 #!/bin/sh
 # Shows that the comparison finds deliberate changes: each patch here is put
 # into a copy of the reference, which then stands in for the library under
-# test. The last line is "N found, M missed"; names pick single slips.
+# test. The last line is "N passed, M failed", a slip that is found passes; names pick single slips.
 set -eu
 cd "$(dirname "$0")/.."
 tests=$PWD
@@ -28,12 +28,12 @@ DEPOSITORY_LIB=$work/build/release/libstandin.so \
 
 # try: runs the comparison with the stand-in built last.
 try() {
-    LD_LIBRARY_PATH=$work/build/release "$work/compare/release/compare" --seed 1 > "$work/output" 2>&1
+    LD_LIBRARY_PATH=$work/build/release "$work/compare/release/compare" "$@" > "$work/output" 2>&1
 }
 
 if [ $# -eq 0 ]; then
     echo "unchanged stand-in:"
-    try || { cat "$work/output"; exit 1; }
+    try --replay 'busy trading' 1 5000 || { cat "$work/output"; exit 1; }
     echo "    $(tail -n 1 "$work/output")"
     set -- slips/*.patch
 fi
@@ -44,7 +44,7 @@ for patch in "$@"; do
     copy
     patch --quiet --directory="$work/source" -p1 < "slips/$name.patch"
     build
-    if try || ! grep -q -E '^FAILED: ' "$work/output"; then
+    if try --seed 1 || ! grep -q -E '^FAILED: ' "$work/output"; then
         echo "$name: MISSED"
         missed=$((missed + 1))
     else
@@ -52,5 +52,5 @@ for patch in "$@"; do
         found=$((found + 1))
     fi
 done
-echo "$found found, $missed missed"
+echo "$found passed, $missed failed"
 [ "$missed" -eq 0 ]
