@@ -1,8 +1,8 @@
 -- From the effect of each form to lists of calls: what a claim of demand 3 has to show is its step, one form at a time. Assumes nothing.
-use mathlib.Core.Path.{_≡_, refl}
-use mathlib.Core.Bool.{Bool, true, false}
+use mathlib.Core.Path.{_≡_, refl, sym, ap, subst}
+use mathlib.Core.Bool.{Bool, true, false, _||_, false≢true}
 use mathlib.Core.List.{List, [], _∷_}
-use Prim.Native.Nat.{ℕ, zero, suc, _+_, _-_, _≤_}
+use Prim.Native.Nat.{ℕ, zero, suc, _+_, _≤_}
 use native.Mathlib.Nat.{add-zero, add-suc, suc-add}
 use native.Mathlib.Numerals.{one-add}
 use native.Mathlib.Omega.{arith}
@@ -10,23 +10,42 @@ use borrow.Author.Tests.{eqb-true}
 use lib.ListN.{length, getD}
 use Rattle.rulebook.specs.declared.Order.{Order}
 use Rattle.rulebook.specs.declared.Counts.{Counts}
+use Rattle.rulebook.specs.declared.Day.{Day}
 use Rattle.rulebook.specs.declared.Answer.{Answer}
 use Rattle.rulebook.specs.declared.Read.{Read}
-use Rattle.rulebook.specs.Lists.{_is_, _below_, total, first}
+use Rattle.rulebook.specs.Lists.{_is_, _below_, some, total, first}
 use Rattle.rulebook.specs.Ledger.{Ledger}
 use Rattle.rulebook.specs.Record.{readOf}
-use Rattle.rulebook.specs.Forms.{Outcome, silent, openDay, forms, effect}
+use Rattle.rulebook.specs.Forms.{Outcome, Form, forms, noRow, rowOf, windowOf, effect}
 use Rattle.rulebook.specs.Refusals.{refusals}
 use Rattle.rulebook.specs.Call.{Result, putMinute, accepted, refused, orderCall, readCall, callOf}
 use Rattle.rulebook.specs.Calls.{Call, call, Made, resultOf, recordIn, callsOn, bookAfter, ofRecord, records, ofAnswer, answers}
 
-abbrev pub Form : Type 0
-Form = Ledger → Order → Outcome
+-- what a form does
+abbrev pub Effect : Type 0
+Effect = Ledger → Order → Outcome
 
--- what holds of each form of a list, numbered from n
+-- what holds of each row of a list of forms, numbered from n
 abbrev pub AllForms : (ℕ → Form → Type 0) → ℕ → List Form → Type 0
 AllForms P n [] = Unit {0}
 AllForms P n (f ∷ rest) = P n f × AllForms P (suc n) rest
+
+-- what an order does, and when it may come, by its form's row
+pub effect-at : (n : ℕ) (b : Ledger) (o : Order) → o.form ≡ n → effect b o ≡ rowOf n .effect b o
+unfolding effect
+effect-at n b o e = ap (λ (k : ℕ). rowOf k .effect b o) e
+
+pub window-at : (n : ℕ) (d : Day) (o : Order) → o.form ≡ n → windowOf d o ≡ rowOf n .window d o
+unfolding windowOf
+window-at n d o e = ap (λ (k : ℕ). rowOf k .window d o) e
+
+-- a number that no row has
+abbrev pub NoForm : ℕ → Type 0
+NoForm n = (1 ≤ n) × (n ≤ length forms) → ⊥
+
+-- no order that was read has such a number
+pub not-read : {n m : ℕ} → NoForm m → n ≡ m → (1 ≤ n) × (n ≤ length forms) → ⊥
+not-read none e r = none (subst (λ (k : ℕ). (1 ≤ k) × (k ≤ length forms)) e r)
 
 module _ (P : ℕ → Form → Type 0) where
   form-at : (fs : List Form) (n k : ℕ) (d : Form) → AllForms P n fs → ((m : ℕ) → n + length fs ≤ m → P m d) → P (n + k) (getD fs k d)
@@ -34,25 +53,31 @@ module _ (P : ℕ → Form → Type 0) where
   form-at (f ∷ rest) n zero d a h = rw add-zero (a .0)
   form-at (f ∷ rest) n (suc k) d a h = rw (add-suc n k, ← suc-add n k) (form-at rest (suc n) k d (a .1) (λ m l. h m (omega arith)))
 
-forms-length : length forms ≡ 17
-unfolding forms
-forms-length = refl
+  -- what holds of every row of the table, and of no row at other numbers, holds of the row of any number
+  pub by-form : AllForms P 1 forms → ((m : ℕ) → NoForm m → P m noRow) → (n : ℕ) → P n (rowOf n)
+  unfolding rowOf
+  by-form a h zero = h 0 (λ w. absurd (omega (arith, w .0)))
+  by-form a h (suc n) = rw (← one-add n) (form-at forms 1 n noRow a (λ m l. h m (λ w. absurd (omega (arith, l, w .1)))))
 
--- what holds of the seventeen forms, and of a form that does nothing at other numbers, holds of the effect of any order
-pub by-form :
-    (P : ℕ → Form → Type 0) → AllForms P 1 forms → ((m : ℕ) → 18 ≤ m → P m (λ b o. silent b)) → P 0 openDay → (n : ℕ)
-    → P n (getD forms (n - 1) (λ b o. silent b))
-unfolding forms
-by-form P a h z n = go n
-  where
-    at : (k : ℕ) → P (1 + k) (getD forms k (λ b o. silent b))
-    at k = form-at P forms 1 k (λ b o. silent b) a (λ m l. h m (omega (arith, forms-length)))
+-- a test that no row fails, computed once, fails at no number
+module _ (wrong : Form → Bool) where
+  none-in-list : (fs : List Form) (k : ℕ) → some wrong fs ≡ false → wrong noRow ≡ false → wrong (getD fs k noRow) ≡ false
+  none-in-list [] k e z = z
+  none-in-list (f ∷ rest) zero e z = go (wrong f) (some wrong rest) e
+    where
+      go : (x y : Bool) → (x || y) ≡ false → x ≡ false
+      go true y p = p
+      go false y p = refl
+  none-in-list (f ∷ rest) (suc k) e z = none-in-list rest k (go (wrong f) (some wrong rest) e) z
+    where
+      go : (x y : Bool) → (x || y) ≡ false → y ≡ false
+      go true y p = absurd (false≢true (sym p))
+      go false y p = p
 
-    go : (n : ℕ) → P n (getD forms (n - 1) (λ b o. silent b))
-    go zero = z
-    go (suc n) =
-        let p : suc n - 1 ≡ n = omega arith in
-        rw (p, ← one-add n) (at n)
+  pub by-test : some wrong forms ≡ false → wrong noRow ≡ false → (n : ℕ) → wrong (rowOf n) ≡ false
+  unfolding rowOf
+  by-test e z zero = z
+  by-test e z (suc n) = none-in-list forms n e z
 
 -- a figure of an accepted call: from its order and what the order's effect was
 abbrev pub Figure : Type 0

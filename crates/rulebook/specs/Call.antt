@@ -4,8 +4,7 @@ use mathlib.Core.Bool.{Bool, true, false}
 use mathlib.Core.List.{List, [], _∷_, _++_}
 use lib.ListN.{length, drop}
 use Rattle.rulebook.specs.Lists.{if_then_else_, _is_, _below_, first}
-use Rattle.rulebook.specs.Ledger.{Ledger, putDay}
-use Rattle.rulebook.specs.declared.Day.{Day}
+use Rattle.rulebook.specs.Ledger.{Ledger, putDay, withMinute}
 use Rattle.rulebook.specs.Record.{readOf}
 use Rattle.rulebook.specs.Rows.{rowsBytes}
 use Rattle.rulebook.specs.Forms.{Outcome, effect}
@@ -31,8 +30,7 @@ refused number book area = record { answer = Answer.Refused number; book = book;
 
 -- Every accepted call sets the last minute.
 unfoldable pub putMinute : ℕ → Ledger → Ledger
-putMinute minute book =
-    putDay (record { opened = book.day.opened; number = book.day.number; kind = book.day.kind; cycles = book.day.cycles; minute = minute }) book
+putMinute minute book = putDay (withMinute minute book.day) book
 
 -- An accepted call answers with its counts; bytes after the last row keep their contents.
 unfoldable pub accepted : Outcome → ℕ → List ℕ → Result

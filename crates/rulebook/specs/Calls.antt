@@ -14,6 +14,7 @@ use Rattle.rulebook.specs.Movements.{Place, account, type91, type90, cas
 use Rattle.rulebook.specs.Rows.{postingIn}
 use Rattle.rulebook.specs.declared.Posting.{Posting}
 use Rattle.rulebook.specs.Waiting.{sides}
+use Rattle.rulebook.specs.Forms.{writes, takesIn}
 use Rattle.rulebook.specs.Call.{Result, callOf}
 use Rattle.rulebook.specs.declared.Order.{Order}
 use Rattle.rulebook.specs.declared.Read.{Read}
@@ -72,10 +73,7 @@ unfoldable pub firstRows : ℕ → List ℕ → List Posting
 firstRows zero area = []
 firstRows (suc n) area = postingIn (take 16 area) ∷ firstRows n (drop 16 area)
 
--- those of cancel and close are notices, the others posting rows.
-unfoldable pub writes : Order → ℕ
-writes order = if order.form oneOf (15 ∷ 17 ∷ []) then 0 else 1
-
+-- where the form writes posting rows
 unfoldable pub postingsOf : Made → List Posting
 postingsOf m =
     if ofRecord writes m.answer (recordIn m.made) is 1 then firstRows (ofAnswer (λ counts. counts.rows) m.answer) m.area else []
@@ -121,10 +119,7 @@ kept (type90 security) h = 0
 kept (cashOf member currency) h = h.cash member currency
 kept (member0 currency) h = 0
 
--- An accepted 12 or 13 takes in one, a 14 two
-unfoldable pub takesIn : Order → ℕ
-takesIn order = if order.form oneOf (12 ∷ 13 ∷ []) then 1 else if order.form is 14 then 2 else 0
-
+-- the sides that the accepted orders took in
 unfoldable pub sidesTaken : List Made → ℕ
 sidesTaken = records takesIn
 

@@ -6,19 +6,20 @@ use mathlib.Core.List.{List, [], _∷_, _++_, map}
 use lib.ListN.{take, drop, replicate}
 use Rattle.bits.specs.Bits.{number, bytes, leading, field}
 use Rattle.rulebook.specs.AccountTypes.{bookEntry, physical, free, alike, pledgePairs, blockPairs, listed, pledgedOrBlocked, wrongTypes}
-use Rattle.rulebook.specs.Record.{widths, places, fieldsOf, orderOf, D, C, all, allBut, usedFields, used, least, most, noForm, unusedNotZero, usedOutOfRange, fieldsIn, readRefusal, readOf, recordOf, writeRefusal, writtenOf, areaWritten}
+use Rattle.rulebook.specs.Field.{widths, places, ceiling}
+use Rattle.rulebook.specs.Record.{fieldsOf, orderOf, noForm, unusedNotZero, usedOutOfRange, fieldsIn, readRefusal, readOf, recordOf, writeRefusal, writtenOf, areaWritten}
 use Rattle.rulebook.specs.Ledger.{fresh, putDay, putHoldings, putWaiting, accountOf, sameAccount, counted, putBalance, putCash, putSecurities, putOutside, admitted, issuedOf, outsideOf, sumBelow, cashTotal, Ledger}
 use Rattle.rulebook.specs.Movements.{credit, debit, credits, debits, booked}
-use Rattle.rulebook.specs.Windows.{byKind, cycleMinutes, officeEnd, windowOf}
+use Rattle.rulebook.specs.Windows.{byKind, cycleMinutes, officeEnd}
 use Rattle.rulebook.specs.Rows.{postingWidths, noticeWidths, postingBytes, postingIn, postingOf, noticeBytes, deliverReference, receiveReference, noticeOf, postingRows, rowBytes, rowsBytes}
 use Rattle.rulebook.specs.Waiting.{itemOf, isDeliver, isReceive, isTrade, ownReference, sidesOf, sides, senderOf, sentBy, notCancellable, withState, marked, bothMarked, marking, cancelled, staying, unmarked}
 use Rattle.rulebook.specs.Matching.{tolerance, agree, pairsWith, pairOf, arrive}
 use Rattle.rulebook.specs.Cycle.{seller, buyer, taken, due, settlingOf, over, sharesBrought, sharesTaken, cashBrought, cashTaken, bringsShares, takesShares, bringsCash, takesCash, sharesMissing, cashMissing, debitsShort, anyShort, dropLast, rounds, settling, withMark, withoutMark, legs, settled, notSettled, dropped}
 use Rattle.rulebook.specs.Close.{closeKind, leaves, deletedAtClose, suspendedAtClose, closeNotice}
-use Rattle.rulebook.specs.Forms.{counts, outcome, moving, silent, openDay, admit, deposit, withdraw, transfer, payIn, payOut, instruct, trade, cancel, cycle, close, forms, effect}
+use Rattle.rulebook.specs.Forms.{counts, outcome, moving, silent, openDay, admit, deposit, withdraw, transfer, payIn, payOut, instruct, trade, cancel, cycle, close, forms, rowOf, used, least, most, windowOf, effect, writes, takesIn}
 use Rattle.rulebook.specs.Refusals.{wrongDay, wrongCycle, goesBack, outsideWindow, wrongSecurity, wrongPair, wrongParties, wrongDays, wrongReference, wrongCancel, tooLittle, overCeiling, noSpace, refusals}
 use Rattle.rulebook.specs.Call.{answerNumber, refused, putMinute, accepted, orderCall, readCall, callOf, Result}
-use Rattle.rulebook.specs.Calls.{resultOf, recordIn, callsOn, bookAfter, ofRecord, records, ofAnswer, answers, firstRows, writes, postingsOf, postings, sharesIn, cashIn, putIn, released, names, written, kept, takesIn, sidesTaken, Call, call}
+use Rattle.rulebook.specs.Calls.{resultOf, recordIn, callsOn, bookAfter, ofRecord, records, ofAnswer, answers, firstRows, postingsOf, postings, sharesIn, cashIn, putIn, released, names, written, kept, sidesTaken, Call, call}
 use Rattle.rulebook.specs.declared.Order.{Order}
 use Rattle.rulebook.specs.declared.Answer.{Answer}
 use Rattle.rulebook.specs.declared.Party.{Party}
@@ -44,6 +45,9 @@ order form minute security currency debited credited quantity amount tradeDay se
   «trade_day» = tradeDay;
   «settlement_day» = settlementDay;
   reference = reference;
+  operation = 0;
+  original = 0;
+  edition = 0;
 }
 
 -- orders of day 1 in security 101 and in USD; accounts of type 20 and shareholder 5
@@ -150,15 +154,15 @@ pub desk : Desk
 unfolding
     party nobody order opens admits deposits pledges paysIn delivers receives runs sells manyDelivers send calls result started full waits cycled
     number bytes leading field bookEntry physical free alike pledgePairs blockPairs listed pledgedOrBlocked wrongTypes widths places
-    fieldsOf orderOf D C all allBut usedFields used least most noForm unusedNotZero usedOutOfRange fieldsIn readRefusal readOf recordOf
+    fieldsOf orderOf ceiling used least most noForm unusedNotZero usedOutOfRange fieldsIn readRefusal readOf recordOf
     writeRefusal writtenOf areaWritten fresh putDay putHoldings putWaiting accountOf sameAccount counted putBalance putCash putSecurities putOutside
-    admitted issuedOf outsideOf sumBelow cashTotal credit debit credits debits booked byKind cycleMinutes officeEnd windowOf postingWidths noticeWidths
+    admitted issuedOf outsideOf sumBelow cashTotal credit debit credits debits booked byKind cycleMinutes officeEnd postingWidths noticeWidths
     postingBytes postingIn postingOf noticeBytes deliverReference receiveReference noticeOf postingRows rowBytes rowsBytes itemOf isDeliver
     isReceive isTrade ownReference sidesOf sides senderOf sentBy notCancellable withState marked bothMarked marking cancelled staying unmarked
     tolerance agree pairsWith pairOf arrive seller buyer taken over sharesBrought sharesTaken cashBrought cashTaken bringsShares takesShares bringsCash takesCash sharesMissing cashMissing due settlingOf
     debitsShort anyShort dropLast rounds settling withMark withoutMark legs settled notSettled dropped closeKind leaves deletedAtClose
     suspendedAtClose closeNotice counts outcome moving silent openDay admit deposit withdraw transfer payIn payOut instruct trade cancel cycle
-    close forms effect wrongDay wrongCycle goesBack outsideWindow wrongSecurity wrongPair wrongParties wrongDays wrongReference wrongCancel
+    close forms rowOf windowOf effect wrongDay wrongCycle goesBack outsideWindow wrongSecurity wrongPair wrongParties wrongDays wrongReference wrongCancel
     tooLittle overCeiling noSpace refusals answerNumber refused putMinute accepted orderCall readCall callOf resultOf recordIn callsOn bookAfter
     ofRecord records ofAnswer answers firstRows writes postingsOf postings sharesIn cashIn putIn released names written kept takesIn
     sidesTaken

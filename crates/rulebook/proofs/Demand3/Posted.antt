@@ -15,10 +15,10 @@ use Rattle.rulebook.specs.Ledger.{Ledger, fresh, outsideOf, putDay}
 use Rattle.rulebook.specs.Movements.{Place, account, type91, type90, cashOf, member0}
 use Rattle.rulebook.specs.Rows.{postingRows, rowsBytes}
 use Rattle.rulebook.specs.declared.Posting.{Posting}
-use Rattle.rulebook.specs.Forms.{Outcome, effect}
+use Rattle.rulebook.specs.Forms.{Outcome, rowOf, effect, writes}
 use Rattle.rulebook.specs.Refusals.{refusals}
 use Rattle.rulebook.specs.Call.{Result, refused, putMinute, accepted, orderCall, readCall, callOf}
-use Rattle.rulebook.specs.Calls.{Call, call, resultOf, recordIn, callsOn, bookAfter, ofRecord, ofAnswer, firstRows, writes, postingsOf, postings, written, kept}
+use Rattle.rulebook.specs.Calls.{Call, call, resultOf, recordIn, callsOn, bookAfter, ofRecord, ofAnswer, firstRows, postingsOf, postings, written, kept}
 use Rattle.rulebook.proofs.Reading.{counts, entries, rows-back, entries-brought, entries-taken}
 use Rattle.rulebook.specs.Premise.{Premise}
 use Rattle.rulebook.proofs.Steps.OneCall.{writesAt, Step}
@@ -50,17 +50,17 @@ module _ (place : Place) where
   accepted-posts :
       (b : Ledger) (o : Order) (x : Outcome) (area : List ℕ) → Step o.form b o x → Posts b (Read.Order o) (accepted x o.minute area)
   unfolding accepted ofRecord ofAnswer writes putMinute putDay
-  accepted-posts b o x area t = go (o.form oneOf (15 ∷ 17 ∷ [])) refl
+  accepted-posts b o x area t = go (rowOf o.form .posts) refl
     where
-      go : (w : Bool) → (o.form oneOf (15 ∷ 17 ∷ [])) ≡ w → Posts b (Read.Order o) (accepted x o.minute area)
+      go : (w : Bool) → rowOf o.form .posts ≡ w → Posts b (Read.Order o) (accepted x o.minute area)
       go true e =
-          let n = t .notices (simp e) in
-          let c = t .changes place in
-          simp e (omega (arith, rw n at c))
-      go false e =
           let r = step-rows b o x t area (simp e) in
           simp (e, r)
           (omega (arith, t .changes place, entries-brought place (t .moves) (t .proper), entries-taken place (t .moves) (t .proper)))
+      go false e =
+          let n = t .notices (simp e) in
+          let c = t .changes place in
+          simp e (omega (arith, rw n at c))
 
   order-posts : (b : Ledger) (o : Order) (area bytes : List ℕ) → Premise b → readOf bytes ≡ Read.Order o → Posts b (Read.Order o) (orderCall b o area)
   unfolding orderCall

@@ -13,10 +13,10 @@ use Rattle.rulebook.specs.AccountTypes.{pledgedOrBlocked}
 use Rattle.rulebook.specs.Ledger.{Ledger, Holdings, accountOf, sameAccount, issuedOf, putSecurities}
 use Rattle.rulebook.specs.Movements.{Place, account, type91, Movement, booked}
 use Rattle.rulebook.specs.Rows.{postingRows}
-use Rattle.rulebook.specs.Forms.{Outcome}
+use Rattle.rulebook.specs.Forms.{Outcome, rowOf}
 use Rattle.rulebook.specs.Calls.{kept}
 use Rattle.rulebook.specs.Premise.{withCode, Premise}
-use Rattle.rulebook.proofs.ByCall.{Form}
+use Rattle.rulebook.proofs.ByCall.{Effect}
 use Rattle.rulebook.proofs.Orders.{Accepted}
 use Rattle.rulebook.proofs.Securities.{booked-issued}
 use Rattle.rulebook.proofs.Places.{brought, taken, booked-codes}
@@ -38,7 +38,7 @@ abbrev pub releasedAt : Account → ℕ → Order → ℕ
 releasedAt a form o = if form oneOf (7 ∷ 9 ∷ []) && sameAccount (accountOf o.security o.debited) a then o.quantity.0 else 0
 
 abbrev pub writesAt : ℕ → ℕ
-writesAt form = if form oneOf (15 ∷ 17 ∷ []) then 0 else 1
+writesAt form = if rowOf form .posts then 1 else 0
 
 -- movements bring and take what the order's figures say
 pub record Figures (form : ℕ) (o : Order) (moves : List Movement) : Type 0 where
@@ -72,7 +72,7 @@ pub record Step (form : ℕ) (b : Ledger) (o : Order) (x : Outcome) : Type 0 whe
   pub figures : Figures form o moves
 
 -- a form makes such a step
-abbrev pub Steps : ℕ → Form → Type 0
+abbrev pub Steps : ℕ → Effect → Type 0
 Steps n f = (b : Ledger) (o : Order) → o.form ≡ n → Premise b → Accepted b o → Step n b o (f b o)
 
 module _ (form : ℕ) (b : Ledger) (o : Order) (x : Outcome) (t : Step form b o x) where

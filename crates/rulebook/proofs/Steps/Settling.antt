@@ -11,7 +11,7 @@ use Rattle.rulebook.specs.Ledger.{Ledger, Holdings, accountOf, putSecuri
 use Rattle.rulebook.specs.declared.Account.{Account}
 use Rattle.rulebook.specs.Movements.{Place, account, type91, type90, cashOf, member0, Movement, booked}
 use Rattle.rulebook.specs.Cycle.{Marked, seller, buyer, over, bringsShares, takesShares, bringsCash, takesCash, sharesTaken, sharesBrought, cashTaken, cashBrought, settling, withMark, settled, legs}
-use Rattle.rulebook.specs.Forms.{outcome, counts, cycle}
+use Rattle.rulebook.specs.Forms.{outcome, counts, cycle, forms, rowOf}
 use Rattle.rulebook.specs.Calls.{kept}
 use Rattle.rulebook.proofs.Rounds.{settling-done, enough-shares, enough-cash, settled-fits}
 use Rattle.rulebook.specs.Premise.{Each, ItemFits, today}
@@ -120,7 +120,7 @@ pub cycle-exact :
 cycle-exact b = booked-exact (legs (settled b)) b.holdings (legs-known b.holdings (settled b)) (cycle-enough b)
 
 pub cycle-steps : Steps 16 cycle
-unfolding cycle outcome counts putSecurities
+unfolding cycle outcome counts putSecurities forms rowOf
 cycle-steps b o e p a =
     let ts = settled b in
     let P : Item → Type 0 = ItemFits b.day.number (today b.day) b.holdings in
