@@ -12,7 +12,9 @@ use Rattle.bits.specs.Layout.{pack, Fit}
 use Rattle.bits.proofs.Laws.{Octets, length-bytes}
 use Rattle.bits.proofs.Packing.{pack-high, take-bytes}
 use Rattle.rulebook.specs.Lists.{if_then_else_, _is_}
-use Rattle.rulebook.specs.Record.{widths, places, fieldsOf, orderOf, D, C, all, allBut, usedFields, used, least, most, noForm, unusedNotZero, usedOutOfRange, recordOf, readOf, writeRefusal, writtenOf, areaWritten}
+use Rattle.rulebook.specs.Field.{widths, places, ceiling}
+use Rattle.rulebook.specs.Forms.{forms, rowOf, used, least, most}
+use Rattle.rulebook.specs.Record.{fieldsOf, orderOf, noForm, unusedNotZero, usedOutOfRange, recordOf, readOf, writeRefusal, writtenOf, areaWritten}
 use Rattle.rulebook.specs.declared.Order.{Order}
 use Rattle.rulebook.specs.declared.Read.{Read}
 use Rattle.rulebook.specs.declared.Written.{Written}
@@ -68,5 +70,5 @@ abbrev deposit : Order
 deposit = orderOf (3 ∷ 540 ∷ 101 ∷ 0 ∷ 0 ∷ 0 ∷ 7 ∷ 20 ∷ 0 ∷ 5 ∷ 400 ∷ [])
 
 pub p1-deposit : take 2 (areaWritten deposit (replicate 40 0)) ≡ 0x1A ∷ 0x1C ∷ []
-unfolding orderOf fieldsOf writtenOf writeRefusal noForm unusedNotZero usedOutOfRange places used usedFields all allBut D C least most widths
+unfolding orderOf fieldsOf writtenOf writeRefusal noForm unusedNotZero usedOutOfRange places used least most forms rowOf ceiling widths
 p1-deposit = p1 deposit (replicate 40 0) refl refl refl

@@ -13,7 +13,7 @@ use Rattle.rulebook.specs.declared.Counts.{Counts}
 use Rattle.rulebook.specs.declared.Day.{Day}
 use Rattle.rulebook.specs.declared.Answer.{Answer}
 use Rattle.rulebook.specs.declared.Read.{Read}
-use Rattle.rulebook.specs.Lists.{_is_, _below_, some, total, first}
+use Rattle.rulebook.specs.Lists.{_is_, _below_, total, first}
 use Rattle.rulebook.specs.Ledger.{Ledger}
 use Rattle.rulebook.specs.Record.{readOf}
 use Rattle.rulebook.specs.Forms.{Outcome, Form, forms, noRow, rowOf, windowOf, effect}
@@ -59,25 +59,23 @@ module _ (P : ℕ → Form → Type 0) where
   by-form a h zero = h 0 (λ w. absurd (omega (arith, w .0)))
   by-form a h (suc n) = rw (← one-add n) (form-at forms 1 n noRow a (λ m l. h m (λ w. absurd (omega (arith, l, w .1)))))
 
--- a test that no row fails, computed once, fails at no number
-module _ (wrong : Form → Bool) where
-  none-in-list : (fs : List Form) (k : ℕ) → some wrong fs ≡ false → wrong noRow ≡ false → wrong (getD fs k noRow) ≡ false
-  none-in-list [] k e z = z
-  none-in-list (f ∷ rest) zero e z = go (wrong f) (some wrong rest) e
-    where
-      go : (x y : Bool) → (x || y) ≡ false → x ≡ false
-      go true y p = p
-      go false y p = refl
-  none-in-list (f ∷ rest) (suc k) e z = none-in-list rest k (go (wrong f) (some wrong rest) e) z
-    where
-      go : (x y : Bool) → (x || y) ≡ false → y ≡ false
-      go true y p = absurd (false≢true (sym p))
-      go false y p = p
+-- a row of a list of forms, numbered from n, is wrong
+abbrev pub anyForm : (ℕ → Form → Bool) → ℕ → List Form → Bool
+anyForm wrong n [] = false
+anyForm wrong n (f ∷ rest) = wrong n f || anyForm wrong (suc n) rest
 
-  pub by-test : some wrong forms ≡ false → wrong noRow ≡ false → (n : ℕ) → wrong (rowOf n) ≡ false
-  unfolding rowOf
-  by-test e z zero = z
-  by-test e z (suc n) = none-in-list forms n e z
+-- a table's rule: what one computed test says of all rows holds of the row of any number
+module _ (wrong : ℕ → Form → Bool) where
+  all-right : (fs : List Form) (n : ℕ) → anyForm wrong n fs ≡ false → AllForms (λ n f. wrong n f ≡ false) n fs
+  all-right [] n e = tt
+  all-right (f ∷ rest) n e = let t = none (wrong n f) (anyForm wrong (suc n) rest) e in (t .0, all-right rest (suc n) (t .1))
+    where
+      none : (x y : Bool) → (x || y) ≡ false → (x ≡ false) × (y ≡ false)
+      none true y p = absurd (false≢true (sym p))
+      none false y p = (refl, p)
+
+  pub by-test : anyForm wrong 1 forms ≡ false → ((m : ℕ) → wrong m noRow ≡ false) → (n : ℕ) → wrong n (rowOf n) ≡ false
+  by-test e z = by-form (λ n f. wrong n f ≡ false) (all-right forms 1 e) (λ m no-form. z m)
 
 -- a figure of an accepted call: from its order and what the order's effect was
 abbrev pub Figure : Type 0

@@ -153,7 +153,7 @@ above f = some (λ place. ceiling place below ruleIn (always ++ f.fields) place 
 
 pub most-ceiling : (form i : ℕ) → i < length places → most form (getD places i 0) ≤ ceiling (getD places i 0)
 unfolding above forms most ceiling widths places
-most-ceiling form i l = ltb-false _ _ (none-at (λ place. ceiling place below most form place) places i l (by-test above refl refl form))
+most-ceiling form i l = ltb-false _ _ (none-at (λ place. ceiling place below most form place) places i l (by-test (λ n f. above f) refl (λ m. refl) form))
 
 fields-range : (fields : List ℕ) → noForm fields ≡ false → unusedNotZero fields ≡ false → usedOutOfRange fields ≡ false → Ranges (orderOf fields)
 unfolding noForm unusedNotZero usedOutOfRange orderOf places widths ceiling

@@ -95,7 +95,7 @@ uses-spare f = some (λ rule. Field.spare is rule.place) (always ++ f.fields)
 
 spare-unused : (form : ℕ) → used form Field.spare ≡ false
 unfolding uses-spare forms used
-spare-unused form = by-test uses-spare refl refl form
+spare-unused form = by-test (λ n f. uses-spare f) refl (λ m. refl) form
 
 -- the fields of the order of fields that were read are these
 fields-again : (octets : List ℕ) → Passed (fieldsIn octets) → fieldsOf (orderOf (fieldsIn octets)) ≡ fieldsIn octets
