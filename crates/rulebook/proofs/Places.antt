@@ -10,7 +10,7 @@ use Rattle.rulebook.specs.Lists.{if_then_else_, _is_, total}
 use Rattle.rulebook.specs.Ledger.{Holdings, sameAccount, outsideOf, putBalance, putCash, putSecurities, putOutside}
 use Rattle.rulebook.specs.declared.Account.{Account}
 use Rattle.rulebook.specs.Movements.{Place, account, type91, type90, cashOf, member0, Movement, move, credit, debit, credits, debits, booked}
-use Rattle.rulebook.specs.Calls.{kept}
+use Rattle.rulebook.specs.Calls.{bookHas}
 use Rattle.rulebook.specs.Premise.{withCode}
 use Rattle.rulebook.proofs.Lists.{both}
 use Rattle.rulebook.proofs.Rounds.{same-eq}
@@ -212,16 +212,16 @@ module _ (m c : ℕ) where
       go false e = simp e (omega arith)
   debit-cash (member0 s) n h = omega arith
 
-credit-kept : (p q : Place) (n : ℕ) (h : Holdings) → Known h q → kept p (credit q n h) ≡ kept p h + (if isAt p q then n else 0)
-unfolding kept
+credit-kept : (p q : Place) (n : ℕ) (h : Holdings) → Known h q → bookHas p (credit q n h) ≡ bookHas p h + (if isAt p q then n else 0)
+unfolding bookHas
 credit-kept (account a) q n h k = credit-balance a q n h
 credit-kept (type91 s) q n h k = credit-outs s q n h k
 credit-kept (type90 s) q n h k = refl
 credit-kept (cashOf m c) q n h k = credit-cash m c q n h
 credit-kept (member0 c) q n h k = refl
 
-debit-kept : (p q : Place) (n : ℕ) (h : Holdings) → Known h q → kept p (debit q n h) ≡ kept p h - (if isAt p q then n else 0)
-unfolding kept
+debit-kept : (p q : Place) (n : ℕ) (h : Holdings) → Known h q → bookHas p (debit q n h) ≡ bookHas p h - (if isAt p q then n else 0)
+unfolding bookHas
 debit-kept (account a) q n h k = debit-balance a q n h
 debit-kept (type91 s) q n h k = debit-outs s q n h k
 debit-kept (type90 s) q n h k = refl
@@ -231,32 +231,32 @@ debit-kept (member0 c) q n h k = refl
 -- lists of movements
 
 module _ (p : Place) where
-  credits-kept : (ms : List Movement) (h : Holdings) → AllKnown h ms → kept p (credits ms h) ≡ kept p h + brought p ms
+  credits-kept : (ms : List Movement) (h : Holdings) → AllKnown h ms → bookHas p (credits ms h) ≡ bookHas p h + brought p ms
   unfolding credits
   credits-kept [] h k = omega arith
   credits-kept (m ∷ rest) h k =
       let h′ = credit m.to m.number h in
       omega (arith, credits-kept rest h′ (all-known-same h h′ (credit-codes m.to m.number h) rest (k .2)), credit-kept p m.to m.number h (k .1))
 
-  debits-kept : (ms : List Movement) (h : Holdings) → AllKnown h ms → kept p (debits ms h) ≡ kept p h - taken p ms
+  debits-kept : (ms : List Movement) (h : Holdings) → AllKnown h ms → bookHas p (debits ms h) ≡ bookHas p h - taken p ms
   unfolding debits
   debits-kept [] h k = omega arith
   debits-kept (m ∷ rest) h k =
       let h′ = debit m.from m.number h in
       omega (arith, debits-kept rest h′ (all-known-same h h′ (debit-codes m.from m.number h) rest (k .2)), debit-kept p m.from m.number h (k .0))
 
-  booked-kept : (ms : List Movement) (h : Holdings) → AllKnown h ms → kept p (booked ms h) ≡ kept p h + brought p ms - taken p ms
+  booked-kept : (ms : List Movement) (h : Holdings) → AllKnown h ms → bookHas p (booked ms h) ≡ bookHas p h + brought p ms - taken p ms
   unfolding booked
   booked-kept ms h k =
       omega (arith, debits-kept ms (credits ms h) (all-known-same h (credits ms h) (credits-codes ms h) ms k), credits-kept ms h k)
 
 -- no place is asked for more than it has and is brought
 abbrev pub Enough : Holdings → List Movement → Type 0
-Enough h ms = (p : Place) → taken p ms ≤ kept p h + brought p ms
+Enough h ms = (p : Place) → taken p ms ≤ bookHas p h + brought p ms
 
 -- then nothing is cut off at 0: the law of movements
 pub booked-exact :
-    (ms : List Movement) (h : Holdings) → AllKnown h ms → Enough h ms → (p : Place) → kept p (booked ms h) + taken p ms ≡ kept p h + brought p ms
+    (ms : List Movement) (h : Holdings) → AllKnown h ms → Enough h ms → (p : Place) → bookHas p (booked ms h) + taken p ms ≡ bookHas p h + brought p ms
 booked-exact ms h k e p = omega (arith, booked-kept p ms h k, e p)
 
 -- one movement: its place can bear it
@@ -303,8 +303,8 @@ bears-cash h m c (cashOf m′ c′) n l = go (m′ is m && c′ is c) refl
     go false e = simp e (omega arith)
 bears-cash h m c (member0 s) n l = omega arith
 
-bears-any : (h : Holdings) (p q : Place) (n : ℕ) → Bears h q n → (if isAt p q then n else 0) ≤ kept p h
-unfolding kept
+bears-any : (h : Holdings) (p q : Place) (n : ℕ) → Bears h q n → (if isAt p q then n else 0) ≤ bookHas p h
+unfolding bookHas
 bears-any h (account a) q n l = bears-account h a q n l
 bears-any h (type91 s) q n l = bears-outside h s q n l
 bears-any h (type90 s) q n l = omega arith

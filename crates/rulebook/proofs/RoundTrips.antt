@@ -2,16 +2,16 @@
 use mathlib.Core.Path.{_≡_, refl, sym, ap, subst, _∙_}
 use mathlib.Core.Bool.{Bool, true, false, not, _&&_}
 use mathlib.Core.List.{List, [], _∷_, _++_, append-nil}
-use Prim.Native.Nat.{ℕ, _^_, _≤_, _<_}
+use Prim.Native.Nat.{ℕ, _+_, _*_, _^_, _≤_, _<_}
 use native.Mathlib.Omega.{arith}
 use borrow.Author.Tests.{le-ltb}
 use lib.Dec.{lit<}
-use lib.ListN.{length, getD}
+use lib.ListN.{length, getD, take, drop}
 use lib.Seq.{take-all}
-use Rattle.bits.specs.Bits.{bytes}
+use Rattle.bits.specs.Bits.{Octets, bytes}
 use Rattle.bits.specs.Layout.{pack, Fit}
-use Rattle.bits.proofs.Laws.{Octets, length-bytes}
-use Rattle.bits.proofs.Packing.{values-back, bytes-back}
+use Rattle.bits.proofs.Laws.{length-bytes}
+use Rattle.bits.proofs.Packing.{values-back, bytes-back, take-bytes, pack-high}
 use Rattle.rulebook.specs.declared.Order.{Order}
 use Rattle.rulebook.specs.declared.Read.{Read}
 use Rattle.rulebook.specs.Lists.{if_then_else_, _is_, _isNot_, _below_, within, some}
@@ -124,3 +124,13 @@ read-writable octets o area e l =
     let t = read-tests octets o e .1 in
     let p : Passed (fieldsOf o) = subst (λ (o : Order). Passed (fieldsOf o)) (read-is octets o e) (subst Passed (sym (fields-again octets t)) t) in
     rw (le-ltb (length area) 40 l, p .form, p .unused, p .ranges)
+
+-- the first two bytes are form and minute
+pub first-bytes : (o : Order) (area : List ℕ) → writeRefusal o area ≡ 0 → take 2 (recordOf o) ≡ bytes 2 (o.form * 2 ^ 11 + o.minute)
+unfolding recordOf widths fieldsOf
+first-bytes o area e =
+    let t = write-tests o area e in
+    let fit : Fit widths (fieldsOf o) = fields-fit o (t .unused) (t .ranges) in
+    take-bytes 2 38 (pack 0 widths (fieldsOf o))
+    ∙ ap (bytes 2) (pack-high ((0 * 2 ^ 5 + o.form) * 2 ^ 11 + o.minute) (drop 2 widths) (drop 2 (fieldsOf o)) (fit .1 .1))
+    ∙ ap (λ (n : ℕ). bytes 2 (n * 2 ^ 11 + o.minute)) (omega arith)

@@ -18,7 +18,7 @@ use Rattle.rulebook.specs.Movements.{booked, credits, debits}
 use Rattle.rulebook.specs.Rows.{postingRows}
 use Rattle.rulebook.specs.Forms.{Outcome, outcome, counts, silent, openDay, instruct, trade, cancel, close, forms, rowOf, effect}
 use Rattle.rulebook.specs.Refusals.{refusals}
-use Rattle.rulebook.specs.Calls.{kept}
+use Rattle.rulebook.specs.Calls.{bookHas}
 use Rattle.rulebook.specs.Premise.{Each, Premise}
 use Rattle.rulebook.proofs.Lists.{_and_}
 use Rattle.rulebook.proofs.ByCall.{AllForms, not-read, by-form}
@@ -60,7 +60,7 @@ still n b o x p t e r l = record {
   admits = unfold putSecurities in admits-none n o b.holdings (each-off n movers t .0) p.codes;
   moves = [];
   holds = e;
-  changes = λ p. ap (λ (h : Holdings). kept p h + 0) e;
+  changes = λ p. ap (λ (h : Holdings). bookHas p h + 0) e;
   proper = tt;
   rows = r;
   notices = λ _. refl;

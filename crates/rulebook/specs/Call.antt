@@ -24,6 +24,11 @@ unfoldable pub answerNumber : Answer → ℕ
 answerNumber (Answer.Accepted counts) = 0
 answerNumber (Answer.Refused number) = number
 
+-- the rows that an answer counts: none where the call was refused
+unfoldable pub answerRows : Answer → ℕ
+answerRows (Answer.Accepted counts) = counts.rows
+answerRows (Answer.Refused number) = 0
+
 -- a refused one with its number, with the book and the area unchanged
 unfoldable pub refused : ℕ → Ledger → List ℕ → Result
 refused number book area = record { answer = Answer.Refused number; book = book; area = area }

@@ -17,3 +17,4 @@ pub mod Call
 pub mod Calls
 pub mod Premise
 pub mod Desk
+pub mod Theorems

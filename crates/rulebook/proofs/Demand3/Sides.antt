@@ -3,10 +3,10 @@ use mathlib.Core.Path.{_≡_, refl, ap}
 use mathlib.Core.Bool.{Bool, true, false, not, _&&_, _||_, false≢true}
 use mathlib.Core.List.{List, [], _∷_, map}
 use Prim.Native.Nat.{ℕ, zero, suc, _+_, _≤_, zero-le}
-use Rattle.rulebook.specs.Calls.{Call, Made, callsOn, bookAfter, ofAnswer, answers, sidesTaken}
+use Rattle.rulebook.specs.Calls.{Call, Made, callsOn, bookAfter, Accepted, acceptedCalls, sum, sidesTaken, sidesSettled, sidesCancelled, sidesDeleted, sidesSuspended}
 use Rattle.rulebook.proofs.Lists.{_and_, keep-split, total-append, total-map}
 use Rattle.rulebook.proofs.Rounds.{cycle-total}
-use Rattle.rulebook.proofs.ByCall.{Effect, AllForms, by-form, inAll, by-call, records-are, answers-are}
+use Rattle.rulebook.proofs.ByCall.{Effect, AllForms, by-form, by-call}
 use Rattle.rulebook.specs.Call.{putMinute}
 use Rattle.rulebook.specs.declared.Answer.{Answer}
 use native.Mathlib.Omega.{arith}
@@ -14,7 +14,7 @@ use Rattle.rulebook.specs.declared.Item.{Item}
 use Rattle.rulebook.specs.declared.Order.{Order}
 use Rattle.rulebook.specs.declared.State.{State}
 use Rattle.rulebook.specs.declared.State.the-variants.{Single, Pair, Trade}
-use Rattle.rulebook.specs.Lists.{if_then_else_, _is_, _atMost_, _oneOf_, keep}
+use Rattle.rulebook.specs.Lists.{if_then_else_, _is_, _atMost_, _oneOf_, keep, total}
 use Rattle.rulebook.specs.Ledger.{Ledger, fresh, putDay, putHoldings, putWaiting}
 use Rattle.rulebook.specs.Waiting.{sidesOf, sides, isDeliver, isReceive, itemOf, senderOf, withState, marked, marking, cancelled, staying, unmarked, sentBy}
 use Rattle.rulebook.specs.Matching.{tolerance, pairsWith, pairOf, arrive}
@@ -182,35 +182,32 @@ effect-keeps b o = by-form (λ n f. Keeps f.takes f.effect) forms-keep (λ m non
 
 list-keeps :
     (calls : List Call)
-    → inAll (λ o c. takesIn o) (callsOn fresh calls) + sides (fresh .waiting) ≡ inAll (λ o c. gone c) (callsOn fresh calls) + sides (bookAfter fresh calls .waiting)
+    → sum (λ c. takesIn c.order) (callsOn fresh calls) + sides (fresh .waiting) ≡ sum (λ c. gone c.counts) (callsOn fresh calls) + sides (bookAfter fresh calls .waiting)
 unfolding putMinute putDay
 list-keeps calls =
-    by-call (λ b. Unit {0}) (λ b. sides b.waiting) (λ o c. takesIn o) (λ o c. gone c) (λ b o bytes i e f. (tt, effect-keeps b o)) fresh tt calls
+    by-call (λ b. Unit {0}) (λ b. sides b.waiting) (λ c. takesIn c.order) (λ c. gone c.counts) (λ b o bytes area i e f. (tt, effect-keeps b o)) fresh tt calls
 
--- in the words of demand 3
+-- in the words of the claim
 
-gone-of : (a : Answer) → ofAnswer gone a ≡ ofAnswer (λ c. c.settled) a + ofAnswer (λ c. c.cancelled) a + ofAnswer (λ c. c.deleted) a + ofAnswer (λ c. c.suspended) a
-unfolding ofAnswer
-gone-of (Answer.Accepted c) = refl
-gone-of (Answer.Refused n) = refl
-
-gone-in : (h : List Made) → answers gone h ≡ answers (λ c. c.settled) h + answers (λ c. c.cancelled) h + answers (λ c. c.deleted) h + answers (λ c. c.suspended) h
-unfolding answers
-gone-in [] = refl
-gone-in (m ∷ rest) = omega (arith, gone-of m.answer, gone-in rest)
+gone-in : (h : List Made) → sum (λ c. gone c.counts) h ≡ sidesSettled h + sidesCancelled h + sidesDeleted h + sidesSuspended h
+unfolding sum sidesSettled sidesCancelled sidesDeleted sidesSuspended
+gone-in h = go (acceptedCalls h)
+  where
+    go :
+        (l : List Accepted)
+        → total (λ c. gone c.counts) l
+        ≡ total (λ c. c.counts.settled) l + total (λ c. c.counts.cancelled) l + total (λ c. c.counts.deleted) l + total (λ c. c.counts.suspended) l
+    go [] = refl
+    go (c ∷ rest) = omega (arith, go rest)
 
 none-waiting : sides (fresh .waiting) ≡ 0
 unfolding fresh sides
 none-waiting = refl
 
--- the last part of demand 3
 pub sided :
     (calls : List Call)
     → sidesTaken (callsOn fresh calls)
-    ≡ answers (λ c. c.settled) (callsOn fresh calls) + answers (λ c. c.cancelled) (callsOn fresh calls) + answers (λ c. c.deleted) (callsOn fresh calls)
-    + answers (λ c. c.suspended) (callsOn fresh calls)
+    ≡ sidesSettled (callsOn fresh calls) + sidesCancelled (callsOn fresh calls) + sidesDeleted (callsOn fresh calls) + sidesSuspended (callsOn fresh calls)
     + sides (bookAfter fresh calls .waiting)
 unfolding sidesTaken
-sided calls =
-    let h = callsOn fresh calls in
-    omega (arith, list-keeps calls, gone-in h, none-waiting, records-are takesIn h, answers-are gone fresh calls)
+sided calls = omega (arith, list-keeps calls, gone-in (callsOn fresh calls), none-waiting)

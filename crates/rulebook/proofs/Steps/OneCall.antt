@@ -14,7 +14,7 @@ use Rattle.rulebook.specs.Ledger.{Ledger, Holdings, accountOf, sameAccou
 use Rattle.rulebook.specs.Movements.{Place, account, type91, Movement, booked}
 use Rattle.rulebook.specs.Rows.{postingRows}
 use Rattle.rulebook.specs.Forms.{Outcome, rowOf}
-use Rattle.rulebook.specs.Calls.{kept}
+use Rattle.rulebook.specs.Calls.{bookHas}
 use Rattle.rulebook.specs.Premise.{withCode, Premise}
 use Rattle.rulebook.proofs.ByCall.{Effect}
 use Rattle.rulebook.proofs.Orders.{Accepted}
@@ -50,7 +50,7 @@ pub record Figures (form : ℕ) (o : Order) (moves : List Movement) : Type 0 whe
 
 -- a security may be admitted first: what is kept stays, codes stay distinct, and its issued count is the order's quantity
 pub record Admits (form : ℕ) (o : Order) (h : Holdings) (listed : List Security) : Type 0 where
-  pub keeps : (p : Place) → kept p (putSecurities listed h) ≡ kept p h
+  pub keeps : (p : Place) → bookHas p (putSecurities listed h) ≡ bookHas p h
   pub codes : (c : ℕ) → withCode c listed ≤ 1
   pub issued : (s : ℕ) → sharesAt 2 s form o + issuedOf s h ≡ issuedOf s (putSecurities listed h)
 
@@ -64,7 +64,7 @@ pub record Step (form : ℕ) (b : Ledger) (o : Order) (x : Outcome) : Type 0 whe
   pub admits : Admits form o b.holdings listed
   pub moves : List Movement
   pub holds : x.after.holdings ≡ booked moves (putSecurities listed b.holdings)
-  pub changes : (p : Place) → kept p x.after.holdings + taken p moves ≡ kept p b.holdings + brought p moves
+  pub changes : (p : Place) → bookHas p x.after.holdings + taken p moves ≡ bookHas p b.holdings + brought p moves
   pub proper : AllProper moves
   pub rows : writesAt form ≡ 1 → x.rows ≡ postingRows moves
   pub notices : writesAt form ≡ 0 → moves ≡ []
