@@ -10,7 +10,7 @@ use Rattle.rulebook.specs.AccountTypes.{pledgedOrBlocked}
 use Rattle.rulebook.specs.Record.{readOf}
 use Rattle.rulebook.specs.Ledger.{Holdings, Ledger, fresh, accountOf, sameAccount, issuedOf, outsideOf, cashTotal, held}
 use Rattle.rulebook.specs.declared.Account.{Account}
-use Rattle.rulebook.specs.Movements.{Place, account, type91, type90, cashOf, member0}
+use Rattle.rulebook.specs.Movements.{Place, account, type91, type90, cashOf, member0, bookHas}
 use Rattle.rulebook.specs.Rows.{postingIn}
 use Rattle.rulebook.specs.declared.Posting.{Posting}
 use Rattle.rulebook.specs.Waiting.{sides}
@@ -128,14 +128,6 @@ debitsWritten = written 0
 
 unfoldable pub creditsWritten : Place → List Made → ℕ
 creditsWritten = written 1
-
--- what the book has at a place: nothing where it keeps none
-unfoldable pub bookHas : Place → Holdings → ℕ
-bookHas (account a) h = h.balance a
-bookHas (type91 security) h = outsideOf security h
-bookHas (type90 security) h = 0
-bookHas (cashOf member currency) h = h.cash member currency
-bookHas (member0 currency) h = 0
 
 -- RULES 12.12: the sides that were taken in, and those that are gone in each of the four ways
 unfoldable pub sidesTaken : List Made → ℕ

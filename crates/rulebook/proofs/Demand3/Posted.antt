@@ -8,12 +8,12 @@ use lib.ListN.{length, drop}
 use Rattle.rulebook.specs.declared.Order.{Order}
 use Rattle.rulebook.specs.Lists.{total}
 use Rattle.rulebook.specs.Ledger.{Ledger, fresh, outsideOf}
-use Rattle.rulebook.specs.Movements.{Place, account, type91, type90, cashOf, member0}
+use Rattle.rulebook.specs.Movements.{Place, account, type91, type90, cashOf, member0, bookHas}
 use Rattle.rulebook.specs.Rows.{postingRows, rowsBytes}
 use Rattle.rulebook.specs.declared.Posting.{Posting}
 use Rattle.rulebook.specs.Forms.{Outcome, rowOf, effect, writes}
 use Rattle.rulebook.specs.Call.{accepted}
-use Rattle.rulebook.specs.Calls.{Call, callsOn, bookAfter, Accepted, firstRows, postingsOf, written, debitsWritten, creditsWritten, bookHas}
+use Rattle.rulebook.specs.Calls.{Call, callsOn, bookAfter, Accepted, firstRows, postingsOf, written, debitsWritten, creditsWritten}
 use Rattle.rulebook.proofs.Reading.{counts, entries, rows-back, entries-brought, entries-taken}
 use Rattle.rulebook.proofs.Steps.OneCall.{writesAt, Step}
 use Rattle.rulebook.proofs.ByCall.{acceptedCall}
@@ -51,7 +51,7 @@ module _ (place : Place) where
           simp e (omega (arith, rw n at c))
 
 none-there : (place : Place) → bookHas place (fresh .holdings) ≡ 0
-unfolding bookHas fresh outsideOf
+unfolding fresh outsideOf
 none-there (account a) = refl
 none-there (type91 s) = refl
 none-there (type90 s) = refl

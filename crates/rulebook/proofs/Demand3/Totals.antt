@@ -12,11 +12,11 @@ use Rattle.rulebook.specs.AccountTypes.{pledgedOrBlocked}
 use Rattle.rulebook.specs.Record.{readOf}
 use Rattle.rulebook.specs.Ledger.{Holdings, Ledger, fresh, cashTotal, issuedOf, putDay, held}
 use Rattle.rulebook.specs.declared.Account.{Account}
-use Rattle.rulebook.specs.Movements.{account}
+use Rattle.rulebook.specs.Movements.{account, bookHas}
 use Rattle.rulebook.specs.Forms.{Outcome, effect}
 use Rattle.rulebook.specs.Refusals.{refusals}
 use Rattle.rulebook.specs.Call.{putMinute}
-use Rattle.rulebook.specs.Calls.{Call, callsOn, bookAfter, Accepted, sum, sharesOf, cashOfForm, issues, deposits, withdrawals, payIns, payOuts, putIn, released, bookHas}
+use Rattle.rulebook.specs.Calls.{Call, callsOn, bookAfter, Accepted, sum, sharesOf, cashOfForm, issues, deposits, withdrawals, payIns, payOuts, putIn, released}
 use Rattle.rulebook.specs.Premise.{Premise}
 use Rattle.rulebook.proofs.ByCall.{acceptedCall, by-call, sum-none}
 use Rattle.rulebook.proofs.Sums.{none-held, held-exact, none-paid, cash-exact}
@@ -76,7 +76,7 @@ T-true false h = absurd h
 pub pledged :
     (a : Account) → T (pledgedOrBlocked a.typ) → (calls : List Call)
     → bookAfter fresh calls .holdings .balance a + released a (callsOn fresh calls) ≡ putIn a (callsOn fresh calls)
-unfolding putIn released bookHas fresh
+unfolding putIn released fresh
 pledged a t =
     by-step (λ h. h.balance a) (λ c. putInAt a c.order.form c.order) (λ c. releasedAt a c.order.form c.order)
     (λ b o area u. let p = u .figures .pledged a (T-true (pledgedOrBlocked a.typ) t) in omega (arith, u .changes (account a), p .0, p .1))

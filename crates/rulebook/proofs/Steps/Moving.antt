@@ -13,10 +13,9 @@ use Rattle.rulebook.specs.AccountTypes.{pledgedOrBlocked, wrongTypes}
 use Rattle.rulebook.specs.Field as Field
 use Rattle.rulebook.specs.Ledger.{Ledger, Holdings, accountOf, sameAccount, outsideOf, putHoldings, putSecurities}
 use Rattle.rulebook.specs.declared.Account.{Account}
-use Rattle.rulebook.specs.Movements.{Place, account, type91, type90, cashOf, member0, move}
+use Rattle.rulebook.specs.Movements.{Place, account, type91, type90, cashOf, member0, move, bookHas}
 use Rattle.rulebook.specs.Forms.{outcome, counts, moving, admit, deposit, withdraw, transfer, payIn, payOut, forms, rowOf, used, least}
 use Rattle.rulebook.specs.Refusals.{wrongSecurity}
-use Rattle.rulebook.specs.Calls.{bookHas}
 use Rattle.rulebook.specs.Premise.{Each, withCode, Premise}
 use Rattle.rulebook.proofs.Lists.{_and_, total-append}
 use Rattle.rulebook.proofs.Rounds.{same-eq}
@@ -81,7 +80,7 @@ party-apart security p t k a q = simp (apart a (accountOf security p) q (unfold 
 -- form 2: a security that is admitted changes nothing that is kept, as its outside count is still 0
 
 kept-new : (new : Security) → new.outside.0 ≡ 0 → (h : Holdings) (p : Place) → bookHas p (putSecurities (h.securities ++ (new ∷ [])) h) ≡ bookHas p h
-unfolding bookHas putSecurities outsideOf
+unfolding putSecurities outsideOf
 kept-new new z h (account a) = refl
 kept-new new z h (type91 s) = simp (total-append, z) (go (new.code is s) (outs s h.securities))
   where

@@ -11,10 +11,9 @@ use Rattle.rulebook.specs.declared.Security.{Security}
 use Rattle.rulebook.specs.Lists.{if_then_else_, _is_, _oneOf_}
 use Rattle.rulebook.specs.AccountTypes.{pledgedOrBlocked}
 use Rattle.rulebook.specs.Ledger.{Ledger, Holdings, accountOf, sameAccount, issuedOf, putSecurities}
-use Rattle.rulebook.specs.Movements.{Place, account, type91, Movement, booked}
+use Rattle.rulebook.specs.Movements.{Place, account, type91, Movement, booked, bookHas}
 use Rattle.rulebook.specs.Rows.{postingRows}
 use Rattle.rulebook.specs.Forms.{Outcome, rowOf}
-use Rattle.rulebook.specs.Calls.{bookHas}
 use Rattle.rulebook.specs.Premise.{withCode, Premise}
 use Rattle.rulebook.proofs.ByCall.{Effect}
 use Rattle.rulebook.proofs.Orders.{Accepted}
