@@ -40,13 +40,13 @@ pub window-at : (n : ℕ) (d : Day) (o : Order) → o.form ≡ n → windowOf d 
 unfolding windowOf
 window-at n d o e = ap (λ (k : ℕ). rowOf k .window d o) e
 
--- a number that no row has
-abbrev pub NoForm : ℕ → Type 0
-NoForm n = (1 ≤ n) × (n ≤ length forms) → ⊥
+-- a number that a row has
+abbrev pub HasForm : ℕ → Type 0
+HasForm n = (1 ≤ n) × (n ≤ length forms)
 
--- no order that was read has such a number
-pub not-read : {n m : ℕ} → NoForm m → n ≡ m → (1 ≤ n) × (n ≤ length forms) → ⊥
-not-read none e r = none (subst (λ (k : ℕ). (1 ≤ k) × (k ≤ length forms)) e r)
+-- no order that was read has another
+pub not-read : {n m : ℕ} → (HasForm m → ⊥) → n ≡ m → HasForm n → ⊥
+not-read none e r = none (subst HasForm e r)
 
 module _ (P : ℕ → Form → Type 0) where
   form-at : (fs : List Form) (n k : ℕ) (d : Form) → AllForms P n fs → ((m : ℕ) → n + length fs ≤ m → P m d) → P (n + k) (getD fs k d)
@@ -55,7 +55,7 @@ module _ (P : ℕ → Form → Type 0) where
   form-at (f ∷ rest) n (suc k) d a h = rw (add-suc n k, ← suc-add n k) (form-at rest (suc n) k d (a .1) (λ m l. h m (omega arith)))
 
   -- what holds of every row of the table, and of no row at other numbers, holds of the row of any number
-  pub by-form : AllForms P 1 forms → ((m : ℕ) → NoForm m → P m noRow) → (n : ℕ) → P n (rowOf n)
+  pub by-form : AllForms P 1 forms → ((m : ℕ) → (HasForm m → ⊥) → P m noRow) → (n : ℕ) → P n (rowOf n)
   unfolding rowOf
   by-form a h zero = h 0 (λ w. absurd (omega (arith, w .0)))
   by-form a h (suc n) = rw (← one-add n) (form-at forms 1 n noRow a (λ m l. h m (λ w. absurd (omega (arith, l, w .1)))))
@@ -67,16 +67,19 @@ anyForm wrong n (f ∷ rest) = wrong n f || anyForm wrong (suc n) rest
 
 -- a table's rule: what one computed test says of all rows holds of the row of any number
 module _ (wrong : ℕ → Form → Bool) where
-  all-right : (fs : List Form) (n : ℕ) → anyForm wrong n fs ≡ false → AllForms (λ n f. wrong n f ≡ false) n fs
-  all-right [] n e = tt
-  all-right (f ∷ rest) n e = let t = none (wrong n f) (anyForm wrong (suc n) rest) e in (t .0, all-right rest (suc n) (t .1))
+  all-right : (Q : ℕ → Type 0) (fs : List Form) (n : ℕ) → anyForm wrong n fs ≡ false → AllForms (λ n f. Q n → wrong n f ≡ false) n fs
+  all-right Q [] n e = tt
+  all-right Q (f ∷ rest) n e = let t = neither (wrong n f) (anyForm wrong (suc n) rest) e in ((λ _. t .0), all-right Q rest (suc n) (t .1))
     where
-      none : (x y : Bool) → (x || y) ≡ false → (x ≡ false) × (y ≡ false)
-      none true y p = absurd (false≢true (sym p))
-      none false y p = (refl, p)
+      neither : (x y : Bool) → (x || y) ≡ false → (x ≡ false) × (y ≡ false)
+      neither true y p = absurd (false≢true (sym p))
+      neither false y p = (refl, p)
+
+  pub by-row : anyForm wrong 1 forms ≡ false → (n : ℕ) → HasForm n → wrong n (rowOf n) ≡ false
+  by-row e = by-form (λ n f. HasForm n → wrong n f ≡ false) (all-right HasForm forms 1 e) (λ m none has. absurd (none has))
 
   pub by-test : anyForm wrong 1 forms ≡ false → ((m : ℕ) → wrong m noRow ≡ false) → (n : ℕ) → wrong n (rowOf n) ≡ false
-  by-test e z = by-form (λ n f. wrong n f ≡ false) (all-right forms 1 e) (λ m no-form. z m)
+  by-test e z n = by-form (λ n f. Unit {0} → wrong n f ≡ false) (all-right (λ _. Unit {0}) forms 1 e) (λ m none _. z m) n tt
 
 -- a figure of an accepted call
 abbrev pub Figure : Type 0
