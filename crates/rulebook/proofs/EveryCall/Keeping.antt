@@ -201,28 +201,28 @@ close-keeps b o e p a =
 
 -- the cycle: its buyers are such accounts, its sellers members with cash
 
-trade-types : (t s σ : ℕ) (i : Item) (x : State) → isTrade x ≡ true → StateFits t s σ i.debited i.credited x → alike i.debited.typ i.credited.typ ≡ true
+trade-types : (σ : ℕ) (i : Item) (x : State) → isTrade x ≡ true → StateFits σ i.debited i.credited x → alike i.debited.typ i.credited.typ ≡ true
 unfolding isTrade
-trade-types t s σ i (Single d r) e f = absurd (false≢true e)
-trade-types t s σ i (Pair d r dm rm) e f = f.types
-trade-types t s σ i (Trade r) e f = f.types
+trade-types σ i (Single d r) e f = absurd (false≢true e)
+trade-types σ i (Pair d r dm rm) e f = f.types
+trade-types σ i (Trade r) e f = f.types
 
 legs-get : (n t d : ℕ) (h : Holdings) (ts : List Item) → Each (λ i. ItemFits n t h i × Due d i) ts → AllGet h (legs ts)
 unfolding legs buyer accountOf
 legs-get n t d h [] e = tt
 legs-get n t d h (i ∷ rest) e =
     let f = e .0 .0 in
-    let y = trade-types t i.«settlement_day» i.security i i.state (e .0 .1 .0) f.state in (
+    let y = trade-types i.security i i.state (e .0 .1 .0) f.state in (
       record {
-        security = f.security;
-        member-least = f.credited.member-least;
-        member = f.credited.member;
+        security = f.listed;
+        member-least = f.terms.credited-named.member-least;
+        member = f.terms.credited-named.member;
         typ = free-type i.credited.typ (alike-free i.debited.typ i.credited.typ y .1);
-        shareholder-least = f.credited.shareholder-least;
-        shareholder = f.credited.shareholder;
+        shareholder-least = f.terms.credited-named.shareholder-least;
+        shareholder = f.terms.credited-named.shareholder;
       },
       (
-        record { member-least = f.debited.member-least; member-most = f.debited.member; currency-least = f.currency-least; currency-most = f.currency-most },
+        record { member-least = f.terms.debited-named.member-least; member-most = f.terms.debited-named.member; currency-least = f.terms.currency-least; currency-most = f.terms.currency-most },
         legs-get n t d h rest (e .1),
       ),
     )

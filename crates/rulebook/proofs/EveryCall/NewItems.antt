@@ -15,7 +15,7 @@ use Rattle.rulebook.specs.Field as Field
 use Rattle.rulebook.specs.Forms.{forms, rowOf, used, least}
 use Rattle.rulebook.specs.Ledger.{Ledger, admitted}
 use Rattle.rulebook.specs.Waiting.{itemOf, senderOf, sentBy}
-use Rattle.rulebook.specs.Premise.{Each, ReferenceFits, StateFits, ItemFits, today}
+use Rattle.rulebook.specs.Premise.{Each, ReferenceFits, StateFits, NotOverdue, ItemFits, today}
 use Rattle.rulebook.proofs.Lists.{_and_, both}
 use Rattle.rulebook.proofs.Types.{one-of, deliver-free, receive-free, trade-alike}
 use Rattle.rulebook.proofs.Orders.{Accepted, needs, needed, uses, is-admitted, right-types, is-open, instruct-parties, instruct-days, trade-parties, trade-days}
@@ -38,29 +38,29 @@ module _ (n : ℕ) (b : Ledger) (o : Order) (e : o.form ≡ n) (a : Accepted b o
 
   order-item :
       (x : State) → (within 3 9 n || within 12 14 n) ≡ true → (n is 2) ≡ false → o.«trade_day» ≤ b.day.number → o.«trade_day» ≤ o.«settlement_day» → o.«settlement_day» ≤ b.day.number + 20
-      → StateFits (today b.day) o.«settlement_day» o.security o.debited o.credited x → ItemFits b.day.number (today b.day) b.holdings (itemOf x o)
+      → StateFits o.security o.debited o.credited x → NotOverdue (today b.day) o.«settlement_day» x → ItemFits b.day.number (today b.day) b.holdings (itemOf x o)
   unfolding itemOf admitted
-  order-item x t t₂ l₁ l₂ l₃ f =
+  order-item x t t₂ l₁ l₂ l₃ f g =
       let d = a.ranges.debited (field Field.debited-member refl) in
       let c = a.ranges.credited (field Field.credited-member refl) in
       let v = a.ranges.currency (field Field.currency refl) in
       record {
-        security = is-admitted n b o e t t₂ a.security;
-        security-least = a.ranges.security (field Field.security refl);
-        security-most = a.fits.security;
-        currency-least = v .0;
-        currency-most = v .1;
-        debited = record { member-least = d .0; member = d .1; shareholder-least = a.ranges.debited-holder (field Field.debited-shareholder refl); shareholder = a.fits.debited.shareholder };
-        credited = record { member-least = c .0; member = c .1; shareholder-least = a.ranges.credited-holder (field Field.credited-shareholder refl); shareholder = a.fits.credited.shareholder };
-        quantity-least = a.ranges.quantity (field Field.quantity refl) .0;
-        quantity = a.fits.quantity;
-        amount-least = a.ranges.amount (field Field.amount refl);
-        amount = a.fits.amount;
-        traded-least = a.ranges.«trade_day» (field Field.trade-day refl);
-        «trade_day» = l₁;
-        settles-least = l₂;
-        «settlement_day» = l₃;
+        listed = is-admitted n b o e t t₂ a.security;
+        terms = record {
+          security-least = a.ranges.security (field Field.security refl);
+          security-most = a.fits.security;
+          currency-least = v .0;
+          currency-most = v .1;
+          debited-named = record { member-least = d .0; member = d .1; shareholder-least = a.ranges.debited-holder (field Field.debited-shareholder refl); shareholder = a.fits.debited.shareholder };
+          credited-named = record { member-least = c .0; member = c .1; shareholder-least = a.ranges.credited-holder (field Field.credited-shareholder refl); shareholder = a.fits.credited.shareholder };
+          quantity-least = a.ranges.quantity (field Field.quantity refl) .0;
+          quantity-most = a.fits.quantity;
+          amount-least = a.ranges.amount (field Field.amount refl);
+          amount-most = a.fits.amount;
+        };
+        days = record { traded-least = a.ranges.«trade_day» (field Field.trade-day refl); traded-most = l₁; settles-least = l₂; settles-most = l₃ };
         state = f;
+        due = g;
       }
 
   open-today : (n is 1) ≡ false → today b.day ≡ b.day.number
@@ -94,8 +94,8 @@ single-item n b o e a u i own other =
       other = other;
       shareholders = p .0;
       members = p .1;
-      due = omega (arith, t, d);
     })
+    (omega (arith, t, d))
 
 module _ (b : Ledger) (o : Order) (a : Accepted b o) where
   pub deliver-item : o.form ≡ 12 → ItemFits b.day.number (today b.day) b.holdings (single o)
@@ -123,8 +123,8 @@ module _ (b : Ledger) (o : Order) (a : Accepted b o) where
         named = order-reference 14 b o e a u;
         types = trade-alike o.debited.typ o.credited.typ (right-types 14 b o e a.types);
         apart = trade-parties b o e a.parties;
-        due = omega (arith, t, d);
       })
+      (omega (arith, t, d))
 
   -- who sent it
 
