@@ -12,7 +12,7 @@ use lib.Seq.{take-suc, getD-drop, drop-cons, set-at, append-snoc}
 use lib.Pow.{pow-pos, pow-add, shr-shr, high, low, field as mod-shr, ones-split, ones-lt, shl-exact, shl-lt, shr-lt}
 use lib.Arith.{digits-lt}
 use lib.Bits.{bitAnd, bitOr, and-mask, or-shifted}
-use Rattle.bits.specs.Bits.{number, bytes, leading, field, put, wholeBytes, Inside}
+use Rattle.bits.specs.Bits.{Octets, number, bytes, leading, field, put, wholeBytes, Inside}
 
 -- ---- shifts and masks of a word
 
@@ -41,10 +41,6 @@ low-field hi lo m p w h =
     ∙ mod-shr lo w p
 
 -- ---- the bytes' number
-
--- each element is a byte
-abbrev pub Octets : List ℕ → Type 0
-Octets bs = (i : ℕ) → getD bs i 0 < 2 ^ 8
 
 pub number-append : (xs ys : List ℕ) → number (xs ++ ys) ≡ number xs * 2 ^ (8 * length ys) + number ys
 unfolding number

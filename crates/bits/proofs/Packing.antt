@@ -13,9 +13,9 @@ use lib.ListN.{length, getD, take, drop, length-append, length-drop, drop-of-len
 use lib.Seq.{getD-drop, take-at, take-all, take-append-le, drop-append-add, drop-drop, drop-cons}
 use lib.Pow.{pow-pos, pow-add, shr-shr, shl-shr, shr-lt, shl-lt, high, low, split}
 use lib.Arith.{digits-lt, lt-one}
-use Rattle.bits.specs.Bits.{number, bytes, leading, field, put, wholeBytes, Inside}
+use Rattle.bits.specs.Bits.{Octets, number, bytes, leading, field, put, wholeBytes, Inside}
 use Rattle.bits.specs.Layout.{pack, cut, total, Fit, Spans, puts, Words, fitting}
-use Rattle.bits.proofs.Laws.{Octets, target, ones-shr, number-snoc, number-lt, leading-take, length-bytes, bytes-number}
+use Rattle.bits.proofs.Laws.{target, ones-shr, number-snoc, number-lt, leading-take, length-bytes, bytes-number}
 
 -- ---- lists of bytes
 

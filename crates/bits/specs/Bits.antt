@@ -1,7 +1,11 @@
 -- Bytes as one number, the first bits of it, a field, and a field written; most significant bit first.
-use Prim.Native.Nat.{ℕ, zero, suc, _+_, _-_, _*_, _/_, _%_, _^_, _≤_}
+use Prim.Native.Nat.{ℕ, zero, suc, _+_, _-_, _*_, _/_, _%_, _^_, _≤_, _<_}
 use mathlib.Core.List.{List, [], _∷_, _++_}
-use lib.ListN.{length, drop}
+use lib.ListN.{length, getD, drop}
+
+-- each element is a byte
+abbrev pub Octets : List ℕ → Type 0
+Octets bs = (i : ℕ) → getD bs i 0 < 2 ^ 8
 
 -- the bytes as one number in base 256
 unfoldable pub number : List ℕ → ℕ

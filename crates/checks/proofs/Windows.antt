@@ -7,7 +7,10 @@ use native.Mathlib.Omega.{arith}
 use borrow.Author.Tests.{ne-eqb}
 use lib.ListN.{getD}
 use Rattle.rulebook.specs.Lists.{if_then_else_, _is_, _atMost_, within}
-use Rattle.rulebook.specs.Windows.{byKind, officeEnd, cycleMinutes, windowOf}
+use Rattle.rulebook.specs.Windows.{byKind, officeEnd, cycleMinutes, paymentHours}
+use Rattle.rulebook.specs.Forms.{forms, windowOf}
+use Rattle.rulebook.proofs.Lists.{_and_}
+use Rattle.rulebook.proofs.ByCall.{HasForm, AllForms, window-at, by-form}
 use Rattle.rulebook.specs.declared.Day.{Day}
 use Rattle.rulebook.specs.declared.Order.{Order}
 use Rattle.checks.specs.Window.{paymentEnd}
@@ -26,30 +29,20 @@ payment : (t : Bool) (first a b : ℕ) → _≡_ {A = ℕ × ℕ} (if t then (fi
 payment true first a b = refl
 payment false first a b = refl
 
-pub window-by-test : (d : Day) (o : Order) (n : ℕ) → o.form ≡ n → n ≤ 17 → windowOf d o ≡ byTest d o n
-unfolding windowOf
-window-by-test d o zero e l = rw e
-window-by-test d o (suc zero) e l = rw e
-window-by-test d o (suc (suc zero)) e l = rw e
-window-by-test d o (suc (suc (suc zero))) e l = rw e
-window-by-test d o (suc (suc (suc (suc zero)))) e l = rw e
-window-by-test d o (suc (suc (suc (suc (suc zero))))) e l = rw e
-window-by-test d o (suc (suc (suc (suc (suc (suc zero)))))) e l = rw e
-window-by-test d o (suc (suc (suc (suc (suc (suc (suc zero))))))) e l = rw e
-window-by-test d o (suc (suc (suc (suc (suc (suc (suc (suc zero)))))))) e l = rw e
-window-by-test d o (suc (suc (suc (suc (suc (suc (suc (suc (suc zero))))))))) e l = rw e
-window-by-test d o (suc (suc (suc (suc (suc (suc (suc (suc (suc (suc zero)))))))))) e l = rw e
-window-by-test d o (suc (suc (suc (suc (suc (suc (suc (suc (suc (suc (suc zero))))))))))) e l = rw e
-window-by-test d o (suc (suc (suc (suc (suc (suc (suc (suc (suc (suc (suc (suc zero)))))))))))) e l = rw e (payment (o.«settlement_day» is d.number) 480 (byKind d.kind 825 705) (officeEnd d.kind))
-window-by-test d o (suc (suc (suc (suc (suc (suc (suc (suc (suc (suc (suc (suc (suc zero))))))))))))) e l = rw e (payment (o.«settlement_day» is d.number) 480 (byKind d.kind 825 705) (officeEnd d.kind))
-window-by-test d o (suc (suc (suc (suc (suc (suc (suc (suc (suc (suc (suc (suc (suc (suc zero)))))))))))))) e l = rw e
-window-by-test d o (suc (suc (suc (suc (suc (suc (suc (suc (suc (suc (suc (suc (suc (suc (suc zero))))))))))))))) e l = rw e
-window-by-test d o (suc (suc (suc (suc (suc (suc (suc (suc (suc (suc (suc (suc (suc (suc (suc (suc zero)))))))))))))))) e l = rw e
-window-by-test d o (suc (suc (suc (suc (suc (suc (suc (suc (suc (suc (suc (suc (suc (suc (suc (suc (suc zero))))))))))))))))) e l = rw e
-window-by-test d o (suc (suc (suc (suc (suc (suc (suc (suc (suc (suc (suc (suc (suc (suc (suc (suc (suc (suc n)))))))))))))))))) e l = absurd (omega arith)
+pub window-by-test : (d : Day) (o : Order) (n : ℕ) → o.form ≡ n → HasForm n → windowOf d o ≡ byTest d o n
+window-by-test d o n e h = window-at n d o e ∙ by-form (λ n f. HasForm n → f.window d o ≡ byTest d o n) each (λ m none h. absurd (none h)) n h
+  where
+    paid : _≡_ {A = ℕ × ℕ} (paymentHours d o) (480, paymentEnd d o.«settlement_day»)
+    paid = payment (o.«settlement_day» is d.number) 480 (byKind d.kind 825 705) (officeEnd d.kind)
+
+    each : AllForms (λ n f. HasForm n → f.window d o ≡ byTest d o n) 1 forms
+    each =
+        unfold forms in
+        (λ _. refl) and (λ _. refl) and (λ _. refl) and (λ _. refl) and (λ _. refl) and (λ _. refl) and (λ _. refl) and (λ _. refl) and (λ _. refl)
+        and (λ _. refl) and (λ _. refl) and (λ _. paid) and (λ _. paid) and (λ _. refl) and (λ _. refl) and (λ _. refl) and (λ _. refl) and tt
 
 -- the window that the tests pick
-module _ (d : Day) (o : Order) (l : o.form ≤ 17) where
+module _ (d : Day) (o : Order) (l : HasForm o.form) where
   abbrev Window : ℕ → ℕ → Type 0
   Window first last = (first ≡ windowOf d o .0) × (last ≡ windowOf d o .1)
 

@@ -2,7 +2,8 @@
 use Prim.Native.Nat.{ℕ}
 use lib.ListN.{length}
 use Rattle.rulebook.specs.Lists.{if_then_else_, _is_}
-use Rattle.rulebook.specs.Windows.{byKind, officeEnd, cycleMinutes, windowOf}
+use Rattle.rulebook.specs.Windows.{byKind, officeEnd, cycleMinutes}
+use Rattle.rulebook.specs.Forms.{windowOf}
 use Rattle.rulebook.specs.declared.Day.{Day}
 use Rattle.rulebook.specs.declared.Order.{Order}
 

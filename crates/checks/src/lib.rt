@@ -1,11 +1,12 @@
 // The tests behind refusals 6 to 13: what can be told from the day and the order alone. Each is the rulebook's test of that number, line by line.
 ghost use mathlib.Core.Path.{_≡_};
 ghost use mathlib.Core.Bool.{_&&_, _||_, not};
-ghost use lib.ListN.{getD};
+ghost use lib.ListN.{getD, length};
 ghost use Prim.Native.Nat.{_+_, _≤_, _<_, _^_};
 ghost use Rattle.rulebook.specs.Lists.{within, _oneOf_};
 ghost use Rattle.rulebook.specs.Ledger.{accountOf, sameAccount};
 ghost use Rattle.rulebook.specs.AccountTypes.{bookEntry, physical, free, alike, listed, pledgePairs, blockPairs, wrongTypes};
+ghost use Rattle.rulebook.specs.Forms.{forms};
 ghost use Rattle.rulebook.specs.Windows.{cycleMinutes, officeEnd, byKind};
 ghost use Rattle.rulebook.specs.Refusals.{wrongDay, wrongCycle, goesBack, outsideWindow, wrongPair, wrongParties, wrongDays};
 ghost use Rattle.checks.specs.Window.{first, last, paymentEnd, cyclesOf};
@@ -113,7 +114,7 @@ fn payment_end(day: Day, settlement_day: u64) -> u64
 }
 
 fn window_of(day: Day, order: Order) -> Window
-    requires { ⌜ order .form ≤ 17 ⌝ }
+    requires { ⌜ (1 ≤ order .form) × (order .form ≤ length forms) ⌝ }
     ensures { λ r. ⌜ (r .first ≡ first day order) × (r .last ≡ last day order) ⌝ }
 {
     let form = order.form;
@@ -138,7 +139,7 @@ fn window_of(day: Day, order: Order) -> Window
 
 // 9. The minute is outside the window.
 pub fn outside_window(day: Day, order: Order) -> bool
-    requires { ⌜ order .form ≤ 17 ⌝ }
+    requires { ⌜ (1 ≤ order .form) × (order .form ≤ length forms) ⌝ }
     ensures { λ r. ⌜ r ≡ outsideWindow day order ⌝ }
 {
     let w = window_of(day, order);

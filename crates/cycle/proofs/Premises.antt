@@ -27,13 +27,13 @@ unfolding seller buyer
 fits-bookable b t f =
     let p = item-posts b.day.number (today b.day) b.holdings t f in
     record {
-      sells = named t.security t.debited f.security-most (p .debited);
-      buys = named t.security t.credited f.security-most (p .credited);
-      some = omega (arith, f.quantity-least);
-      quantity = f.quantity;
-      pays = record { member-least = p .credited .least; member-most = p .credited .most; currency-least = f.currency-least; currency-most = f.currency-most };
-      paid = record { member-least = p .debited .least; member-most = p .debited .most; currency-least = f.currency-least; currency-most = f.currency-most };
-      amount = f.amount;
+      sells = named t.security t.debited f.terms.security-most (p .debited);
+      buys = named t.security t.credited f.terms.security-most (p .credited);
+      some = omega (arith, f.terms.quantity-least);
+      quantity = f.terms.quantity-most;
+      pays = record { member-least = p .credited .least; member-most = p .credited .most; currency-least = f.terms.currency-least; currency-most = f.terms.currency-most };
+      paid = record { member-least = p .debited .least; member-most = p .debited .most; currency-least = f.terms.currency-least; currency-most = f.terms.currency-most };
+      amount = f.terms.amount-most;
     }
 
 -- a day has at most three cycles

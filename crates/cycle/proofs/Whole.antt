@@ -5,7 +5,7 @@ use mathlib.Core.Bool.{true, false, false≢true}
 use mathlib.Core.List.{List, [], _∷_, _++_}
 use mathlib.Core.Path.{_≡_, refl, sym, ap, subst, _∙_}
 use lib.ListN.{length, drop}
-use Rattle.rulebook.specs.Ledger.{Ledger, putDay, putHoldings, putWaiting}
+use Rattle.rulebook.specs.Ledger.{Ledger, putDay, putHoldings, putWaiting, oneMoreCycle}
 use Rattle.rulebook.specs.Movements.{booked}
 use Rattle.rulebook.specs.Rows.{postingRows, rowsBytes}
 use Rattle.rulebook.specs.Waiting.{isTrade, sidesOf, sides}
@@ -24,7 +24,6 @@ use Rattle.book.specs.Stored.{Means}
 use Rattle.book.specs.Handled.{Handled}
 use Rattle.book.proofs.Laws.{next}
 use Rattle.netting.specs.Marks.{itemIn, isOn, markedOf, countOn, rowsOf}
-use Rattle.cycle.specs.Counted.{oneMore}
 use Rattle.netting.proofs.Marking.{count-marked}
 
 -- ---- a trade has two sides
@@ -86,12 +85,12 @@ module _ (b : Ledger) (due marks : ℕ) (d : markedOf due b.waiting ≡ taken b.
       unfolding putHoldings putWaiting
       same-day = ap (λ (x : Ledger). x .day) (stays .ledger)
 
-      module _ (third : List ℕ) (dated : Means third (putDay (oneMore (ledgerOf second .day)) (ledgerOf second))) where
+      module _ (third : List ℕ) (dated : Means third (putDay (oneMoreCycle (ledgerOf second .day)) (ledgerOf second))) where
         after : (order : Order) → ledgerOf third ≡ cycle b order .after
         unfolding putHoldings putWaiting putDay cycle outcome settled notSettled
         after order =
-            next (λ x. putDay (oneMore (x .day)) x) stays dated .ledger
-            ∙ ap (λ (ms : List Marked). putDay (oneMore b.day) (putWaiting (withoutMark ms) (putHoldings (booked (legs (withMark ms)) b.holdings) b))) all-rounds
+            next (λ x. putDay (oneMoreCycle (x .day)) x) stays dated .ledger
+            ∙ ap (λ (ms : List Marked). putDay (oneMoreCycle b.day) (putWaiting (withoutMark ms) (putHoldings (booked (legs (withMark ms)) b.holdings) b))) all-rounds
 
         pub handled :
             (order : Order) (area area′ : List ℕ) (r : Counts) → area′ ≡ rowsBytes (rowsOf (markedOf marks b.waiting)) ++ drop (16 * length (rowsOf (markedOf marks b.waiting))) area

@@ -6,13 +6,12 @@ mod postings;
 ghost use mathlib.Core.Path.{_≡_};
 ghost use Prim.Native.Nat.{_+_, _-_, _*_, _^_, _≤_, _<_};
 ghost use lib.ListN.{length};
-ghost use Rattle.rulebook.specs.Ledger.{putDay};
+ghost use Rattle.rulebook.specs.Ledger.{putDay, oneMoreCycle};
 ghost use Rattle.rulebook.specs.Forms.{counts, cycle};
 ghost use Rattle.rulebook.specs.declared.Order.{Order};
 ghost use Rattle.book.specs.Meaning.{ledgerOf};
 ghost use Rattle.book.specs.Stored.{Stored, Kept, Means};
 ghost use Rattle.book.specs.Handled.{Handled};
-ghost use Rattle.cycle.specs.Counted.{oneMore};
 use netting::marks;
 use rulebook::Counts;
 use rulebook::Day;
@@ -20,7 +19,7 @@ use rulebook::Day;
 // A cycle adds 1 to cycles run.
 fn count_cycle(book: &mut [u64])
     requires { ⌜ Stored (now book) × (ledgerOf (now book) .day .cycles < 2 ^ 63) ⌝ }
-    ensures { λ u. ⌜ Means (now (book .exit)) (putDay (oneMore (ledgerOf (now (book .entry)) .day)) (ledgerOf (now (book .entry)))) ⌝ }
+    ensures { λ u. ⌜ Means (now (book .exit)) (putDay (oneMoreCycle (ledgerOf (now (book .entry)) .day)) (ledgerOf (now (book .entry)))) ⌝ }
 {
     let day = book::day(book);
     book::put_day(

@@ -116,7 +116,7 @@ pub extern "C" fn depository_read(record: &[u8], fields: &mut [u64]) -> u64
     }
 }
 
-// The order of fifteen fields.
+// The order of fifteen fields; it has no operation, and its pairs are of the first edition.
 fn order_in(fields: &[u64]) -> Order
     requires { ⌜ length (now fields) ≡ 15 ⌝ }
     ensures { λ r. ⌜ r ≡ orderOf (now (fields .entry)) ⌝ }
@@ -141,6 +141,9 @@ fn order_in(fields: &[u64]) -> Order
         trade_day: fields[12],
         settlement_day: fields[13],
         reference: fields[14],
+        operation: 0,
+        original: 0,
+        edition: 0,
     }
 }
 

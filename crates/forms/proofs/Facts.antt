@@ -10,12 +10,13 @@ use Rattle.rulebook.specs.Lists.{if_then_else_, _is_, _isNot_, _below_, within,
 use Rattle.rulebook.specs.Ledger.{Ledger, accountOf, sameAccount, admitted, outsideOf, counted, putBalance, putHoldings}
 use Rattle.rulebook.specs.Movements.{account, credit, debit}
 use Rattle.rulebook.specs.Premise.{Premise, CashFits}
-use Rattle.rulebook.specs.Record.{used, usedFields}
+use Rattle.rulebook.specs.Field as Field
+use Rattle.rulebook.specs.Forms.{forms, rowOf, used, least}
 use Rattle.rulebook.specs.Refusals.{refusals, wrongSecurity, overCeiling}
 use Rattle.rulebook.specs.declared.Account.{Account}
 use Rattle.rulebook.specs.declared.Order.{Order}
 use Rattle.rulebook.proofs.Orders as rulebook
-use Rattle.rulebook.proofs.Orders.{accepted, little-parts, debit-enough, not-admitted, uses}
+use Rattle.rulebook.proofs.Orders.{accepted, little-parts, debit-enough, not-admitted, needed}
 use Rattle.rulebook.proofs.Bounds.{balance-fits, outside-fits, cash-fits}
 use Rattle.rulebook.proofs.Space.{admit-space, deposit-space, transfer-space, sides-apart, same-sym}
 use Rattle.accounts.specs.Keys.{InRange}
@@ -137,10 +138,10 @@ module _ (book : List ℕ) (o : Order) (k : Kept book) (w : WasRead o) (p : firs
   -- ---- forms 10 and 11
 
   pub payee : o.form ≡ 10 → CashFits o.credited.member o.currency
-  unfolding used usedFields
+  unfolding used least forms rowOf
   payee e =
-      let m = ranges o w .credited (uses 10 6 o e true refl) in
-      let c = ranges o w .currency (uses 10 3 o e true refl) in
+      let m = ranges o w .credited (needed 10 Field.credited-member o e refl) in
+      let c = ranges o w .currency (needed 10 Field.currency o e refl) in
       record { member-least = m .0; member-most = m .1; currency-least = c .0; currency-most = c .1 }
 
   pub pay-in-fits : b.holdings.cash o.credited.member o.currency + o.amount.0 < 2 ^ 64

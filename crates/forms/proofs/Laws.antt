@@ -4,7 +4,7 @@ use mathlib.Core.Path.{_≡_, refl, sym, ap, _∙_}
 use mathlib.Core.Bool.{Bool, true, false}
 use mathlib.Core.List.{List, [], _∷_, _++_}
 use lib.ListN.{drop}
-use Rattle.rulebook.specs.Ledger.{Ledger, Holdings, accountOf, admitted, outsideOf, putDay, putHoldings, putSecurities, putBalance, putOutside}
+use Rattle.rulebook.specs.Ledger.{Ledger, Holdings, accountOf, admitted, outsideOf, putDay, putHoldings, putSecurities, putBalance, putOutside, opening}
 use Rattle.rulebook.specs.Movements.{Movement, move, account, type90, type91, cashOf, member0, credit, debit, credits, debits, booked}
 use Rattle.rulebook.specs.Rows.{postingOf, postingRows, rowsBytes}
 use Rattle.rulebook.specs.Forms.{Outcome, outcome, counts, moving, silent, openDay, admit, deposit, withdraw, transfer, payIn, payOut}
@@ -37,7 +37,7 @@ moved m b book before after c means wrote counted = record { stored = means.stor
 module _ (b : Ledger) (o : Order) (before after : List ℕ) (c : Counts) where
   -- 1
   pub opened :
-      (day : Day) (book : List ℕ) → day ≡ record { number = b.day.number + 1; opened = true; kind = o.quantity.0; cycles = 0; minute = b.day.minute } → Means book (putDay day b)
+      (day : Day) (book : List ℕ) → day ≡ opening o.quantity.0 b.day → Means book (putDay day b)
       → c ≡ counts 0 0 0 0 0 0 → (area : List ℕ) → Handled (openDay b o) book area area c
   unfolding openDay silent outcome rowsBytes
   opened day book e means counted area = record { stored = means.stored; ledger = means.ledger ∙ ap (λ (d : Day). putDay d b) e; counted = counted; written = refl }

@@ -8,7 +8,7 @@ use mathlib.Core.Path.{_≡_, refl, sym, ap, subst, _∙_}
 use borrow.Rule.Slice.PartMut.{midOf, putMid}
 use lib.ListN.{length, getD, set, take, drop, length-set, length-drop, length-append}
 use lib.Seq.{length-take-le, take-suc, take-suc-set, take-all, drop-set-lt, drop-drop, getD-drop}
-use Rattle.rulebook.specs.Ledger.{Ledger, putDay, putWaiting}
+use Rattle.rulebook.specs.Ledger.{Ledger, putDay, putWaiting, closing}
 use Rattle.rulebook.specs.Premise.{ItemFits, today}
 use Rattle.rulebook.specs.Waiting.{sides, unmarked}
 use Rattle.rulebook.specs.Close.{closeKind, closeNotice, deletedAtClose, suspendedAtClose}
@@ -196,18 +196,15 @@ module _ (day : ℕ) (start free : List ℕ) where
 
 -- ---- then the day is closed
 
-abbrev shut : Day → Day
-shut d = record { number = d.number; opened = false; kind = d.kind; cycles = d.cycles; minute = d.minute }
-
 pub day-closed :
     (book : List ℕ) (order : Order) (d : Day) (mid after free area : List ℕ) (c : Counts) → d ≡ ledgerOf book .day → Handled (itemsClosed d.number (ledgerOf book)) mid free area c
-    → Means after (putDay (shut d) (ledgerOf mid)) → Handled (close (ledgerOf book) order) after free area c
+    → Means after (putDay (closing d) (ledgerOf mid)) → Handled (close (ledgerOf book) order) after free area c
 unfolding close outcome itemsClosed putDay putWaiting
 day-closed book order d mid after free area c e h m =
     let items = subst (λ (x : Day). Handled (itemsClosed x.number (ledgerOf book)) mid free area c) e h in
     record {
       stored = m.stored;
-      ledger = m.ledger ∙ ap (λ (x : Day). putDay (shut x) (ledgerOf mid)) e ∙ ap (putDay (shut (ledgerOf book .day))) items.ledger;
+      ledger = m.ledger ∙ ap (λ (x : Day). putDay (closing x) (ledgerOf mid)) e ∙ ap (putDay (closing (ledgerOf book .day))) items.ledger;
       counted = items.counted;
       written = items.written;
     }

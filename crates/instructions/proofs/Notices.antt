@@ -14,18 +14,18 @@ use Rattle.rulebook.specs.declared.State.{State}
 use Rattle.rulebook.specs.declared.State.the-variants.{Single, Pair, Trade}
 use Rattle.rows.specs.Widths.{NoticeFits}
 
-references-fit : (today day security : ℕ) (debited credited : Party) (x : State) → StateFits today day security debited credited x → (deliverReference x < 2 ^ 32) × (receiveReference x < 2 ^ 32)
+references-fit : (security : ℕ) (debited credited : Party) (x : State) → StateFits security debited credited x → (deliverReference x < 2 ^ 32) × (receiveReference x < 2 ^ 32)
 unfolding deliverReference receiveReference
-references-fit today day security debited credited (Single true reference) f = omega (arith, f .named .most)
-references-fit today day security debited credited (Single false reference) f = omega (arith, f .named .most)
-references-fit today day security debited credited (Pair d r dm rm) f = omega (arith, f .deliver-named .most, f .receive-named .most)
-references-fit today day security debited credited (Trade reference) f = omega (arith, f .named .most)
+references-fit security debited credited (Single true reference) f = omega (arith, f .named .most)
+references-fit security debited credited (Single false reference) f = omega (arith, f .named .most)
+references-fit security debited credited (Pair d r dm rm) f = omega (arith, f .deliver-named .most, f .receive-named .most)
+references-fit security debited credited (Trade reference) f = omega (arith, f .named .most)
 
 pub notice-fits : (number today : ℕ) (h : Holdings) (item : Item) (kind : ℕ) → kind < 16 → ItemFits number today h item → NoticeFits (noticeOf kind item)
 unfolding noticeOf noticeWidths
 notice-fits number today h item kind l f =
-    let r = references-fit today item.«settlement_day» item.security item.debited item.credited item.state f.state in
-    omega (arith, f .debited .member, f .credited .member)
+    let r = references-fit item.security item.debited item.credited item.state f.state in
+    omega (arith, f .terms .debited-named .member, f .terms .credited-named .member)
 
 marked-state : (sender kind : ℕ) (item : Item) (x : State) → noticeOf kind (marked sender (withState x item)) ≡ noticeOf kind (withState x item)
 unfolding noticeOf marked withState deliverReference receiveReference

@@ -37,40 +37,20 @@ fn handle(book: &mut [u64], order: Order, area: &mut [u8]) -> Counts
     ensures { λ r. ⌜ Handled (effect (ledgerOf (now (book .entry))) order) (now (book .exit)) (now (area .entry)) (now (area .exit)) r ⌝ }
 {
     let form = order.form;
-    if form == 1 {
-        return forms::open_day(book, order);
+    match form {
+        1 => forms::open_day(book, order),
+        2 => forms::admit(book, order, area),
+        3 => forms::deposit(book, order, area),
+        4 => forms::withdraw(book, order, area),
+        5 | 6 | 7 | 8 | 9 => forms::transfer(book, order, area),
+        10 => forms::pay_in(book, order, area),
+        11 => forms::pay_out(book, order, area),
+        12 | 13 => instructions::instruct(book, order),
+        14 => instructions::trade(book, order),
+        15 => instructions::cancel(book, order, area),
+        16 => cycle::run(book, area),
+        _ => instructions::close(book, order, area),
     }
-    if form == 2 {
-        return forms::admit(book, order, area);
-    }
-    if form == 3 {
-        return forms::deposit(book, order, area);
-    }
-    if form == 4 {
-        return forms::withdraw(book, order, area);
-    }
-    if form <= 9 {
-        return forms::transfer(book, order, area);
-    }
-    if form == 10 {
-        return forms::pay_in(book, order, area);
-    }
-    if form == 11 {
-        return forms::pay_out(book, order, area);
-    }
-    if form <= 13 {
-        return instructions::instruct(book, order);
-    }
-    if form == 14 {
-        return instructions::trade(book, order);
-    }
-    if form == 15 {
-        return instructions::cancel(book, order, area);
-    }
-    if form == 16 {
-        return cycle::run(book, area);
-    }
-    instructions::close(book, order, area)
 }
 
 // Every accepted call sets the last minute.

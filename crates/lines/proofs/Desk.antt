@@ -2,8 +2,7 @@
 use Prim.Native.Nat.{ℕ}
 use mathlib.Core.List.{List, _++_}
 use mathlib.Core.Path.{_≡_, refl}
-use Rattle.rulebook.specs.Call.{answerNumber}
-use Rattle.rulebook.specs.Calls.{ofAnswer}
+use Rattle.rulebook.specs.Call.{answerNumber, answerRows}
 use Rattle.rulebook.specs.declared.Answer.{Answer}
 use Rattle.rulebook.specs.declared.Counts.{Counts}
 use Rattle.rulebook.specs.declared.Security.{Security}
@@ -23,5 +22,5 @@ printed =
     ++ custodyLine security (record { 0 = 400 })
 
 pub five-lines : printed ≡ text "1 0 0\n2 0 2\n3 0 2\n4 16 0\nCUSTODY 101 ISSUED 1000 HELD 400 OUTSIDE 600\n"
-unfolding printed accepted security answerLine custodyLine answerNumber ofAnswer decimal digits
+unfolding printed accepted security answerLine custodyLine answerNumber answerRows decimal digits
 five-lines = refl

@@ -2,8 +2,7 @@
 use Prim.Native.Nat.{ℕ}
 use Prim.Native.String.{String}
 use mathlib.Core.List.{List, _++_}
-use Rattle.rulebook.specs.Call.{answerNumber}
-use Rattle.rulebook.specs.Calls.{ofAnswer}
+use Rattle.rulebook.specs.Call.{answerNumber, answerRows}
 use Rattle.rulebook.specs.declared.Answer.{Answer}
 use Rattle.rulebook.specs.declared.Security.{Security}
 use Rattle.rulebook.specs.declared.Shares.{Shares}
@@ -15,7 +14,7 @@ figure words n = text words ++ decimal n
 
 -- per record: its number from 1, the answer (0 accepted), rows
 unfoldable pub answerLine : ℕ → Answer → List ℕ
-answerLine number answer = decimal number ++ figure " " (answerNumber answer) ++ figure " " (ofAnswer (λ counts. counts .rows) answer) ++ text "\n"
+answerLine number answer = decimal number ++ figure " " (answerNumber answer) ++ figure " " (answerRows answer) ++ text "\n"
 
 -- per security: the words CUSTODY, ISSUED, HELD and OUTSIDE, the first before the security's code, the others before those counts
 unfoldable pub custodyLine : Security → Shares → List ℕ

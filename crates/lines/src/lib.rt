@@ -3,8 +3,7 @@ ghost use mathlib.Core.Path.{_≡_};
 ghost use mathlib.Core.List.{_++_};
 ghost use Prim.Native.Nat.{_+_, _≤_, _<_};
 ghost use lib.ListN.{length};
-ghost use Rattle.rulebook.specs.Call.{answerNumber};
-ghost use Rattle.rulebook.specs.Calls.{ofAnswer};
+ghost use Rattle.rulebook.specs.Call.{answerNumber, answerRows};
 ghost use Rattle.lines.specs.Text.{digit, decimal, Put};
 ghost use Rattle.lines.specs.Lines.{answerLine, custodyLine};
 use rulebook::Answer;
@@ -64,7 +63,7 @@ fn number_of(answer: Answer) -> u64
 }
 
 fn rows_of(answer: Answer) -> u64
-    ensures { λ r. ⌜ r ≡ ofAnswer (λ counts. counts .rows) answer ⌝ }
+    ensures { λ r. ⌜ r ≡ answerRows answer ⌝ }
 {
     match answer {
         Answer::Accepted(counts) => counts.rows,

@@ -40,6 +40,9 @@ fn order(
         trade_day,
         settlement_day,
         reference,
+        operation: 0,
+        original: 0,
+        edition: 0,
     }
 }
 

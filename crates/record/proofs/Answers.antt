@@ -7,7 +7,8 @@ use borrow.Author.Tests.{eq-eqb, ne-eqb, le-ltb}
 use lib.ListN.{length, drop}
 use Rattle.bits.specs.Layout.{Fit}
 use Rattle.rulebook.specs.Lists.{if_then_else_, _below_, first}
-use Rattle.rulebook.specs.Record.{widths, fieldsIn, fieldsOf, orderOf, recordOf, readRefusal, readOf, writeRefusal, writtenOf, areaWritten, noForm, unusedNotZero, usedOutOfRange}
+use Rattle.rulebook.specs.Field.{widths}
+use Rattle.rulebook.specs.Record.{fieldsIn, fieldsOf, orderOf, recordOf, readRefusal, readOf, writeRefusal, writtenOf, areaWritten, noForm, unusedNotZero, usedOutOfRange}
 use Rattle.rulebook.specs.declared.Order.{Order}
 use Rattle.rulebook.specs.declared.Read.{Read}
 use Rattle.rulebook.specs.declared.Written.{Written}

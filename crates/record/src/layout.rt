@@ -1,4 +1,4 @@
-// A record's layout: sixteen fields packed without gaps, the last of them 48 zero bits.
+// A record's layout: its fields packed without gaps, and behind them the bits that no field has.
 use crate::places;
 ghost use mathlib.Core.Path.{_≡_};
 ghost use Prim.Native.Nat.{_≤_};
@@ -10,10 +10,30 @@ use rulebook::Party;
 use rulebook::Shares;
 
 // The fields' widths in bits.
-pub const WIDTHS: [usize; 16] = [5, 11, 14, 2, 10, 8, 10, 8, 30, 30, 40, 40, 16, 16, 32, 48];
+pub const WIDTHS: [usize; 19] = [
+    5,
+    11,
+    14,
+    2,
+    10,
+    8,
+    10,
+    8,
+    30,
+    30,
+    40,
+    40,
+    16,
+    16,
+    32,
+    3,
+    32,
+    1,
+    12,
+];
 
 // The fields that a record's bytes hold.
-pub fn fields_in(record: &[u8]) -> [u64; 16]
+pub fn fields_in(record: &[u8]) -> [u64; 19]
     requires { ⌜ 40 ≤ length (now «record») ⌝ }
     ensures { λ r. ⌜ r ≡ fieldsIn (now («record» .entry)) ⌝ }
 {
@@ -33,12 +53,16 @@ pub fn fields_in(record: &[u8]) -> [u64; 16]
         bits::get_bits(record, 208, 16),
         bits::get_bits(record, 224, 16),
         bits::get_bits(record, 240, 32),
-        bits::get_bits(record, 272, 48),
+        bits::get_bits(record, 272, 3),
+        bits::get_bits(record, 275, 32),
+        bits::get_bits(record, 307, 1),
+        bits::get_bits(record, 308, 12),
     ]
 }
 
-// The order of such fields.
-pub fn order_of(fields: &[u64; 16]) -> Order
+// The order of such fields; what stands behind them is not looked at.
+pub fn order_of(fields: &[u64]) -> Order
+    requires { ⌜ 18 ≤ length (now fields) ⌝ }
     ensures { λ r. ⌜ r ≡ orderOf (now (fields .entry)) ⌝ }
 {
     Order {
@@ -61,11 +85,14 @@ pub fn order_of(fields: &[u64; 16]) -> Order
         trade_day: fields[places::TRADE_DAY],
         settlement_day: fields[places::SETTLEMENT_DAY],
         reference: fields[places::REFERENCE],
+        operation: fields[places::OPERATION],
+        original: fields[places::ORIGINAL],
+        edition: fields[places::EDITION],
     }
 }
 
-// The fields of an order.
-pub fn fields_of(order: Order) -> [u64; 16]
+// The fields of an order, and 0 for the bits behind them.
+pub fn fields_of(order: Order) -> [u64; 19]
     ensures { λ r. ⌜ r ≡ fieldsOf order ⌝ }
 {
     let debited = order.debited;
@@ -86,6 +113,9 @@ pub fn fields_of(order: Order) -> [u64; 16]
         order.trade_day,
         order.settlement_day,
         order.reference,
+        order.operation,
+        order.original,
+        order.edition,
         0,
     ]
 }

@@ -1,5 +1,5 @@
 // The record reader and the record writer.
-mod layout;
+pub mod layout;
 mod places;
 mod refusals;
 

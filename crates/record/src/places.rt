@@ -1,4 +1,4 @@
-// The fields' places in a record. The last place, 15, is that of the 48 zero bits.
+// The fields' places in a record; the last is that of the bits that no field has.
 pub const FORM: usize = 0;
 
 pub const MINUTE: usize = 1;
@@ -28,3 +28,11 @@ pub const TRADE_DAY: usize = 12;
 pub const SETTLEMENT_DAY: usize = 13;
 
 pub const REFERENCE: usize = 14;
+
+pub const OPERATION: usize = 15;
+
+pub const ORIGINAL: usize = 16;
+
+pub const EDITION: usize = 17;
+
+pub const SPARE: usize = 18;

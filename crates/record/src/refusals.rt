@@ -3,16 +3,19 @@ use crate::places;
 ghost use mathlib.Core.Path.{_≡_};
 ghost use mathlib.Core.Bool.{true, not, _&&_};
 ghost use mathlib.Core.List.{[], _∷_, map};
-ghost use Prim.Native.Nat.{ℕ, _/_, _^_, _≤_, _<_};
-ghost use lib.Bits.{bitAnd};
-ghost use lib.Dec.{eqb};
+ghost use Prim.Native.Nat.{_<_};
+ghost use lib.Bits.{bitOr};
 ghost use lib.ListN.{getD};
 ghost use Rattle.rulebook.specs.Lists.{_isNot_, within, first};
-ghost use Rattle.rulebook.specs.Record.{used, least, most, places, unusedNotZero, usedOutOfRange};
-ghost use Rattle.record.specs.Fields.{earlierOf, fieldsRefusal};
+ghost use Rattle.rulebook.specs.Field.{places};
+ghost use Rattle.rulebook.specs.Forms.{most};
+ghost use Rattle.rulebook.specs.Record.{unusedNotZero, usedOutOfRange};
+ghost use Rattle.record.specs.Fields.{has, leastIn, Ruled, RuleOf, lastAreZero, earlierOf, fieldsRefusal};
 
 // Sets of fields, a bit for each at its place.
-const FORM_AND_MINUTE: u64 = 1 << places::FORM | 1 << places::MINUTE;
+const MINUTE: u64 = 1 << places::MINUTE;
+
+const FORM_AND_MINUTE: u64 = 1 << places::FORM | MINUTE;
 
 const SECURITY: u64 = 1 << places::SECURITY;
 
@@ -42,29 +45,8 @@ const TRANSFER: u64 = SECURITY | DEBITED | CREDITED | QUANTITY | 1 << places::SE
 
 const ALL: u64 = SECURITY | CURRENCY | DEBITED | CREDITED | QUANTITY | AMOUNT | DAYS | REFERENCE;
 
-// The fields that forms 1 to 17 use, besides form and minute.
-const USED: [u64; 17] = [
-    QUANTITY,
-    SECURITY | QUANTITY,
-    SECURITY | CREDITED | QUANTITY,
-    SECURITY | DEBITED | QUANTITY,
-    TRANSFER,
-    TRANSFER,
-    TRANSFER,
-    TRANSFER,
-    TRANSFER,
-    CURRENCY | CREDITED_MEMBER | AMOUNT,
-    CURRENCY | DEBITED_MEMBER | AMOUNT,
-    ALL ^ CREDITED_TYPE,
-    ALL ^ DEBITED_TYPE,
-    ALL,
-    DEBITED_MEMBER | REFERENCE,
-    0,
-    0,
-];
-
 // The most that each field can be: that of its width, or less.
-const MOST: [u64; 16] = [
+const MOST: [u64; 19] = [
     (1 << 5) - 1,
     1439,
     (1 << 14) - 1,
@@ -80,26 +62,70 @@ const MOST: [u64; 16] = [
     (1 << 16) - 1,
     (1 << 16) - 1,
     (1 << 32) - 1,
-    (1 << 48) - 1,
+    (1 << 3) - 1,
+    (1 << 32) - 1,
+    (1 << 1) - 1,
+    (1 << 12) - 1,
 ];
 
-// The fields that a form uses, a bit for each.
-fn used_by(form: usize) -> u64
-    requires { ⌜ (1 ≤ form) × (form ≤ 17) ⌝ }
-    ensures { λ r. ⌜ ((place : ℕ) → place < 16 → eqb (bitAnd (r / 2 ^ place) 1) 1 ≡ used form place) ⌝ }
-{
-    FORM_AND_MINUTE | USED[form - 1]
+// What a form says of its fields: those that it uses, and those that may be 0.
+struct Rule {
+    used: u64,
+    optional: u64,
 }
 
-// The least that a used field can be: the minute alone may be 0.
-fn least_of(place: usize) -> u64
-    ensures { λ r. ⌜ r ≡ least place ⌝ }
+// A form that uses these fields, each from 1 on, besides form and minute.
+fn uses(fields: u64) -> Rule
+    ensures { λ r. ⌜ (r .used ≡ bitOr 3 fields) × (r .optional ≡ 2) ⌝ }
 {
-    if place == places::MINUTE { 0 } else { 1 }
+    Rule {
+        used: FORM_AND_MINUTE | fields,
+        optional: MINUTE,
+    }
+}
+
+// The table of forms: no form uses nothing.
+fn rule_of(form: u64) -> Rule
+    ensures { λ r. ⌜ RuleOf form r ⌝ }
+{
+    match form {
+        1 => uses(QUANTITY),
+        2 => uses(SECURITY | QUANTITY),
+        3 => uses(SECURITY | CREDITED | QUANTITY),
+        4 => uses(SECURITY | DEBITED | QUANTITY),
+        5 | 6 | 7 | 8 | 9 => uses(TRANSFER),
+        10 => uses(CURRENCY | CREDITED_MEMBER | AMOUNT),
+        11 => uses(CURRENCY | DEBITED_MEMBER | AMOUNT),
+        12 => uses(ALL ^ CREDITED_TYPE),
+        13 => uses(ALL ^ DEBITED_TYPE),
+        14 => uses(ALL),
+        15 => uses(DEBITED_MEMBER | REFERENCE),
+        16 | 17 => uses(0),
+        _ => Rule {
+            used: 0,
+            optional: 0,
+        },
+    }
+}
+
+// Whether a set has the field at a place.
+fn is_in(set: u64, place: usize) -> bool
+    requires { ⌜ place < 64 ⌝ }
+    ensures { λ r. ⌜ r ≡ has set place ⌝ }
+{
+    set >> place & 1 == 1
+}
+
+// The least that a used field can be.
+fn least_of(optional: u64, place: usize) -> u64
+    requires { ⌜ place < 64 ⌝ }
+    ensures { λ r. ⌜ r ≡ leastIn optional place ⌝ }
+{
+    if is_in(optional, place) { 0 } else { 1 }
 }
 
 // The most that each field can be: form 1's quantity is the day kind.
-fn most_of(form: usize) -> [u64; 16]
+fn most_of(form: u64) -> [u64; 19]
     ensures { λ r. ⌜ r ≡ map (most form) places ⌝ }
 {
     let mut most = MOST;
@@ -140,33 +166,58 @@ fn earlier(one: u64, other: u64) -> u64
 }
 
 // The first of 4 and 5 that applies to the fields of a form, or 0.
-fn fields_refusal(form: usize, fields: &[u64; 16]) -> u64
-    requires { ⌜ (1 ≤ form) × (form ≤ 17) × (getD (now fields) 0 0 ≡ form) ⌝ }
+fn fields_refusal(form: u64, rule: Rule, fields: &[u64; 19]) -> u64
+    requires { ⌜ Ruled form rule × (getD (now fields) 0 0 ≡ form) ⌝ }
     ensures { λ r. ⌜ r ≡ first ((4, unusedNotZero (now (fields .entry))) ∷ (5, usedOutOfRange (now (fields .entry))) ∷ []) ⌝ }
 {
-    let used = used_by(form);
+    let used = rule.used;
+    let optional = rule.optional;
     let most = most_of(form);
     let mut number = 0;
-    for place in 0..16 {
-        let is_used = used >> place & 1 == 1;
+    for place in 0..19 {
         number = earlier(
             number,
-            field_refusal(is_used, least_of(place), most[place], fields[place]),
+            field_refusal(
+                is_in(used, place),
+                least_of(optional, place),
+                most[place],
+                fields[place],
+            ),
         );
     }
     number
 }
 
-// Whether neither 4 nor 5 applies to the fields of a form: the short way for a record that is read.
-fn are_right(form: usize, fields: &[u64; 16]) -> bool
-    requires { ⌜ (1 ≤ form) × (form ≤ 17) × (getD (now fields) 0 0 ≡ form) ⌝ }
+// Whether the fields behind the reference are 0, as they are in most records.
+fn last_are_zero(fields: &[u64; 19]) -> bool
+    ensures { λ r. ⌜ r ≡ lastAreZero (now (fields .entry)) ⌝ }
+{
+    (fields[places::OPERATION] == 0)
+        & (fields[places::ORIGINAL] == 0)
+        & (fields[places::EDITION] == 0)
+        & (fields[places::SPARE] == 0)
+}
+
+// Whether neither 4 nor 5 applies to the fields of a form: the short way for a record that is read. In every form 0 is right behind
+// the reference.
+fn are_right(form: u64, rule: Rule, fields: &[u64; 19]) -> bool
+    requires { ⌜ Ruled form rule × (getD (now fields) 0 0 ≡ form) ⌝ }
     ensures { λ r. ⌜ (r ≡ true → 0 ≡ first ((4, unusedNotZero (now (fields .entry))) ∷ (5, usedOutOfRange (now (fields .entry))) ∷ [])) ⌝ }
 {
-    let used = used_by(form);
+    if !last_are_zero(fields) {
+        return false;
+    }
+    let used = rule.used;
+    let optional = rule.optional;
     let most = most_of(form);
-    for place in 0..16 {
-        let is_used = used >> place & 1 == 1;
-        if field_refusal(is_used, least_of(place), most[place], fields[place]) != 0 {
+    for place in 0..15 {
+        let number = field_refusal(
+            is_in(used, place),
+            least_of(optional, place),
+            most[place],
+            fields[place],
+        );
+        if number != 0 {
             return false;
         }
     }
@@ -174,18 +225,16 @@ fn are_right(form: usize, fields: &[u64; 16]) -> bool
 }
 
 // The first of 3, 4, 5 that applies, or 0.
-pub fn refusal(fields: &[u64; 16]) -> u64
+pub fn refusal(fields: &[u64; 19]) -> u64
     ensures { λ r. ⌜ r ≡ fieldsRefusal (now (fields .entry)) ⌝ }
 {
     let form = fields[places::FORM];
-    if form < 1 {
+    let rule = rule_of(form);
+    if rule.used == 0 {
         return 3;
     }
-    if 17 < form {
-        return 3;
-    }
-    if are_right(form as usize, fields) {
+    if are_right(form, rule, fields) {
         return 0;
     }
-    fields_refusal(form as usize, fields)
+    fields_refusal(form, rule, fields)
 }

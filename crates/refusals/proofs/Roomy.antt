@@ -10,6 +10,7 @@ use Rattle.rulebook.specs.Ledger.{Ledger}
 use Rattle.rulebook.specs.Premise.{Premise}
 use Rattle.rulebook.specs.Refusals.{wrongPair, wrongParties, tooLittle, noSpace}
 use Rattle.rulebook.specs.declared.Order.{Order}
+use Rattle.rulebook.proofs.ByCall.{HasForm}
 use Rattle.rulebook.proofs.Sizes.{never-grows}
 use Rattle.rulebook.proofs.Space.{deposit-space, transfer-space, instruct-space, trade-space, sides-apart}
 use Rattle.rulebook.proofs.Orders.{debit-enough}
@@ -28,13 +29,13 @@ not-false false e = sym e
 
 -- the last form that can lack space, in a book without room for one more item
 pub last :
-    (b : Ledger) (o : Order) → Premise b → (63 below length b.waiting || 255 below (b.holdings.accounts + length b.waiting)) ≡ true → 1 ≤ o.form → o.form ≤ 17
+    (b : Ledger) (o : Order) → Premise b → (63 below length b.waiting || 255 below (b.holdings.accounts + length b.waiting)) ≡ true → HasForm o.form
     → (o.form is 2) ≡ false → (o.form is 3) ≡ false → within 5 9 o.form ≡ false → within 12 13 o.form ≡ false → noSpace b o ≡ (o.form is 14)
-last b o p full l u two three five twelve = go (o.form is 14) refl
+last b o p full h two three five twelve = go (o.form is 14) refl
   where
     go : (t : Bool) → (o.form is 14) ≡ t → noSpace b o ≡ (o.form is 14)
     go true e = trade-space b o (p .sizes) (eqb-true o.form 14 e) ∙ full ∙ sym e
-    go false e = never-grows b o (never o.form l u two three five twelve e) (p .sizes) ∙ sym e
+    go false e = never-grows b o (never o.form h two three five twelve e) (p .sizes) ∙ sym e
 
 module _ (b : Ledger) (o : Order) (w : WasRead o) (p : Premise b) (enough : tooLittle b.holdings o ≡ false) (pair : wrongPair o ≡ false) (parties : wrongParties o ≡ false) where
   pub roomy :
@@ -47,8 +48,7 @@ module _ (b : Ledger) (o : Order) (w : WasRead o) (p : Premise b) (enough : tooL
       on-14 : (t : Bool) → (o.form is 14) ≡ t → (o.form is 3) ≡ false → within 5 9 o.form ≡ false → within 12 13 o.form ≡ false → noSpace b o ≡ false
       on-14 true e three five twelve = trade-space b o (p .sizes) (eqb-true o.form 14 e) ∙ room
       on-14 false e three five twelve =
-          let f = ranges o w .form in
-          never-grows b o (never o.form (f .0) (f .1) two three five twelve e) (p .sizes)
+          never-grows b o (never o.form (ranges o w .form) two three five twelve e) (p .sizes)
 
       on-12 : (t : Bool) → within 12 13 o.form ≡ t → (o.form is 3) ≡ false → within 5 9 o.form ≡ false → noSpace b o ≡ false
       on-12 true e three five = instruct-space b o (p .sizes) (instruction o.form e) ∙ simp (room, and-false)

@@ -3,7 +3,7 @@ use mathlib.Core.List.{List, [], _∷_}
 use Prim.Native.Nat.{ℕ}
 use Rattle.rulebook.specs.Ledger.{Holdings, putBalance, putCash, putOutside}
 use Rattle.rulebook.specs.declared.Account.{Account}
-use Rattle.rulebook.specs.Movements.{Place, account, type91, type90, cashOf, member0, Movement, credit, debit, credits, debits, booked}
+use Rattle.rulebook.specs.Movements.{Place, account, type91, type90, cashOf, member0, Movement, credit, debit, credits, debits, booked, putAt}
 
 -- both places of each movement are such
 abbrev pub Both : (Place → Type 0) → List Movement → Type 0
@@ -45,18 +45,11 @@ pub booked-puts :
     (P : Holdings → Type 0) → ((a : Account) (v : ℕ) (h : Holdings) → P h → P (putBalance a v h)) → ((s v : ℕ) (h : Holdings) → P h → P (putOutside s v h))
     → ((m c v : ℕ) (h : Holdings) → P h → P (putCash m c v h)) → (ms : List Movement) (h : Holdings) → P h → P (booked ms h)
 unfolding credit debit
-booked-puts P balance outside cash = booked-any P credit-keeps debit-keeps
+booked-puts P balance outside cash = booked-any P (λ q n h. keeps q _ h) (λ q n h. keeps q _ h)
   where
-    credit-keeps : (q : Place) (n : ℕ) (h : Holdings) → P h → P (credit q n h)
-    credit-keeps (account a) n h p = balance a _ h p
-    credit-keeps (type91 s) n h p = outside s _ h p
-    credit-keeps (type90 s) n h p = p
-    credit-keeps (cashOf m c) n h p = cash m c _ h p
-    credit-keeps (member0 c) n h p = p
-
-    debit-keeps : (q : Place) (n : ℕ) (h : Holdings) → P h → P (debit q n h)
-    debit-keeps (account a) n h p = balance a _ h p
-    debit-keeps (type91 s) n h p = outside s _ h p
-    debit-keeps (type90 s) n h p = p
-    debit-keeps (cashOf m c) n h p = cash m c _ h p
-    debit-keeps (member0 c) n h p = p
+    keeps : (q : Place) (v : ℕ) (h : Holdings) → P h → P (putAt q v h)
+    keeps (account a) v h p = balance a v h p
+    keeps (type91 s) v h p = outside s v h p
+    keeps (type90 s) v h p = p
+    keeps (cashOf m c) v h p = cash m c v h p
+    keeps (member0 c) v h p = p

@@ -1,8 +1,8 @@
 -- From the effect of each form to lists of calls: what a claim of demand 3 has to show is its step, one form at a time. Assumes nothing.
-use mathlib.Core.Path.{_≡_, refl}
-use mathlib.Core.Bool.{Bool, true, false}
+use mathlib.Core.Path.{_≡_, refl, sym, ap, subst}
+use mathlib.Core.Bool.{Bool, true, false, _||_, false≢true}
 use mathlib.Core.List.{List, [], _∷_}
-use Prim.Native.Nat.{ℕ, zero, suc, _+_, _-_, _≤_}
+use Prim.Native.Nat.{ℕ, zero, suc, _+_, _≤_}
 use native.Mathlib.Nat.{add-zero, add-suc, suc-add}
 use native.Mathlib.Numerals.{one-add}
 use native.Mathlib.Omega.{arith}
@@ -10,23 +10,43 @@ use borrow.Author.Tests.{eqb-true}
 use lib.ListN.{length, getD}
 use Rattle.rulebook.specs.declared.Order.{Order}
 use Rattle.rulebook.specs.declared.Counts.{Counts}
+use Rattle.rulebook.specs.declared.Day.{Day}
 use Rattle.rulebook.specs.declared.Answer.{Answer}
 use Rattle.rulebook.specs.declared.Read.{Read}
 use Rattle.rulebook.specs.Lists.{_is_, _below_, total, first}
 use Rattle.rulebook.specs.Ledger.{Ledger}
 use Rattle.rulebook.specs.Record.{readOf}
-use Rattle.rulebook.specs.Forms.{Outcome, silent, openDay, forms, effect}
+use Rattle.rulebook.specs.Forms.{Outcome, Form, forms, noRow, rowOf, windowOf, effect}
 use Rattle.rulebook.specs.Refusals.{refusals}
 use Rattle.rulebook.specs.Call.{Result, putMinute, accepted, refused, orderCall, readCall, callOf}
-use Rattle.rulebook.specs.Calls.{Call, call, Made, resultOf, recordIn, callsOn, bookAfter, ofRecord, records, ofAnswer, answers}
+use Rattle.rulebook.specs.Calls.{Call, call, Made, resultOf, recordIn, callsOn, bookAfter, Accepted, acceptedOf, acceptedCalls, sum}
+use Rattle.rulebook.proofs.Lists.{total-append}
 
-abbrev pub Form : Type 0
-Form = Ledger → Order → Outcome
+-- what a form does
+abbrev pub Effect : Type 0
+Effect = Ledger → Order → Outcome
 
--- what holds of each form of a list, numbered from n
+-- what holds of each row of a list of forms, numbered from n
 abbrev pub AllForms : (ℕ → Form → Type 0) → ℕ → List Form → Type 0
 AllForms P n [] = Unit {0}
 AllForms P n (f ∷ rest) = P n f × AllForms P (suc n) rest
+
+-- what an order does, and when it may come, by its form's row
+pub effect-at : (n : ℕ) (b : Ledger) (o : Order) → o.form ≡ n → effect b o ≡ rowOf n .effect b o
+unfolding effect
+effect-at n b o e = ap (λ (k : ℕ). rowOf k .effect b o) e
+
+pub window-at : (n : ℕ) (d : Day) (o : Order) → o.form ≡ n → windowOf d o ≡ rowOf n .window d o
+unfolding windowOf
+window-at n d o e = ap (λ (k : ℕ). rowOf k .window d o) e
+
+-- a number that a row has
+abbrev pub HasForm : ℕ → Type 0
+HasForm n = (1 ≤ n) × (n ≤ length forms)
+
+-- no order that was read has another
+pub not-read : {n m : ℕ} → (HasForm m → ⊥) → n ≡ m → HasForm n → ⊥
+not-read none e r = none (subst HasForm e r)
 
 module _ (P : ℕ → Form → Type 0) where
   form-at : (fs : List Form) (n k : ℕ) (d : Form) → AllForms P n fs → ((m : ℕ) → n + length fs ≤ m → P m d) → P (n + k) (getD fs k d)
@@ -34,37 +54,40 @@ module _ (P : ℕ → Form → Type 0) where
   form-at (f ∷ rest) n zero d a h = rw add-zero (a .0)
   form-at (f ∷ rest) n (suc k) d a h = rw (add-suc n k, ← suc-add n k) (form-at rest (suc n) k d (a .1) (λ m l. h m (omega arith)))
 
-forms-length : length forms ≡ 17
-unfolding forms
-forms-length = refl
+  -- what holds of every row of the table, and of no row at other numbers, holds of the row of any number
+  pub by-form : AllForms P 1 forms → ((m : ℕ) → (HasForm m → ⊥) → P m noRow) → (n : ℕ) → P n (rowOf n)
+  unfolding rowOf
+  by-form a h zero = h 0 (λ w. absurd (omega (arith, w .0)))
+  by-form a h (suc n) = rw (← one-add n) (form-at forms 1 n noRow a (λ m l. h m (λ w. absurd (omega (arith, l, w .1)))))
 
--- what holds of the seventeen forms, and of a form that does nothing at other numbers, holds of the effect of any order
-pub by-form :
-    (P : ℕ → Form → Type 0) → AllForms P 1 forms → ((m : ℕ) → 18 ≤ m → P m (λ b o. silent b)) → P 0 openDay → (n : ℕ)
-    → P n (getD forms (n - 1) (λ b o. silent b))
-unfolding forms
-by-form P a h z n = go n
-  where
-    at : (k : ℕ) → P (1 + k) (getD forms k (λ b o. silent b))
-    at k = form-at P forms 1 k (λ b o. silent b) a (λ m l. h m (omega (arith, forms-length)))
+-- a row of a list of forms, numbered from n, is wrong
+abbrev pub anyForm : (ℕ → Form → Bool) → ℕ → List Form → Bool
+anyForm wrong n [] = false
+anyForm wrong n (f ∷ rest) = wrong n f || anyForm wrong (suc n) rest
 
-    go : (n : ℕ) → P n (getD forms (n - 1) (λ b o. silent b))
-    go zero = z
-    go (suc n) =
-        let p : suc n - 1 ≡ n = omega arith in
-        rw (p, ← one-add n) (at n)
+-- a table's rule: what one computed test says of all rows holds of the row of any number
+module _ (wrong : ℕ → Form → Bool) where
+  all-right : (Q : ℕ → Type 0) (fs : List Form) (n : ℕ) → anyForm wrong n fs ≡ false → AllForms (λ n f. Q n → wrong n f ≡ false) n fs
+  all-right Q [] n e = tt
+  all-right Q (f ∷ rest) n e = let t = neither (wrong n f) (anyForm wrong (suc n) rest) e in ((λ _. t .0), all-right Q rest (suc n) (t .1))
+    where
+      neither : (x y : Bool) → (x || y) ≡ false → (x ≡ false) × (y ≡ false)
+      neither true y p = absurd (false≢true (sym p))
+      neither false y p = (refl, p)
 
--- a figure of an accepted call: from its order and what the order's effect was
+  pub by-row : anyForm wrong 1 forms ≡ false → (n : ℕ) → HasForm n → wrong n (rowOf n) ≡ false
+  by-row e = by-form (λ n f. HasForm n → wrong n f ≡ false) (all-right HasForm forms 1 e) (λ m none has. absurd (none has))
+
+  pub by-test : anyForm wrong 1 forms ≡ false → ((m : ℕ) → wrong m noRow ≡ false) → (n : ℕ) → wrong n (rowOf n) ≡ false
+  by-test e z n = by-form (λ n f. Unit {0} → wrong n f ≡ false) (all-right (λ _. Unit {0}) forms 1 e) (λ m none _. z m) n tt
+
+-- a figure of an accepted call
 abbrev pub Figure : Type 0
-Figure = Order → Counts → ℕ
+Figure = Accepted → ℕ
 
-unfoldable pub ofMade : Figure → Answer → Read → ℕ
-ofMade figure (Answer.Accepted c) (Read.Order o) = figure o c
-ofMade figure (Answer.Accepted c) (Read.Refused n) = 0
-ofMade figure (Answer.Refused n) read = 0
-
-unfoldable pub inAll : Figure → List Made → ℕ
-inAll figure = total (λ m. ofMade figure m.answer (recordIn m.made))
+-- the call of an order that is accepted
+abbrev pub acceptedCall : Ledger → Order → (area : List ℕ) → Accepted
+acceptedCall b o area = record { order = o; counts = effect b o .counts; area = accepted (effect b o) o.minute area .area }
 
 -- A quantity of the book, kept true by what comes and what goes; Inv is what calls keep true of a book
 module _
@@ -72,28 +95,29 @@ module _
     (kept : Ledger → ℕ)
     (comes goes : Figure)
     (step :
-    (b : Ledger) (o : Order) (bytes : List ℕ) → Inv b → readOf bytes ≡ Read.Order o → first (refusals b o) ≡ 0
+    (b : Ledger) (o : Order) (bytes area : List ℕ) → Inv b → readOf bytes ≡ Read.Order o → first (refusals b o) ≡ 0
     → Inv (putMinute o.minute (effect b o .after))
-    × (comes o (effect b o .counts) + kept b ≡ goes o (effect b o .counts) + kept (putMinute o.minute (effect b o .after))))
+    × (comes (acceptedCall b o area) + kept b ≡ goes (acceptedCall b o area) + kept (putMinute o.minute (effect b o .after))))
   where
     abbrev Step : Ledger → Read → Result → Type 0
-    Step b r x = Inv (x .book) × (ofMade comes x.answer r + kept b ≡ ofMade goes x.answer r + kept x.book)
+    Step b r x =
+        Inv (x .book) × (total comes (acceptedOf x.answer r x.area) + kept b ≡ total goes (acceptedOf x.answer r x.area) + kept x.book)
 
     order-step : (b : Ledger) (o : Order) (area bytes : List ℕ) → Inv b → readOf bytes ≡ Read.Order o → Step b (Read.Order o) (orderCall b o area)
-    unfolding orderCall accepted refused ofMade
+    unfolding orderCall accepted refused acceptedOf
     order-step b o area bytes i e = go (first (refusals b o) is 0) refl
       where
         go : (t : Bool) → (first (refusals b o) is 0) ≡ t → Step b (Read.Order o) (orderCall b o area)
-        go true p = simp p (step b o bytes i e (eqb-true _ 0 p))
+        go true p = let s = step b o bytes area i e (eqb-true _ 0 p) in simp p (s .0, omega (arith, s .1))
         go false p = simp p (i, refl)
 
     read-step : (b : Ledger) (r : Read) (area bytes : List ℕ) → Inv b → readOf bytes ≡ r → Step b r (readCall b r area)
-    unfolding readCall refused ofMade
+    unfolding readCall refused acceptedOf
     read-step b (Read.Order o) area bytes i e = order-step b o area bytes i e
     read-step b (Read.Refused n) area bytes i e = (i, refl)
 
     call-step : (b : Ledger) (bytes area : List ℕ) → Inv b → Step b (readOf bytes) (callOf b bytes area)
-    unfolding callOf refused ofMade
+    unfolding callOf refused acceptedOf
     call-step b bytes area i = go (length area below 4_096) refl
       where
         go : (t : Bool) → (length area below 4_096) ≡ t → Step b (readOf bytes) (callOf b bytes area)
@@ -105,58 +129,21 @@ module _
     result-step b (call bytes area) i = call-step b bytes area i
 
     -- over any list of calls: what came and what was kept is what went and what is kept
-    pub by-call : (b : Ledger) → Inv b → (calls : List Call) → inAll comes (callsOn b calls) + kept b ≡ inAll goes (callsOn b calls) + kept (bookAfter b calls)
-    unfolding callsOn bookAfter inAll
+    pub by-call : (b : Ledger) → Inv b → (calls : List Call) → sum comes (callsOn b calls) + kept b ≡ sum goes (callsOn b calls) + kept (bookAfter b calls)
+    unfolding callsOn bookAfter sum acceptedCalls
     by-call b i [] = refl
     by-call b i (c ∷ rest) =
         let s = result-step b c i in
-        omega (arith, s .1, by-call (resultOf b c .book) (s .0) rest)
+        let x : Result = resultOf b c in
+        let first = acceptedOf x.answer (recordIn c) x.area in
+        let later = acceptedCalls (callsOn x.book rest) in
+        omega (arith, s .1, by-call x.book (s .0) rest, total-append comes first later, total-append goes first later)
 
--- the totals of demand 3 are such figures
-
-record-of : (f : Order → ℕ) (a : Answer) (r : Read) → ofRecord f a r ≡ ofMade (λ o c. f o) a r
-unfolding ofMade ofRecord
-record-of f (Answer.Accepted c) (Read.Order o) = refl
-record-of f (Answer.Accepted c) (Read.Refused n) = refl
-record-of f (Answer.Refused n) r = refl
-
-pub records-are : (f : Order → ℕ) (h : List Made) → records f h ≡ inAll (λ o c. f o) h
-unfolding records inAll
-records-are f [] = refl
-records-are f (m ∷ rest) = omega (arith, record-of f m.answer (recordIn m.made), records-are f rest)
-
-module _ (f : Counts → ℕ) where
-  answer-of : (a : Answer) (o : Order) → ofAnswer f a ≡ ofMade (λ o c. f c) a (Read.Order o)
-  unfolding ofMade ofAnswer
-  answer-of (Answer.Accepted c) o = refl
-  answer-of (Answer.Refused n) o = refl
-
-  read-answer : (b : Ledger) (r : Read) (area : List ℕ) → ofAnswer f (readCall b r area .answer) ≡ ofMade (λ o c. f c) (readCall b r area .answer) r
-  unfolding readCall refused ofMade ofAnswer
-  read-answer b (Read.Order o) area = answer-of (orderCall b o area .answer) o
-  read-answer b (Read.Refused n) area = refl
-
-  call-answer : (b : Ledger) (c : Call) → ofAnswer f (resultOf b c .answer) ≡ ofMade (λ o c. f c) (resultOf b c .answer) (recordIn c)
-  unfolding resultOf recordIn callOf refused ofMade ofAnswer
-  call-answer b (call bytes area) = go (length area below 4_096) refl
-    where
-      go :
-          (t : Bool) → (length area below 4_096) ≡ t → ofAnswer f (callOf b bytes area .answer) ≡ ofMade (λ o c. f c) (callOf b bytes area .answer) (readOf bytes)
-      go true p = simp p
-      go false p = simp p (read-answer b (readOf bytes) area)
-
-  pub answers-are : (b : Ledger) (calls : List Call) → answers f (callsOn b calls) ≡ inAll (λ o c. f c) (callsOn b calls)
-  unfolding callsOn answers inAll
-  answers-are b [] = refl
-  answers-are b (c ∷ rest) = omega (arith, call-answer b c, answers-are (resultOf b c .book) rest)
-
-zero-of : (a : Answer) (r : Read) → ofMade (λ o c. 0) a r ≡ 0
-unfolding ofMade
-zero-of (Answer.Accepted c) (Read.Order o) = refl
-zero-of (Answer.Accepted c) (Read.Refused n) = refl
-zero-of (Answer.Refused n) r = refl
-
-pub none-in : (h : List Made) → inAll (λ o c. 0) h ≡ 0
-unfolding inAll
-none-in [] = refl
-none-in (m ∷ rest) = omega (arith, zero-of m.answer (recordIn m.made), none-in rest)
+-- the sum of a figure that is always 0
+pub sum-none : (h : List Made) → sum (λ c. 0) h ≡ 0
+unfolding sum
+sum-none h = total-none (acceptedCalls h)
+  where
+    total-none : (l : List Accepted) → total (λ c. 0) l ≡ 0
+    total-none [] = refl
+    total-none (c ∷ rest) = omega (arith, total-none rest)

@@ -18,11 +18,11 @@ use Rattle.rulebook.specs.declared.Read.{Read}
 use Rattle.rulebook.specs.Lists.{_is_, first}
 use Rattle.rulebook.specs.Record.{readOf}
 use Rattle.rulebook.specs.Ledger.{Ledger, fresh, putDay, cashTotal, issuedOf, outsideOf, held}
-use Rattle.rulebook.specs.Movements.{type91}
+use Rattle.rulebook.specs.Movements.{type91, bookHas}
 use Rattle.rulebook.specs.Forms.{effect}
 use Rattle.rulebook.specs.Refusals.{overCeiling, refusals}
 use Rattle.rulebook.specs.Call.{putMinute}
-use Rattle.rulebook.specs.Calls.{Call, resultOf, bookAfter, kept}
+use Rattle.rulebook.specs.Calls.{Call, resultOf, bookAfter}
 use Rattle.rulebook.specs.Premise.{Sizes, accountCount, Premise}
 use Rattle.rulebook.proofs.ByCall.{result-step}
 use Rattle.rulebook.proofs.Orders.{accepted}
@@ -56,7 +56,6 @@ fresh-premise = record {
 step-issue :
     (b : Ledger) (o : Order) → Step o.form b o (effect b o) → (s : ℕ) → held s b.holdings + outsideOf s b.holdings ≡ issuedOf s b.holdings
     → held s (effect b o .after .holdings) + outsideOf s (effect b o .after .holdings) ≡ issuedOf s (effect b o .after .holdings)
-unfolding kept
 step-issue b o t s e =
     omega (
       arith,
@@ -121,7 +120,7 @@ order-premise b o bytes p e z =
 -- and so does any call, with any record and any area
 pub call-premise : (b : Ledger) (c : Call) → Premise b → Premise (resultOf b c .book)
 call-premise b c p =
-    result-step Premise (λ b. 0) (λ o c. 0) (λ o c. 0) (λ b o bytes p e z. (order-premise b o bytes p e z, refl)) b c p .0
+    result-step Premise (λ b. 0) (λ c. 0) (λ c. 0) (λ b o bytes area p e z. (order-premise b o bytes p e z, refl)) b c p .0
 
 -- and any list of calls
 pub calls-premise : (b : Ledger) → Premise b → (calls : List Call) → Premise (bookAfter b calls)

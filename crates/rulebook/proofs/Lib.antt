@@ -1,9 +1,13 @@
 -- WHAT IS PROMISED OF THE DEFINITIONS
 
+-- all of it, as specs/Theorems states it: `theorems`
+pub mod Theorems
 -- both round trips of a record: `write-read` and `read-write`
 pub mod RoundTrips
 -- demand 3, over every list of calls: `demand3`
 pub mod Demand3
+-- the desk checks: `desk`
+pub mod Desk
 -- the premise: the fresh book meets it (`fresh-premise`) and every call keeps it (`call-premise`), so the number of accounts that a book carries is
 -- the number of those with a balance (`accounts-counted`)
 pub mod EveryCall

@@ -1,7 +1,7 @@
 -- What is known of an order that was read, and of one that no test refuses. Assumes nothing.
 use mathlib.Core.Path.{_≡_, refl, sym, ap, subst}
 use mathlib.Core.Bool.{Bool, true, false, not, _&&_, _||_, false≢true}
-use mathlib.Core.List.{List, [], _∷_}
+use mathlib.Core.List.{List, [], _∷_, _++_}
 use Prim.Native.Nat.{ℕ, zero, suc, _+_, _≤_, _<_, _^_}
 use native.Mathlib.Nat.{mod-lt}
 use native.Mathlib.Omega.{arith}
@@ -15,9 +15,13 @@ use Rattle.rulebook.specs.declared.Party.{Party}
 use Rattle.rulebook.specs.declared.Read.{Read}
 use Rattle.rulebook.specs.Lists.{if_then_else_, _is_, _isNot_, _below_, _atMost_, _oneOf_, within, some, first}
 use Rattle.rulebook.specs.AccountTypes.{wrongTypes}
-use Rattle.rulebook.specs.Record.{widths, places, orderOf, fieldsIn, used, least, most, noForm, unusedNotZero, usedOutOfRange, readRefusal, readOf}
+use Rattle.rulebook.specs.Field as Field
+use Rattle.rulebook.specs.Field.{places, widths, ceiling, always, ruleIn}
+use Rattle.rulebook.proofs.ByCall.{by-test}
+use Rattle.rulebook.specs.Forms.{Form, forms, used, least, most, windowOf}
+use Rattle.rulebook.specs.Record.{orderOf, fieldsIn, noForm, unusedNotZero, usedOutOfRange, readRefusal, readOf}
 use Rattle.rulebook.specs.Ledger.{Ledger, accountOf, sameAccount, admitted, outsideOf}
-use Rattle.rulebook.specs.Windows.{cycleMinutes, windowOf}
+use Rattle.rulebook.specs.Windows.{cycleMinutes}
 use Rattle.rulebook.specs.Waiting.{senderOf, sentBy}
 use Rattle.rulebook.specs.Refusals.{wrongDay, wrongCycle, goesBack, outsideWindow, wrongSecurity, wrongPair, wrongParties, wrongDays, wrongReference, wrongCancel, tooLittle, overCeiling, noSpace, refusals}
 
@@ -90,23 +94,27 @@ none-applies (check ∷ rest) n e = go (check .1) refl (none-applies rest (n .1)
 
 -- the members of an order that was read are 1 to 64 where its form uses them, and a type is 0 where its form does not use it
 
+-- used, and at least 1
+abbrev pub needs : (form place : ℕ) → Bool
+needs form place = used form place && 1 atMost least form place
+
 pub record Ranges (o : Order) : Type 0 where
-  pub debited : used o.form 4 ≡ true → (1 ≤ o.debited.member) × (o.debited.member ≤ 64)
-  pub credited : used o.form 6 ≡ true → (1 ≤ o.credited.member) × (o.credited.member ≤ 64)
-  pub no-debited-type : used o.form 5 ≡ false → o.debited.typ ≡ 0
-  pub no-credited-type : used o.form 7 ≡ false → o.credited.typ ≡ 0
-  -- the form is 1 to 17, the minute at most 1439, the day kind at most 2, and what a form uses is at least 1
-  pub form : (1 ≤ o.form) × (o.form ≤ 17)
+  pub debited : needs o.form Field.debited-member ≡ true → (1 ≤ o.debited.member) × (o.debited.member ≤ 64)
+  pub credited : needs o.form Field.credited-member ≡ true → (1 ≤ o.credited.member) × (o.credited.member ≤ 64)
+  pub no-debited-type : used o.form Field.debited-type ≡ false → o.debited.typ ≡ 0
+  pub no-credited-type : used o.form Field.credited-type ≡ false → o.credited.typ ≡ 0
+  -- the form has a row, the minute is at most 1439, and what a form needs is at least 1
+  pub form : (1 ≤ o.form) × (o.form ≤ length forms)
   pub minute : o.minute ≤ 1439
-  pub security : used o.form 2 ≡ true → 1 ≤ o.security
-  pub currency : used o.form 3 ≡ true → (1 ≤ o.currency) × (o.currency ≤ 2)
-  pub debited-holder : used o.form 8 ≡ true → 1 ≤ o.debited.shareholder
-  pub credited-holder : used o.form 9 ≡ true → 1 ≤ o.credited.shareholder
-  pub quantity : used o.form 10 ≡ true → (1 ≤ o.quantity.0) × (o.quantity.0 ≤ most o.form 10)
-  pub amount : used o.form 11 ≡ true → 1 ≤ o.amount.0
-  pub «trade_day» : used o.form 12 ≡ true → 1 ≤ o.«trade_day»
-  pub «settlement_day» : used o.form 13 ≡ true → 1 ≤ o.«settlement_day»
-  pub reference : used o.form 14 ≡ true → 1 ≤ o.reference
+  pub security : needs o.form Field.security ≡ true → 1 ≤ o.security
+  pub currency : needs o.form Field.currency ≡ true → (1 ≤ o.currency) × (o.currency ≤ 2)
+  pub debited-holder : needs o.form Field.debited-shareholder ≡ true → 1 ≤ o.debited.shareholder
+  pub credited-holder : needs o.form Field.credited-shareholder ≡ true → 1 ≤ o.credited.shareholder
+  pub quantity : needs o.form Field.quantity ≡ true → (1 ≤ o.quantity.0) × (o.quantity.0 ≤ most o.form Field.quantity)
+  pub amount : needs o.form Field.amount ≡ true → 1 ≤ o.amount.0
+  pub «trade_day» : needs o.form Field.trade-day ≡ true → 1 ≤ o.«trade_day»
+  pub «settlement_day» : needs o.form Field.settlement-day ≡ true → 1 ≤ o.«settlement_day»
+  pub reference : needs o.form Field.reference ≡ true → 1 ≤ o.reference
 
 pub none-at : (test : ℕ → Bool) (xs : List ℕ) (i : ℕ) → i < length xs → some test xs ≡ false → test (getD xs i 0) ≡ false
 none-at test [] i l e = absurd (omega arith)
@@ -134,35 +142,51 @@ pub is-zero : (u : Bool) (n : ℕ) → (not u && n isNot 0) ≡ false → u ≡ 
 is-zero false n e t = eqb-true n 0 (not-false _ e)
 is-zero true n e t = absurd (false≢true (sym t))
 
+-- what is used from 1 is at least 1, and at most its most
+from-1 : (u : Bool) (a b n : ℕ) → (u && not (within a b n)) ≡ false → (u && 1 atMost a) ≡ true → (1 ≤ n) × (n ≤ b)
+from-1 true a b n e t = let r = in-range true a b n e refl in (omega (arith, r .0, leb-true 1 a t), r .1)
+from-1 false a b n e t = absurd (false≢true t)
+
+-- no row lets a field be more than its place does
+above : Form → Bool
+above f = some (λ place. ceiling place below ruleIn (always ++ f.fields) place .most) places
+
+pub most-ceiling : (form i : ℕ) → i < length places → most form (getD places i 0) ≤ ceiling (getD places i 0)
+unfolding above forms most ceiling widths places
+most-ceiling form i l = ltb-false _ _ (none-at (λ place. ceiling place below most form place) places i l (by-test (λ n f. above f) refl (λ m. refl) form))
+
 fields-range : (fields : List ℕ) → noForm fields ≡ false → unusedNotZero fields ≡ false → usedOutOfRange fields ≡ false → Ranges (orderOf fields)
-unfolding noForm unusedNotZero usedOutOfRange orderOf places least most used
+unfolding noForm unusedNotZero usedOutOfRange orderOf places widths ceiling
 fields-range fields nf u r = record {
-  debited = in-range (used f 4) 1 64 (getD fields 4 0) (none-at wide places 4 (omega arith) r);
-  credited = in-range (used f 6) 1 64 (getD fields 6 0) (none-at wide places 6 (omega arith) r);
-  no-debited-type = is-zero (used f 5) (getD fields 5 0) (none-at idle places 5 (omega arith) u);
-  no-credited-type = is-zero (used f 7) (getD fields 7 0) (none-at idle places 7 (omega arith) u);
-  form = in-range true 1 17 (getD fields 0 0) nf refl;
-  minute = in-range true 0 1439 (getD fields 1 0) (none-at wide places 1 (omega arith) r) refl .1;
-  security = λ t. in-range (used f 2) 1 _ (getD fields 2 0) (none-at wide places 2 (omega arith) r) t .0;
-  currency = in-range (used f 3) 1 2 (getD fields 3 0) (none-at wide places 3 (omega arith) r);
-  debited-holder = λ t. in-range (used f 8) 1 _ (getD fields 8 0) (none-at wide places 8 (omega arith) r) t .0;
-  credited-holder = λ t. in-range (used f 9) 1 _ (getD fields 9 0) (none-at wide places 9 (omega arith) r) t .0;
-  quantity = in-range (used f 10) 1 (most f 10) (getD fields 10 0) (none-at wide places 10 (omega arith) r);
-  amount = λ t. in-range (used f 11) 1 _ (getD fields 11 0) (none-at wide places 11 (omega arith) r) t .0;
-  «trade_day» = λ t. in-range (used f 12) 1 _ (getD fields 12 0) (none-at wide places 12 (omega arith) r) t .0;
-  «settlement_day» = λ t. in-range (used f 13) 1 _ (getD fields 13 0) (none-at wide places 13 (omega arith) r) t .0;
-  reference = λ t. in-range (used f 14) 1 _ (getD fields 14 0) (none-at wide places 14 (omega arith) r) t .0;
+  debited = λ t. let x = field Field.debited-member (omega arith) t in (x .0, omega (arith, x .1, most-ceiling f Field.debited-member (omega arith)));
+  credited = λ t. let x = field Field.credited-member (omega arith) t in (x .0, omega (arith, x .1, most-ceiling f Field.credited-member (omega arith)));
+  no-debited-type = is-zero (used f Field.debited-type) (getD fields Field.debited-type 0) (none-at idle places Field.debited-type (omega arith) u);
+  no-credited-type = is-zero (used f Field.credited-type) (getD fields Field.credited-type 0) (none-at idle places Field.credited-type (omega arith) u);
+  form = in-range true 1 (length forms) (getD fields Field.form 0) nf refl;
+  minute = unfold used least most in in-range true 0 1439 (getD fields Field.minute 0) (none-at wide places Field.minute (omega arith) r) refl .1;
+  security = λ t. field Field.security (omega arith) t .0;
+  currency = λ t. let x = field Field.currency (omega arith) t in (x .0, omega (arith, x .1, most-ceiling f Field.currency (omega arith)));
+  debited-holder = λ t. field Field.debited-shareholder (omega arith) t .0;
+  credited-holder = λ t. field Field.credited-shareholder (omega arith) t .0;
+  quantity = λ t. field Field.quantity (omega arith) t;
+  amount = λ t. field Field.amount (omega arith) t .0;
+  «trade_day» = λ t. field Field.trade-day (omega arith) t .0;
+  «settlement_day» = λ t. field Field.settlement-day (omega arith) t .0;
+  reference = λ t. field Field.reference (omega arith) t .0;
 }
   where
     f : ℕ
-    f = getD fields 0 0
+    f = getD fields Field.form 0
 
     -- the tests 5 and 4, by place
     wide : ℕ → Bool
-    wide place = used f place && not (within (least place) (most f place) (getD fields place 0))
+    wide place = used f place && not (within (least f place) (most f place) (getD fields place 0))
 
     idle : ℕ → Bool
     idle place = not (used f place) && getD fields place 0 isNot 0
+
+    field : (i : ℕ) → i < length places → needs f (getD places i 0) ≡ true → (1 ≤ getD fields (getD places i 0) 0) × (getD fields (getD places i 0) 0 ≤ most f (getD places i 0))
+    field i l t = let p = getD places i 0 in from-1 (used f p) (least f p) (most f p) (getD fields p 0) (none-at wide places i l r) t
 
 read-passes : (bytes : List ℕ) (o : Order) → readOf bytes ≡ Read.Order o → readRefusal bytes ≡ 0
 unfolding readOf
@@ -240,6 +264,9 @@ accepted b o bytes e z =
 -- the fields that a form uses
 pub uses : (form place : ℕ) (o : Order) → o.form ≡ form → (t : Bool) → used form place ≡ t → used o.form place ≡ t
 uses form place o e t u = subst (λ (k : ℕ). used k place ≡ t) (sym e) u
+
+pub needed : (form place : ℕ) (o : Order) → o.form ≡ form → needs form place ≡ true → needs o.form place ≡ true
+needed form place o e u = subst (λ (k : ℕ). needs k place ≡ true) (sym e) u
 
 -- ---- what each test says, by form
 

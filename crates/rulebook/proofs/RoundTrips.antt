@@ -1,67 +1,73 @@
 -- Both round trips of a record: what is written reads back as itself, and what is read is what the writer makes. Assumes nothing.
 use mathlib.Core.Path.{_≡_, refl, sym, ap, subst, _∙_}
 use mathlib.Core.Bool.{Bool, true, false, not, _&&_}
-use mathlib.Core.List.{List, [], _∷_, append-nil}
-use Prim.Native.Nat.{ℕ, zero, suc, _-_, _^_, _≤_, _<_}
+use mathlib.Core.List.{List, [], _∷_, _++_, append-nil}
+use Prim.Native.Nat.{ℕ, _+_, _*_, _^_, _≤_, _<_}
 use native.Mathlib.Omega.{arith}
 use borrow.Author.Tests.{le-ltb}
 use lib.Dec.{lit<}
-use lib.ListN.{length, getD}
+use lib.ListN.{length, getD, take, drop}
 use lib.Seq.{take-all}
-use Rattle.bits.specs.Bits.{bytes}
+use Rattle.bits.specs.Bits.{Octets, bytes}
 use Rattle.bits.specs.Layout.{pack, Fit}
-use Rattle.bits.proofs.Laws.{Octets, length-bytes}
-use Rattle.bits.proofs.Packing.{values-back, bytes-back}
+use Rattle.bits.proofs.Laws.{length-bytes}
+use Rattle.bits.proofs.Packing.{values-back, bytes-back, take-bytes, pack-high}
 use Rattle.rulebook.specs.declared.Order.{Order}
 use Rattle.rulebook.specs.declared.Read.{Read}
-use Rattle.rulebook.specs.Lists.{if_then_else_, _is_, _isNot_, _below_, _oneOf_, within}
-use Rattle.rulebook.specs.Record.{widths, places, fieldsOf, orderOf, D, C, all, allBut, usedFields, used, least, most, noForm, unusedNotZero, usedOutOfRange, fieldsIn, readRefusal, readOf, recordOf, writeRefusal}
-use Rattle.rulebook.specs.Premise.{Each}
+use Rattle.rulebook.specs.Lists.{if_then_else_, _is_, _isNot_, _below_, within, some}
+use Rattle.rulebook.specs.Field as Field
+use Rattle.rulebook.specs.Field.{places, widths, ceiling, always}
+use Rattle.rulebook.specs.Forms.{Form, forms, used, least, most}
+use Rattle.rulebook.specs.Record.{fieldsOf, orderOf, noForm, unusedNotZero, usedOutOfRange, fieldsIn, readRefusal, readOf, recordOf, writeRefusal}
 use Rattle.rulebook.proofs.Lists.{_and_}
-use Rattle.rulebook.proofs.Orders.{none-applies, none-at, in-range, is-zero, read-is, Passed, read-tests}
+use Rattle.rulebook.proofs.ByCall.{by-test}
+use Rattle.rulebook.proofs.Orders.{none-applies, none-at, most-ceiling, in-range, is-zero, read-is, Passed, read-tests}
 
 -- a field that is used is in its range, and another is 0
 in-width : (u : Bool) (a b w n : ℕ) → (u && not (within a b n)) ≡ false → (not u && n isNot 0) ≡ false → b < 2 ^ w → n < 2 ^ w
 in-width true a b w n e f l = omega (arith, in-range true a b n e refl .1)
 in-width false a b w n e f l = omega (arith, is-zero false n f refl)
 
+-- what a place can be fits its width
+fits-width : (i : ℕ) → i < length places → getD places i 0 ≡ i → ceiling i < 2 ^ getD widths i 0 → (form : ℕ) → most form i < 2 ^ getD widths i 0
+fits-width i l e c form = let m : most form i ≤ ceiling i = subst (λ (place : ℕ). most form place ≤ ceiling place) e (most-ceiling form i l) in omega (arith, m, c)
+
 -- the fields of an order that is not refused fit their widths
 pub fields-fit : (o : Order) → unusedNotZero (fieldsOf o) ≡ false → usedOutOfRange (fieldsOf o) ≡ false → Fit widths (fieldsOf o)
-unfolding unusedNotZero usedOutOfRange fieldsOf widths places least most
+unfolding unusedNotZero usedOutOfRange fieldsOf widths places ceiling
 fields-fit o u r =
-    at 0 (lit< tt) refl (lit< tt) and
-    at 1 (lit< tt) refl (lit< tt) and
-    at 2 (lit< tt) refl (lit< tt) and
-    at 3 (lit< tt) refl (lit< tt) and
-    at 4 (lit< tt) refl (lit< tt) and
-    at 5 (lit< tt) refl (lit< tt) and
-    at 6 (lit< tt) refl (lit< tt) and
-    at 7 (lit< tt) refl (lit< tt) and
-    at 8 (lit< tt) refl (lit< tt) and
-    at 9 (lit< tt) refl (lit< tt) and
-    at 10 (lit< tt) refl (kind (o.form is 1)) and
-    at 11 (lit< tt) refl (lit< tt) and
-    at 12 (lit< tt) refl (lit< tt) and
-    at 13 (lit< tt) refl (lit< tt) and
-    at 14 (lit< tt) refl (lit< tt) and
-    at 15 (lit< tt) refl (lit< tt) and
+    at Field.form (lit< tt) refl (lit< tt) and
+    at Field.minute (lit< tt) refl (lit< tt) and
+    at Field.security (lit< tt) refl (lit< tt) and
+    at Field.currency (lit< tt) refl (lit< tt) and
+    at Field.debited-member (lit< tt) refl (lit< tt) and
+    at Field.debited-type (lit< tt) refl (lit< tt) and
+    at Field.credited-member (lit< tt) refl (lit< tt) and
+    at Field.credited-type (lit< tt) refl (lit< tt) and
+    at Field.debited-shareholder (lit< tt) refl (lit< tt) and
+    at Field.credited-shareholder (lit< tt) refl (lit< tt) and
+    at Field.quantity (lit< tt) refl (lit< tt) and
+    at Field.amount (lit< tt) refl (lit< tt) and
+    at Field.trade-day (lit< tt) refl (lit< tt) and
+    at Field.settlement-day (lit< tt) refl (lit< tt) and
+    at Field.reference (lit< tt) refl (lit< tt) and
+    at Field.operation (lit< tt) refl (lit< tt) and
+    at Field.original (lit< tt) refl (lit< tt) and
+    at Field.edition (lit< tt) refl (lit< tt) and
+    at Field.spare (lit< tt) refl (lit< tt) and
     tt
   where
     wide : ℕ → Bool
-    wide place = used o.form place && not (within (least place) (most o.form place) (getD (fieldsOf o) place 0))
+    wide place = used o.form place && not (within (least o.form place) (most o.form place) (getD (fieldsOf o) place 0))
 
     idle : ℕ → Bool
     idle place = not (used o.form place) && getD (fieldsOf o) place 0 isNot 0
 
-    at : (i : ℕ) → i < 16 → getD places i 0 ≡ i → most o.form i < 2 ^ getD widths i 0 → getD (fieldsOf o) i 0 < 2 ^ getD widths i 0
-    at i l e m =
-        in-width (used o.form i) (least i) (most o.form i) (getD widths i 0) (getD (fieldsOf o) i 0)
-        (subst (λ (place : ℕ). wide place ≡ false) e (none-at wide places i l r)) (subst (λ (place : ℕ). idle place ≡ false) e (none-at idle places i l u)) m
-
-    -- a quantity that is a day kind, or not
-    kind : (t : Bool) → (if t then 2 else 2 ^ 40 - 1) < 2 ^ 40
-    kind true = lit< tt
-    kind false = lit< tt
+    at : (i : ℕ) → i < length places → getD places i 0 ≡ i → ceiling i < 2 ^ getD widths i 0 → getD (fieldsOf o) i 0 < 2 ^ getD widths i 0
+    at i l e c =
+        in-width (used o.form i) (least o.form i) (most o.form i) (getD widths i 0) (getD (fieldsOf o) i 0)
+        (subst (λ (place : ℕ). wide place ≡ false) e (none-at wide places i l r)) (subst (λ (place : ℕ). idle place ≡ false) e (none-at idle places i l u))
+        (fits-width i l e c o.form)
 
 write-tests : (o : Order) (area : List ℕ) → writeRefusal o area ≡ 0 → Passed (fieldsOf o)
 unfolding writeRefusal
@@ -83,25 +89,22 @@ write-read o area e =
     let l : length (recordOf o) ≡ 40 = unfold recordOf in length-bytes 40 (pack 0 widths (fieldsOf o)) in
     rw (l, fields-back o t, t .form, t .unused, t .ranges) (unfold orderOf fieldsOf in refl)
 
--- no form uses the last 48 bits
-each-at : (place : ℕ) (lists : List (List ℕ)) → Each (λ l. (place oneOf l) ≡ false) lists → (i : ℕ) → (place oneOf getD lists i []) ≡ false
-each-at place [] e i = refl
-each-at place (l ∷ rest) e zero = e .0
-each-at place (l ∷ rest) e (suc i) = each-at place rest (e .1) i
+-- no form uses the spare bits
+uses-spare : Form → Bool
+uses-spare f = some (λ rule. Field.spare is rule.place) (always ++ f.fields)
 
-last-unused : (form : ℕ) → used form 15 ≡ false
-unfolding used usedFields D C all allBut
-last-unused form =
-    each-at 15 usedFields
-    (refl and refl and refl and refl and refl and refl and refl and refl and refl and refl and refl and refl and refl and refl and refl and refl and refl and tt)
-    (form - 1)
+spare-unused : (form : ℕ) → used form Field.spare ≡ false
+unfolding uses-spare forms used
+spare-unused form = by-test (λ n f. uses-spare f) refl (λ m. refl) form
 
 -- the fields of the order of fields that were read are these
 fields-again : (octets : List ℕ) → Passed (fieldsIn octets) → fieldsOf (orderOf (fieldsIn octets)) ≡ fieldsIn octets
 unfolding unusedNotZero places fieldsOf orderOf fieldsIn widths
 fields-again octets p =
-    let f = getD (fieldsIn octets) 0 0 in
-    let z : getD (fieldsIn octets) 15 0 ≡ 0 = is-zero (used f 15) (getD (fieldsIn octets) 15 0) (none-at (λ place. not (used f place) && getD (fieldsIn octets) place 0 isNot 0) places 15 (lit< tt) (p .unused)) (last-unused f) in
+    let f = getD (fieldsIn octets) Field.form 0 in
+    let idle : ℕ → Bool = λ place. not (used f place) && getD (fieldsIn octets) place 0 isNot 0 in
+    let last = getD (fieldsIn octets) Field.spare 0 in
+    let z : last ≡ 0 = is-zero (used f Field.spare) last (none-at idle places Field.spare (lit< tt) (p .unused)) (spare-unused f) in
     rw z
 
 -- A RECORD THAT IS READ IS THE ONE THAT THE WRITER MAKES
@@ -121,3 +124,13 @@ read-writable octets o area e l =
     let t = read-tests octets o e .1 in
     let p : Passed (fieldsOf o) = subst (λ (o : Order). Passed (fieldsOf o)) (read-is octets o e) (subst Passed (sym (fields-again octets t)) t) in
     rw (le-ltb (length area) 40 l, p .form, p .unused, p .ranges)
+
+-- the first two bytes are form and minute
+pub first-bytes : (o : Order) (area : List ℕ) → writeRefusal o area ≡ 0 → take 2 (recordOf o) ≡ bytes 2 (o.form * 2 ^ 11 + o.minute)
+unfolding recordOf widths fieldsOf
+first-bytes o area e =
+    let t = write-tests o area e in
+    let fit : Fit widths (fieldsOf o) = fields-fit o (t .unused) (t .ranges) in
+    take-bytes 2 38 (pack 0 widths (fieldsOf o))
+    ∙ ap (bytes 2) (pack-high ((0 * 2 ^ 5 + o.form) * 2 ^ 11 + o.minute) (drop 2 widths) (drop 2 (fieldsOf o)) (fit .1 .1))
+    ∙ ap (λ (n : ℕ). bytes 2 (n * 2 ^ 11 + o.minute)) (omega arith)

@@ -15,7 +15,7 @@ use Rattle.rulebook.specs.Cycle.{legs, settled}
 use Rattle.rulebook.specs.Close.{leaves}
 use Rattle.rulebook.specs.Forms.{outcome, moving, silent, openDay, admit, deposit, withdraw, transfer, payIn, payOut, instruct, trade, cancel, cycle, close, forms, effect}
 use Rattle.rulebook.specs.Premise.{Sizes}
-use Rattle.rulebook.proofs.ByCall.{Form, AllForms, by-form}
+use Rattle.rulebook.proofs.ByCall.{Effect, AllForms, by-form}
 use Rattle.rulebook.proofs.Lists.{_and_, keep-length}
 use Rattle.rulebook.proofs.Rounds.{cycle-length}
 
@@ -29,14 +29,18 @@ unfolding legs
 legs-length [] = refl
 legs-length (t ∷ rest) = omega (arith, legs-length rest)
 
-abbrev Writes : ℕ → Form → Type 0
-Writes n f = (b : Ledger) (o : Order) → Sizes b → length (f b o .rows) ≤ 256
+abbrev Writes : Effect → Type 0
+Writes f = (b : Ledger) (o : Order) → Sizes b → length (f b o .rows) ≤ 256
 
 moving-rows : (ms : List Movement) → length ms ≤ 128 → (b : Ledger) → length (moving ms b .rows) ≤ 256
 unfolding moving outcome
 moving-rows ms l b = omega (arith, posting-length ms)
 
-cancel-rows : Writes 15 cancel
+silent-rows : (b : Ledger) {c : Ledger} → Sizes c → length (silent b .rows) ≤ 256
+unfolding silent outcome
+silent-rows b s = omega arith
+
+cancel-rows : Writes cancel
 unfolding cancel outcome cancelled marking
 cancel-rows b o s =
     let now = marking (senderOf o) o.reference b.waiting in
@@ -45,34 +49,27 @@ cancel-rows b o s =
     let r : length (cancel b o .rows) ≡ length (cancelled now) = length-map (cancelled now) _ in
     omega (arith, m, k, r, s.items)
 
-cycle-rows : Writes 16 cycle
+cycle-rows : Writes cycle
 unfolding cycle outcome
 cycle-rows b o s = omega (arith, posting-length (legs (settled b)), legs-length (settled b), cycle-length b, s.items)
 
-close-rows : Writes 17 close
+close-rows : Writes close
 unfolding close outcome
 close-rows b o s =
     let gone = keep (leaves b.day.number) b.waiting in
     let r : length (close b o .rows) ≡ length gone = length-map gone _ in
     omega (arith, r, keep-length (leaves b.day.number) b.waiting, s.items)
 
-forms-write : AllForms Writes 1 forms
-unfolding forms openDay admit deposit withdraw transfer payIn payOut instruct trade silent outcome
+forms-write : AllForms (λ n f. Writes f.effect) 1 forms
+unfolding forms openDay admit deposit withdraw transfer payIn payOut instruct trade
 forms-write =
-    (λ b o s. omega arith) and (λ b o s. moving-rows _ (omega arith) _) and (λ b o s. moving-rows _ (omega arith) b) and (λ b o s. moving-rows _ (omega arith) b)
-    and (λ b o s. moving-rows _ (omega arith) b) and (λ b o s. moving-rows _ (omega arith) b) and (λ b o s. moving-rows _ (omega arith) b)
-    and (λ b o s. moving-rows _ (omega arith) b) and (λ b o s. moving-rows _ (omega arith) b) and (λ b o s. moving-rows _ (omega arith) b)
-    and (λ b o s. moving-rows _ (omega arith) b) and (λ b o s. omega arith) and (λ b o s. omega arith) and (λ b o s. omega arith) and cancel-rows and cycle-rows
-    and close-rows and tt
-
-silent-writes : (m : ℕ) → 18 ≤ m → Writes m (λ b o. silent b)
-unfolding silent outcome
-silent-writes m l b o s = omega arith
-
-zero-writes : Writes 0 openDay
-unfolding openDay silent outcome
-zero-writes b o s = omega arith
+    (λ b o. silent-rows _)
+    and (λ b o s. moving-rows _ (omega arith) _) and (λ b o s. moving-rows _ (omega arith) _) and (λ b o s. moving-rows _ (omega arith) _)
+    and (λ b o s. moving-rows _ (omega arith) _) and (λ b o s. moving-rows _ (omega arith) _) and (λ b o s. moving-rows _ (omega arith) _)
+    and (λ b o s. moving-rows _ (omega arith) _) and (λ b o s. moving-rows _ (omega arith) _) and (λ b o s. moving-rows _ (omega arith) _)
+    and (λ b o s. moving-rows _ (omega arith) _)
+    and (λ b o. silent-rows _) and (λ b o. silent-rows _) and (λ b o. silent-rows _) and cancel-rows and cycle-rows and close-rows and tt
 
 pub effect-rows : (b : Ledger) (o : Order) → Sizes b → length (effect b o .rows) ≤ 256
 unfolding effect
-effect-rows b o s = by-form Writes forms-write silent-writes zero-writes o.form b o s
+effect-rows b o s = by-form (λ n f. Writes f.effect) forms-write (λ m no b o. silent-rows _) o.form b o s

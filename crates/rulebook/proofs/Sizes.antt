@@ -17,7 +17,7 @@ use Rattle.rulebook.specs.Close.{leaves}
 use Rattle.rulebook.specs.Forms.{outcome, moving, silent, openDay, withdraw, payIn, payOut, cancel, cycle, close, forms, effect}
 use Rattle.rulebook.specs.Refusals.{noSpace}
 use Rattle.rulebook.specs.Premise.{Sizes}
-use Rattle.rulebook.proofs.ByCall.{Form, AllForms, by-form}
+use Rattle.rulebook.proofs.ByCall.{Effect, AllForms, by-form}
 use Rattle.rulebook.proofs.Booking.{booked-puts}
 use Rattle.rulebook.proofs.Lists.{_and_, keep-length}
 use Rattle.rulebook.proofs.Rounds.{cycle-length}
@@ -116,7 +116,7 @@ legs-opened (t ∷ rest) = omega (arith, legs-opened rest)
 abbrev pub neverGrows : List ℕ
 neverGrows = 1 ∷ 4 ∷ 10 ∷ 11 ∷ 15 ∷ 16 ∷ 17 ∷ []
 
-abbrev Stays : ℕ → Form → Type 0
+abbrev Stays : ℕ → Effect → Type 0
 Stays n f = (n oneOf neverGrows) ≡ true → (b : Ledger) (o : Order) → Sizes b → Sizes (f b o .after)
 
 moving-stays : (ms : List Movement) → opened ms ≡ 0 → (b : Ledger) → Sizes b → Sizes (moving ms b .after)
@@ -170,7 +170,7 @@ same-stays b c e f s = record {
 grows : {A : Type 0} → false ≡ true → A
 grows e = absurd (false≢true e)
 
-forms-stay : AllForms Stays 1 forms
+forms-stay : AllForms (λ n f. Stays n f.effect) 1 forms
 unfolding forms openDay silent outcome putDay withdraw payIn payOut
 forms-stay =
     (λ _ b o s. same-stays b (openDay b o .after) refl refl s) and (λ e b o s. grows e) and (λ e b o s. grows e) and (λ _ b o s. moving-stays _ refl b s)
@@ -178,17 +178,9 @@ forms-stay =
     and (λ _ b o s. moving-stays _ refl b s) and (λ _ b o s. moving-stays _ refl b s) and (λ e b o s. grows e) and (λ e b o s. grows e) and (λ e b o s. grows e)
     and (λ _ b o s. cancel-stays b o s) and (λ _ b o s. cycle-stays b o s) and (λ _ b o s. close-stays b o s) and tt
 
-silent-stays : (m : ℕ) → 18 ≤ m → Stays m (λ b o. silent b)
-unfolding silent outcome
-silent-stays m l e b o s = s
-
-zero-stays : Stays 0 openDay
-unfolding openDay silent outcome putDay
-zero-stays e b o s = same-stays b (openDay b o .after) refl refl s
-
 pub never-grows : (b : Ledger) (o : Order) → (o.form oneOf neverGrows) ≡ true → Sizes b → noSpace b o ≡ false
 unfolding effect
-never-grows b o e s = sizes-space b o (by-form Stays forms-stay silent-stays zero-stays o.form e b o s)
+never-grows b o e s = sizes-space b o (by-form (λ n f. Stays n f.effect) forms-stay (λ m no e b o s. unfold silent outcome in s) o.form e b o s)
 
 -- A cycle never gets 18
 pub cycle-space : (b : Ledger) (o : Order) → o.form ≡ 16 → Sizes b → noSpace b o ≡ false

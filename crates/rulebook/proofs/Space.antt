@@ -16,9 +16,10 @@ use Rattle.rulebook.specs.declared.Account.{Account}
 use Rattle.rulebook.specs.Movements.{account, type91, type90, move, credit, debit, credits, debits, booked}
 use Rattle.rulebook.specs.Waiting.{itemOf}
 use Rattle.rulebook.specs.Matching.{tolerance, pairsWith, arrive}
-use Rattle.rulebook.specs.Forms.{Outcome, outcome, moving, silent, admit, deposit, transfer, instruct, trade, forms, effect}
+use Rattle.rulebook.specs.Forms.{Outcome, outcome, moving, silent, admit, deposit, transfer, instruct, trade, forms, rowOf, effect}
 use Rattle.rulebook.specs.Refusals.{noSpace, wrongPair, wrongParties}
 use Rattle.rulebook.specs.Premise.{Sizes}
+use Rattle.rulebook.proofs.ByCall.{effect-at}
 use Rattle.rulebook.proofs.Held.{put-other}
 use Rattle.rulebook.proofs.Places.{is-sym}
 use Rattle.rulebook.proofs.Types.{put-in-apart, pledge-types, release-types, block-types, unblock-types}
@@ -30,10 +31,10 @@ abbrev full : (securities items accounts : ℕ) → Bool
 full s i a = 32 below s || 64 below i || 256 below (a + i)
 
 space-is :
-    (n : ℕ) (b : Ledger) (o : Order) → o.form ≡ n → (after : Ledger) → getD forms (n - 1) (λ b o. silent b) b o .after ≡ after → (s i a : ℕ) → length after.holdings.securities ≡ s
+    (n : ℕ) (b : Ledger) (o : Order) → o.form ≡ n → (after : Ledger) → rowOf n .effect b o .after ≡ after → (s i a : ℕ) → length after.holdings.securities ≡ s
     → length after.waiting ≡ i → after.holdings.accounts ≡ a → noSpace b o ≡ full s i a
-unfolding noSpace effect
-space-is n b o e after f s i a p q r = simp e (rw f (rw (p, q, r)))
+unfolding noSpace
+space-is n b o e after f s i a p q r = rw (effect-at n b o e) (rw f (rw (p, q, r)))
 
 -- two comparisons that are the same
 below-same : (a b c d : ℕ) → (a < b → c < d) → (c < d → a < b) → (a below b) ≡ (c below d)
@@ -67,7 +68,7 @@ module _ (b : Ledger) (o : Order) (z : Sizes b) where
 
   -- 2. a security more
   pub admit-space : o.form ≡ 2 → noSpace b o ≡ (31 below securities)
-  unfolding forms admit moving outcome putHoldings
+  unfolding forms rowOf admit moving outcome putHoldings
   admit-space e =
       let new : Security = record { code = o.security; issued = o.quantity; outside = record { 0 = 0 } } in
       let h = putSecurities (b.holdings.securities ++ (new ∷ [])) b.holdings in
@@ -83,7 +84,7 @@ module _ (b : Ledger) (o : Order) (z : Sizes b) where
 
   -- 14. an item more
   pub trade-space : o.form ≡ 14 → noSpace b o ≡ (63 below items || 255 below (accounts + items))
-  unfolding forms trade silent outcome putWaiting
+  unfolding forms rowOf trade silent outcome putWaiting
   trade-space e =
       let new = itemOf (Trade o.reference) o in
       let l : length (b.waiting ++ (new ∷ [])) ≡ items + 1 = length-append b.waiting (new ∷ []) in
@@ -109,7 +110,7 @@ module _ (b : Ledger) (o : Order) (z : Sizes b) where
   pub instruct-space :
       (o.form oneOf (12 ∷ 13 ∷ [])) ≡ true
       → noSpace b o ≡ (not (some (pairsWith (tolerance o.currency) arriving) b.waiting) && (63 below items || 255 below (accounts + items)))
-  unfolding forms instruct silent outcome putWaiting
+  unfolding forms rowOf instruct silent outcome putWaiting
   instruct-space t = go (o.form is 12) refl t
     where
       limit : ℕ
@@ -125,7 +126,7 @@ module _ (b : Ledger) (o : Order) (z : Sizes b) where
       by false =
           simp (le-ltb 32 securities z.securities, below-same 64 (items + 1) 63 items (λ l. omega arith) (λ l. omega arith), below-same 256 (accounts + (items + 1)) 255 (accounts + items) (λ l. omega arith) (λ l. omega arith))
 
-      at : (n : ℕ) → o.form ≡ n → getD forms (n - 1) (λ b o. silent b) b o .after ≡ putWaiting (arrive limit arriving b.waiting) b
+      at : (n : ℕ) → o.form ≡ n → rowOf n .effect b o .after ≡ putWaiting (arrive limit arriving b.waiting) b
           → noSpace b o ≡ (not matched && (63 below items || 255 below (accounts + items)))
       at n e f =
           space-is n b o e (putWaiting (arrive limit arriving b.waiting) b) f securities (items + (if matched then 0 else 1)) accounts refl (arrive-length limit arriving b.waiting) refl
@@ -162,7 +163,7 @@ module _ (b : Ledger) (o : Order) (z : Sizes b) where
       rw q (simp (le-ltb 32 securities z.securities, le-ltb 64 items z.items, le-ltb 256 (accounts + items) z.accounts))
 
   pub deposit-space : o.form ≡ 3 → 1 ≤ o.quantity.0 → noSpace b o ≡ (has to is 0 && 255 below (accounts + items))
-  unfolding forms deposit moving outcome putHoldings
+  unfolding forms rowOf deposit moving outcome putHoldings
   deposit-space e l =
       let ms = move (type91 o.security) (account to) o.quantity.0 ∷ [] in
       let a : booked ms b.holdings .accounts ≡ accounts + counted (has to + o.quantity.0) - counted (has to) =
@@ -189,8 +190,8 @@ module _ (b : Ledger) (o : Order) (z : Sizes b) where
       let k : accounts + 1 - counted (has to) + counted (has from - o.quantity.0) - 1 ≡ accounts + 1 - counted (has to) = omega (arith, c) in
       rw k (simp and-true (opens-by (has to is 0) refl))
 
-  shift-form : (k : ℕ) → k ≤ 4 → getD forms (5 + k - 1) (λ b o. silent b) b o ≡ transfer b o
-  unfolding forms
+  shift-form : (k : ℕ) → k ≤ 4 → rowOf (5 + k) .effect b o ≡ transfer b o
+  unfolding forms rowOf
   shift-form zero l = refl
   shift-form (suc zero) l = refl
   shift-form (suc (suc zero)) l = refl

@@ -14,14 +14,13 @@ use Rattle.rulebook.specs.declared.Read.{Read}
 use Rattle.rulebook.specs.Lists.{_is_, _oneOf_, first}
 use Rattle.rulebook.specs.Record.{readOf}
 use Rattle.rulebook.specs.Ledger.{Ledger, Holdings, putDay, putWaiting, putSecurities}
-use Rattle.rulebook.specs.Movements.{booked, credits, debits}
+use Rattle.rulebook.specs.Movements.{booked, credits, debits, bookHas}
 use Rattle.rulebook.specs.Rows.{postingRows}
-use Rattle.rulebook.specs.Forms.{Outcome, outcome, counts, silent, openDay, instruct, trade, cancel, close, forms, effect}
+use Rattle.rulebook.specs.Forms.{Outcome, outcome, counts, silent, openDay, instruct, trade, cancel, close, forms, rowOf, effect}
 use Rattle.rulebook.specs.Refusals.{refusals}
-use Rattle.rulebook.specs.Calls.{kept}
 use Rattle.rulebook.specs.Premise.{Each, Premise}
 use Rattle.rulebook.proofs.Lists.{_and_}
-use Rattle.rulebook.proofs.ByCall.{AllForms, by-form}
+use Rattle.rulebook.proofs.ByCall.{AllForms, not-read, by-form}
 use Rattle.rulebook.proofs.Orders.{accepted}
 use Rattle.rulebook.proofs.Steps.OneCall.{writesAt, Figures, admits-none, Step, Steps}
 use Rattle.rulebook.proofs.Steps.Moving.{admit-steps, deposit-steps, withdraw-steps, transfer-steps, pledge-steps, release-steps, block-steps, unblock-steps, payIn-steps, payOut-steps}
@@ -60,7 +59,7 @@ still n b o x p t e r l = record {
   admits = unfold putSecurities in admits-none n o b.holdings (each-off n movers t .0) p.codes;
   moves = [];
   holds = e;
-  changes = λ p. ap (λ (h : Holdings). kept p h + 0) e;
+  changes = λ p. ap (λ (h : Holdings). bookHas p h + 0) e;
   proper = tt;
   rows = r;
   notices = λ _. refl;
@@ -70,8 +69,8 @@ still n b o x p t e r l = record {
 
 -- ---- all seventeen
 
-all-steps : AllForms Steps 1 forms
-unfolding forms openDay instruct trade cancel close silent outcome counts putDay putWaiting
+all-steps : AllForms (λ n f. Steps n f.effect) 1 forms
+unfolding forms rowOf openDay instruct trade cancel close silent outcome counts putDay putWaiting
 all-steps =
     (λ b o e p a. still 1 b o (openDay b o) p refl refl (λ _. refl) refl)
     and admit-steps and deposit-steps and withdraw-steps and transfer-steps and pledge-steps and release-steps and block-steps and unblock-steps
@@ -90,4 +89,4 @@ pub order-step : (b : Ledger) (o : Order) (bytes : List ℕ) → Premise b → r
 unfolding effect
 order-step b o bytes p e z =
     let a = accepted b o bytes e z in
-    by-form Steps all-steps (λ m l b o e p a. absurd (omega (arith, a.ranges.form .1))) (λ b o e p a. absurd (omega (arith, a.ranges.form .0))) o.form b o refl p a
+    by-form (λ n f. Steps n f.effect) all-steps (λ m none b o e p a. absurd (not-read none e a.ranges.form)) o.form b o refl p a

@@ -9,8 +9,7 @@ use borrow.Author.Tests.{eqb-true, eqb-false, eq-eqb, ne-eqb}
 use Rattle.rulebook.specs.Lists.{if_then_else_, _is_, total}
 use Rattle.rulebook.specs.Ledger.{Holdings, fresh, sumBelow, sameAccount, putBalance, cashTotal, held}
 use Rattle.rulebook.specs.declared.Account.{Account}
-use Rattle.rulebook.specs.Movements.{Place, account, type91, type90, cashOf, member0, Movement}
-use Rattle.rulebook.specs.Calls.{kept}
+use Rattle.rulebook.specs.Movements.{Place, account, type91, type90, cashOf, member0, Movement, bookHas}
 use Rattle.rulebook.proofs.Held.{sum-same, sum-zero, sum-add, sum-change, held-put, held-put-other}
 use Rattle.rulebook.proofs.Places.{isAt, brought, taken}
 use Rattle.rulebook.proofs.Reading.{Proper, AllProper}
@@ -94,9 +93,9 @@ module _ (s : ℕ) where
 
   -- what is held changes by what the movements bring and take
   pub held-exact :
-      (ms : List Movement) (h k : Holdings) → AllProper ms → ((p : Place) → kept p k + taken p ms ≡ kept p h + brought p ms)
+      (ms : List Movement) (h k : Holdings) → AllProper ms → ((p : Place) → bookHas p k + taken p ms ≡ bookHas p h + brought p ms)
       → held s k + heldOut s ms ≡ held s h + heldInto s ms
-  unfolding held kept
+  unfolding held
   held-exact ms h k f e =
       let l = over-add k.balance (λ a. taken (account a) ms) in
       let r = over-add h.balance (λ a. brought (account a) ms) in
@@ -154,9 +153,9 @@ taken-cash c (m ∷ rest) f =
 
 -- the totals change by what the movements bring and take
 pub cash-exact :
-    (ms : List Movement) (h k : Holdings) → AllProper ms → ((p : Place) → kept p k + taken p ms ≡ kept p h + brought p ms) → (c : ℕ)
+    (ms : List Movement) (h k : Holdings) → AllProper ms → ((p : Place) → bookHas p k + taken p ms ≡ bookHas p h + brought p ms) → (c : ℕ)
     → cashTotal c k + cashOut c ms ≡ cashTotal c h + cashInto c ms
-unfolding cashTotal kept
+unfolding cashTotal
 cash-exact ms h k f e c =
     let l = sum-add 64 (λ n. k.cash (n + 1) c) (λ n. taken (cashOf (n + 1) c) ms) in
     let r = sum-add 64 (λ n. h.cash (n + 1) c) (λ n. brought (cashOf (n + 1) c) ms) in

@@ -4,8 +4,7 @@ use mathlib.Core.Bool.{Bool, true, false}
 use mathlib.Core.List.{List, [], _∷_, _++_}
 use lib.ListN.{length, drop}
 use Rattle.rulebook.specs.Lists.{if_then_else_, _is_, _below_, first}
-use Rattle.rulebook.specs.Ledger.{Ledger, putDay}
-use Rattle.rulebook.specs.declared.Day.{Day}
+use Rattle.rulebook.specs.Ledger.{Ledger, putDay, withMinute}
 use Rattle.rulebook.specs.Record.{readOf}
 use Rattle.rulebook.specs.Rows.{rowsBytes}
 use Rattle.rulebook.specs.Forms.{Outcome, effect}
@@ -25,14 +24,18 @@ unfoldable pub answerNumber : Answer → ℕ
 answerNumber (Answer.Accepted counts) = 0
 answerNumber (Answer.Refused number) = number
 
+-- the rows that an answer counts: none where the call was refused
+unfoldable pub answerRows : Answer → ℕ
+answerRows (Answer.Accepted counts) = counts.rows
+answerRows (Answer.Refused number) = 0
+
 -- a refused one with its number, with the book and the area unchanged
 unfoldable pub refused : ℕ → Ledger → List ℕ → Result
 refused number book area = record { answer = Answer.Refused number; book = book; area = area }
 
 -- Every accepted call sets the last minute.
 unfoldable pub putMinute : ℕ → Ledger → Ledger
-putMinute minute book =
-    putDay (record { opened = book.day.opened; number = book.day.number; kind = book.day.kind; cycles = book.day.cycles; minute = minute }) book
+putMinute minute book = putDay (withMinute minute book.day) book
 
 -- An accepted call answers with its counts; bytes after the last row keep their contents.
 unfoldable pub accepted : Outcome → ℕ → List ℕ → Result

@@ -1,7 +1,7 @@
--- Lists of calls, and what holds of every such list (demand 3).
+-- Lists of calls, and what holds after every such list (RULES 12).
 use Prim.Native.Nat.{ℕ, zero, suc, _+_}
 use mathlib.Core.Bool.{Bool, true, false, not, _||_, _&&_}
-use mathlib.Core.List.{List, [], _∷_}
+use mathlib.Core.List.{List, [], _∷_, _++_}
 use mathlib.Core.Path.{_≡_}
 use lib.ListN.{take, drop}
 use lib.Dec.{T}
@@ -10,10 +10,11 @@ use Rattle.rulebook.specs.AccountTypes.{pledgedOrBlocked}
 use Rattle.rulebook.specs.Record.{readOf}
 use Rattle.rulebook.specs.Ledger.{Holdings, Ledger, fresh, accountOf, sameAccount, issuedOf, outsideOf, cashTotal, held}
 use Rattle.rulebook.specs.declared.Account.{Account}
-use Rattle.rulebook.specs.Movements.{Place, account, type91, type90, cashOf, member0}
+use Rattle.rulebook.specs.Movements.{Place, account, type91, type90, cashOf, member0, bookHas}
 use Rattle.rulebook.specs.Rows.{postingIn}
 use Rattle.rulebook.specs.declared.Posting.{Posting}
 use Rattle.rulebook.specs.Waiting.{sides}
+use Rattle.rulebook.specs.Forms.{writes, takesIn}
 use Rattle.rulebook.specs.Call.{Result, callOf}
 use Rattle.rulebook.specs.declared.Order.{Order}
 use Rattle.rulebook.specs.declared.Read.{Read}
@@ -21,7 +22,7 @@ use Rattle.rulebook.specs.declared.Counts.{Counts}
 use Rattle.rulebook.specs.declared.Answer.{Answer}
 
 pub data Call : Type 0 where
-  -- with a record of any bytes and length and an area of any length and contents
+  -- RULES 1.3: a record and an area, of any bytes and length
   call : (bytes area : List ℕ) → Call
 
 unfoldable pub resultOf : Ledger → Call → Result
@@ -37,7 +38,7 @@ pub record Made : Type 0 where
   pub answer : Answer
   pub area : List ℕ
 
--- Each call gets the book that the one before it returned, accepted or refused
+-- RULES 12.1: each call gets the book that the one before it left, accepted or refused
 unfoldable pub callsOn : Ledger → List Call → List Made
 callsOn book [] = []
 callsOn book (c ∷ rest) =
@@ -48,59 +49,67 @@ unfoldable pub bookAfter : Ledger → List Call → Ledger
 bookAfter book [] = book
 bookAfter book (c ∷ rest) = bookAfter (resultOf book c .book) rest
 
--- Totals are taken over the accepted calls, from their records, answers and rows.
+-- RULES 12.3. An accepted call: its order, its counts, and its area when it returned. All totals are sums over these.
+pub record Accepted : Type 0 where
+  pub order : Order
+  pub counts : Counts
+  pub area : List ℕ
 
--- a figure of an accepted call's record
-unfoldable pub ofRecord : (Order → ℕ) → Answer → Read → ℕ
-ofRecord figure (Answer.Accepted counts) (Read.Order order) = figure order
-ofRecord figure (Answer.Accepted counts) (Read.Refused number) = 0
-ofRecord figure (Answer.Refused refusal) read = 0
+-- a call in the list of the accepted ones: not there where it was refused
+unfoldable pub acceptedOf : Answer → Read → (area : List ℕ) → List Accepted
+acceptedOf (Answer.Accepted counts) (Read.Order order) area = record { order = order; counts = counts; area = area } ∷ []
+acceptedOf (Answer.Accepted counts) (Read.Refused number) area = []
+acceptedOf (Answer.Refused refusal) read area = []
 
-unfoldable pub records : (Order → ℕ) → List Made → ℕ
-records figure history = total (λ m. ofRecord figure m.answer (recordIn m.made)) history
+unfoldable pub acceptedCalls : List Made → List Accepted
+acceptedCalls [] = []
+acceptedCalls (m ∷ rest) = acceptedOf m.answer (recordIn m.made) m.area ++ acceptedCalls rest
 
--- a figure of an accepted call's answer
-unfoldable pub ofAnswer : (Counts → ℕ) → Answer → ℕ
-ofAnswer figure (Answer.Accepted counts) = figure counts
-ofAnswer figure (Answer.Refused refusal) = 0
+unfoldable pub sum : (Accepted → ℕ) → List Made → ℕ
+sum figure history = total figure (acceptedCalls history)
 
-unfoldable pub answers : (Counts → ℕ) → List Made → ℕ
-answers figure history = total (λ m. ofAnswer figure m.answer) history
+-- the shares of an accepted call of a form in a security, and the cash of one in a currency
+unfoldable pub sharesOf : (form security : ℕ) → Accepted → ℕ
+sharesOf form security c = if c.order.form is form && c.order.security is security then c.order.quantity.0 else 0
 
--- Rows written are the first in a call's area when it returns, as many as its answer says
+unfoldable pub cashOfForm : (form currency : ℕ) → Accepted → ℕ
+cashOfForm form currency c = if c.order.form is form && c.order.currency is currency then c.order.amount.0 else 0
+
+-- RULES 12.6, 12.8, 12.9: what was admitted, deposited and withdrawn of a security; what was paid in and paid out in a currency
+unfoldable pub issues : (security : ℕ) → List Made → ℕ
+issues security = sum (sharesOf 2 security)
+
+unfoldable pub deposits : (security : ℕ) → List Made → ℕ
+deposits security = sum (sharesOf 3 security)
+
+unfoldable pub withdrawals : (security : ℕ) → List Made → ℕ
+withdrawals security = sum (sharesOf 4 security)
+
+unfoldable pub payIns : (currency : ℕ) → List Made → ℕ
+payIns currency = sum (cashOfForm 10 currency)
+
+unfoldable pub payOuts : (currency : ℕ) → List Made → ℕ
+payOuts currency = sum (cashOfForm 11 currency)
+
+-- RULES 12.10: what pledges and blocks put into an account, and what releases and unblocks took out of it
+unfoldable pub putIn : Account → List Made → ℕ
+putIn a =
+    sum λ c. if c.order.form oneOf (6 ∷ 8 ∷ []) && sameAccount (accountOf c.order.security c.order.credited) a then c.order.quantity.0 else 0
+
+unfoldable pub released : Account → List Made → ℕ
+released a =
+    sum λ c. if c.order.form oneOf (7 ∷ 9 ∷ []) && sameAccount (accountOf c.order.security c.order.debited) a then c.order.quantity.0 else 0
+
+-- the first rows in an area
 unfoldable pub firstRows : ℕ → List ℕ → List Posting
 firstRows zero area = []
 firstRows (suc n) area = postingIn (take 16 area) ∷ firstRows n (drop 16 area)
 
--- those of cancel and close are notices, the others posting rows.
-unfoldable pub writes : Order → ℕ
-writes order = if order.form oneOf (15 ∷ 17 ∷ []) then 0 else 1
+-- RULES 12.3: the posting rows of an accepted call, as many as its answer counts; some forms write notices instead
+unfoldable pub postingsOf : Accepted → List Posting
+postingsOf c = if writes c.order is 1 then firstRows c.counts.rows c.area else []
 
-unfoldable pub postingsOf : Made → List Posting
-postingsOf m =
-    if ofRecord writes m.answer (recordIn m.made) is 1 then firstRows (ofAnswer (λ counts. counts.rows) m.answer) m.area else []
-
--- a figure of the posting rows
-unfoldable pub postings : (Posting → ℕ) → List Made → ℕ
-postings figure history = total (λ m. total figure (postingsOf m)) history
-
--- Deposits, withdrawals, pay-ins and pay-outs are the quantities or amounts of forms 3, 4, 10, 11.
-unfoldable pub sharesIn : (form security : ℕ) → List Made → ℕ
-sharesIn form security = records (λ o. if o.form is form && o.security is security then o.quantity.0 else 0)
-
-unfoldable pub cashIn : (form currency : ℕ) → List Made → ℕ
-cashIn form currency = records (λ o. if o.form is form && o.currency is currency then o.amount.0 else 0)
-
--- put in is the quantity of each form 6 or 8 that credits the account
-unfoldable pub putIn : Account → List Made → ℕ
-putIn a = records (λ o. if o.form oneOf (6 ∷ 8 ∷ []) && sameAccount (accountOf o.security o.credited) a then o.quantity.0 else 0)
-
--- released that of each 7 or 9 that debits it.
-unfoldable pub released : Account → List Made → ℕ
-released a = records (λ o. if o.form oneOf (7 ∷ 9 ∷ []) && sameAccount (accountOf o.security o.debited) a then o.quantity.0 else 0)
-
--- A posting row counts for the account, outside count (type 91) or member's cash that it names; rows of type 90 and cash rows of member 0 count for
--- none.
+-- RULES 12.4: the place that a posting row names
 unfoldable pub names : Posting → Place → Bool
 names p (account a) =
     p.cash is 0 && not (p.typ oneOf (90 ∷ 91 ∷ []))
@@ -110,43 +119,51 @@ names p (type90 security) = false
 names p (cashOf member currency) = p.cash is 1 && p.member isNot 0 && p.member is member && p.what is currency
 names p (member0 currency) = false
 
+-- RULES 12.11: the numbers of the credit rows, and of the debit rows, that name a place
 unfoldable pub written : (credit : ℕ) → Place → List Made → ℕ
-written credit place = postings (λ p. if p.credit is credit && names p place then p.number else 0)
+written credit place = sum λ c. total (λ p. if p.credit is credit && names p place then p.number else 0) (postingsOf c)
 
--- What the book does not keep is 0.
-unfoldable pub kept : Place → Holdings → ℕ
-kept (account a) h = h.balance a
-kept (type91 security) h = outsideOf security h
-kept (type90 security) h = 0
-kept (cashOf member currency) h = h.cash member currency
-kept (member0 currency) h = 0
+unfoldable pub debitsWritten : Place → List Made → ℕ
+debitsWritten = written 0
 
--- An accepted 12 or 13 takes in one, a 14 two
-unfoldable pub takesIn : Order → ℕ
-takesIn order = if order.form oneOf (12 ∷ 13 ∷ []) then 1 else if order.form is 14 then 2 else 0
+unfoldable pub creditsWritten : Place → List Made → ℕ
+creditsWritten = written 1
 
+-- RULES 12.12: the sides that were taken in, and those that are gone in each of the four ways
 unfoldable pub sidesTaken : List Made → ℕ
-sidesTaken = records takesIn
+sidesTaken = sum λ c. takesIn c.order
 
--- Demand 3 is a single claim about the whole list. Each difference is stated as a sum, so that nothing is cut off at 0.
+unfoldable pub sidesSettled : List Made → ℕ
+sidesSettled = sum λ c. c.counts.settled
+
+unfoldable pub sidesCancelled : List Made → ℕ
+sidesCancelled = sum λ c. c.counts.cancelled
+
+unfoldable pub sidesDeleted : List Made → ℕ
+sidesDeleted = sum λ c. c.counts.deleted
+
+unfoldable pub sidesSuspended : List Made → ℕ
+sidesSuspended = sum λ c. c.counts.suspended
+
+-- RULES 12.1: one claim about the whole list. Each difference is stated as a sum, so that nothing is cut off at 0.
 pub record Balanced (history : List Made) (last : Ledger) : Type 0 where
-  -- held = deposits − withdrawals
-  pub custody : (security : ℕ) → held security last.holdings + sharesIn 4 security history ≡ sharesIn 3 security history
-  -- held + outside = issued
+  -- held is deposits less withdrawals
+  pub custody : (security : ℕ) → held security last.holdings + withdrawals security history ≡ deposits security history
+  -- held and outside make up the issue
   pub issue : (security : ℕ) → held security last.holdings + outsideOf security last.holdings ≡ issuedOf security last.holdings
-  -- Issued, the book's count, is the quantity of the security's form 2.
-  pub issued : (security : ℕ) → issuedOf security last.holdings ≡ sharesIn 2 security history
-  -- cash = pay-ins − pay-outs
-  pub cash : (currency : ℕ) → cashTotal currency last.holdings + cashIn 11 currency history ≡ cashIn 10 currency history
-  -- pledged or blocked = put in − released
+  -- the issued count is what was admitted
+  pub issued : (security : ℕ) → issuedOf security last.holdings ≡ issues security history
+  -- cash is pay-ins less pay-outs
+  pub cash : (currency : ℕ) → cashTotal currency last.holdings + payOuts currency history ≡ payIns currency history
+  -- a pledged or blocked account holds what was put in less what was released
   pub pledged : (a : Account) → T (pledgedOrBlocked a.typ) → last.holdings.balance a + released a history ≡ putIn a history
-  -- every account, outside count and cash = credits − debits written
-  pub posted : (place : Place) → kept place last.holdings + written 0 place history ≡ written 1 place history
-  -- sides taken in = settled + cancelled + deleted + suspended + waiting
+  -- every account, outside count and member's cash is credits less debits written
+  pub posted : (place : Place) → bookHas place last.holdings + debitsWritten place history ≡ creditsWritten place history
+  -- each side taken in is settled, cancelled, deleted or suspended, or still waits
   pub sided :
       sidesTaken history
-      ≡ answers (λ c. c.settled) history + answers (λ c. c.cancelled) history + answers (λ c. c.deleted) history + answers (λ c. c.suspended) history + sides last.waiting
+      ≡ sidesSettled history + sidesCancelled history + sidesDeleted history + sidesSuspended history + sides last.waiting
 
--- The list starts from the fresh book.
+-- after every list of calls from the fresh book
 unfoldable pub Demand3 : Type 0
 Demand3 = (calls : List Call) → Balanced (callsOn fresh calls) (bookAfter fresh calls)

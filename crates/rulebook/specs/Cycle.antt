@@ -2,6 +2,7 @@
 use Prim.Native.Nat.{ℕ, zero, suc, _+_, _-_}
 use mathlib.Core.Bool.{Bool, false, not, _||_, _&&_}
 use mathlib.Core.List.{List, [], _∷_, map}
+use mathlib.Core.Path.{_≡_}
 use lib.ListN.{length}
 use Rattle.rulebook.specs.declared.Account.{Account}
 use Rattle.rulebook.specs.Lists.{if_then_else_, _is_, _isNot_, _atMost_, some, total, keep}
@@ -66,6 +67,11 @@ sharesMissing h marked a = sharesTaken a marked - (h.balance a + sharesBrought a
 
 unfoldable pub cashMissing : Holdings → List Marked → (member currency : ℕ) → ℕ
 cashMissing h marked member currency = cashTaken member currency marked - (h.cash member currency + cashBrought member currency marked)
+
+-- nothing is short: no account and no member's cash, whatever they are, misses anything
+pub record NothingShort (h : Holdings) (marked : List Marked) : Type 0 where
+  pub shares : (a : Account) → sharesMissing h marked a ≡ 0
+  pub cash : (member currency : ℕ) → cashMissing h marked member currency ≡ 0
 
 -- the trade debits a short one: its seller's account or its buyer's cash
 unfoldable pub debitsShort : Holdings → List Marked → Item → Bool

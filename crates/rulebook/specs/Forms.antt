@@ -1,11 +1,14 @@
--- What each form does: the book after it, its rows and its counts.
-use Prim.Native.Nat.{ℕ, _+_, _-_, _*_}
+-- The forms: what each does to the book, with its rows and its counts, and the table that says everything of a form.
+use Prim.Native.Nat.{ℕ, zero, suc, _+_}
+use Prim.Native.String.{String}
 use mathlib.Core.Bool.{Bool, true, false, not, _||_, _&&_}
 use mathlib.Core.List.{List, [], _∷_, _++_, map}
 use lib.ListN.{length, getD}
-use Rattle.rulebook.specs.Lists.{if_then_else_, _is_, keep}
-use Rattle.rulebook.specs.Ledger.{Ledger, accountOf, putDay, putHoldings, putWaiting, putSecurities}
+use Rattle.rulebook.specs.Lists.{if_then_else_, _is_, keep, some}
+use Rattle.rulebook.specs.Field.{Rule, from1, from1To, always, ruleIn, D, C, all, allBut, security, currency, debited-member, debited-type, credited-member, credited-type, quantity, amount, settlement-day, reference}
+use Rattle.rulebook.specs.Ledger.{Ledger, accountOf, putDay, putHoldings, putWaiting, putSecurities, oneMoreCycle, opening, closing}
 use Rattle.rulebook.specs.declared.Day.{Day}
+use Rattle.rulebook.specs.Windows.{Window, openingHours, counterHours, officeHours, paymentHours, cycleHours, closingHours}
 use Rattle.rulebook.specs.Movements.{account, type90, type91, cashOf, member0, Movement, move, booked}
 use Rattle.rulebook.specs.Rows.{Row, notice, noticeOf, postingRows}
 use Rattle.rulebook.specs.Waiting.{itemOf, sides, senderOf, marking, cancelled, staying, unmarked}
@@ -32,20 +35,32 @@ unfoldable pub outcome : Ledger → List Row → (settled cancelled deleted susp
 outcome after rows settled cancelled deleted suspended left =
     record { after = after; rows = rows; counts = counts (length rows) settled cancelled deleted suspended left }
 
+-- no sides gone; sides settled, and trades left; sides cancelled; sides deleted, and suspended
+abbrev pub plain : Ledger → List Row → Outcome
+plain after rows = outcome after rows 0 0 0 0 0
+
+abbrev pub settling : (settled left : ℕ) → Ledger → List Row → Outcome
+settling settled left after rows = outcome after rows settled 0 0 0 left
+
+abbrev pub cancelling : (cancelled : ℕ) → Ledger → List Row → Outcome
+cancelling cancelled after rows = outcome after rows 0 cancelled 0 0 0
+
+abbrev pub removing : (deleted suspended : ℕ) → Ledger → List Row → Outcome
+removing deleted suspended after rows = outcome after rows 0 0 deleted suspended 0
+
 -- a form that only moves shares or cash
 unfoldable pub moving : List Movement → Ledger → Outcome
-moving movements book = outcome (putHoldings (booked movements book.holdings) book) (postingRows movements) 0 0 0 0 0
+moving movements book = plain (putHoldings (booked movements book.holdings) book) (postingRows movements)
 
 -- a form that writes no rows
 unfoldable pub silent : Ledger → Outcome
-silent after = outcome after [] 0 0 0 0 0
+silent after = plain after []
 
--- 1. Open day adds 1 to the day, sets the day kind and sets cycles run to 0
+-- RULES 6.1: the next day opens, of the kind that the quantity says, with no cycle run
 unfoldable pub openDay : Ledger → Order → Outcome
-openDay book order =
-    silent (putDay (record { opened = true; number = book.day.number + 1; kind = order.quantity.0; cycles = 0; minute = book.day.minute }) book)
+openDay book order = silent (putDay (opening order.quantity.0 book.day) book)
 
--- 2. Admit: 90 to 91; issued and outside both become the quantity.
+-- RULES 6.2: the issue moves from 90 to 91, so that issued and outside both become the quantity; the movement brings the outside count
 unfoldable pub admit : Ledger → Order → Outcome
 admit book order =
     moving (move (type90 order.security) (type91 order.security) order.quantity.0 ∷ [])
@@ -54,85 +69,163 @@ admit book order =
     new : Security
     new = record { code = order.security; issued = order.quantity; outside = record { 0 = 0 } }
 
--- 3. Deposit: 91 to the account
+-- RULES 6.3: from 91 to the credited account
 unfoldable pub deposit : Ledger → Order → Outcome
 deposit book order = moving (move (type91 order.security) (account (accountOf order.security order.credited)) order.quantity.0 ∷ []) book
 
--- 4. withdrawal the reverse.
+-- RULES 6.4: from the debited account to 91
 unfoldable pub withdraw : Ledger → Order → Outcome
 withdraw book order = moving (move (account (accountOf order.security order.debited)) (type91 order.security) order.quantity.0 ∷ []) book
 
--- 5 to 9. transfer, pledge, release, block, unblock: the debited account to the credited one
+-- RULES 6.5 to 6.9: from the debited account to the credited one
 unfoldable pub transfer : Ledger → Order → Outcome
 transfer book order =
     moving
     (move (account (accountOf order.security order.debited)) (account (accountOf order.security order.credited)) order.quantity.0 ∷ [])
     book
 
--- 10. Pay-in: member 0 to the member
+-- RULES 6.10: from member 0 to the credited member
 unfoldable pub payIn : Ledger → Order → Outcome
 payIn book order = moving (move (member0 order.currency) (cashOf order.credited.member order.currency) order.amount.0 ∷ []) book
 
--- 11. pay-out the reverse.
+-- RULES 6.11: from the debited member to member 0
 unfoldable pub payOut : Ledger → Order → Outcome
 payOut book order = moving (move (cashOf order.debited.member order.currency) (member0 order.currency) order.amount.0 ∷ []) book
 
--- 12 and 13. an arriving 12 or 13 pairs with the first waiting single of the other form, or goes last
+-- RULES 6.12 and 6.13: pairs with the first waiting single of the other form, or goes last
 unfoldable pub instruct : Ledger → Order → Outcome
 instruct book order = silent (putWaiting (arrive (tolerance order.currency) single book.waiting) book)
   where
     single : Item
     single = itemOf (Single (order.form is 12) order.reference) order
 
--- 14. an exchange trade goes last
+-- RULES 6.14: goes last
 unfoldable pub trade : Ledger → Order → Outcome
 trade book order = silent (putWaiting (book.waiting ++ (itemOf (Trade order.reference) order ∷ [])) book)
 
--- 15. Cancel marks the sender's half; the second half removes the pair and writes its notice.
+-- RULES 6.15: the sender's half is marked; with the second half the pair leaves, with a notice
 unfoldable pub cancel : Ledger → Order → Outcome
-cancel book order = outcome (putWaiting (staying now) book) (map (λ item. notice (noticeOf 4 item)) (cancelled now)) 0 (sides (cancelled now)) 0 0 0
+cancel book order =
+    cancelling (sides (cancelled now)) (putWaiting (staying now) book) (map (λ item. notice (noticeOf 4 item)) (cancelled now))
   where
     now : List Item
     now = marking (senderOf order) order.reference book.waiting
 
--- 16. Settle the rest; each settled trade's four rows: shares, then cash. Dropped trades are left waiting. a cycle adds 1 to cycles run.
+-- RULES 6.16: the trades that nothing lacks are booked, with four rows each; those dropped are left waiting; one more cycle has run
 unfoldable pub cycle : Ledger → Order → Outcome
 cycle book order =
-    outcome
-    (record { day = oneMore; holdings = booked (legs (settled book)) book.holdings; waiting = notSettled book })
+    settling (sides (settled book)) (dropped book)
+    (record { day = oneMoreCycle book.day; holdings = booked (legs (settled book)) book.holdings; waiting = notSettled book })
     (postingRows (legs (settled book)))
-    (sides (settled book))
-    0
-    0
-    0
-    (dropped book)
-  where
-    oneMore : Day
-    oneMore = record { opened = book.day.opened; number = book.day.number; kind = book.day.kind; cycles = book.day.cycles + 1; minute = book.day.minute }
 
--- 17. Close, in list order: .. deleted, .. suspended, with a notice each, all removed; marks are dropped; the day is closed.
+-- RULES 6.17: what leaves today is deleted or suspended, in list order, with a notice each; marks are dropped; the day is closed
 unfoldable pub close : Ledger → Order → Outcome
 close book order =
-    outcome
-    (record { day = closed; holdings = book.holdings; waiting = map unmarked (keep (λ item. not (leaves book.day.number item)) book.waiting) })
+    removing (sides (keep (deletedAtClose book.day.number) gone)) (sides (keep (suspendedAtClose book.day.number) gone))
+    (record { day = closing book.day; holdings = book.holdings; waiting = map unmarked (keep (λ item. not (leaves book.day.number item)) book.waiting) })
     (map (closeNotice book.day.number) gone)
-    0
-    0
-    (sides (keep (deletedAtClose book.day.number) gone))
-    (sides (keep (suspendedAtClose book.day.number) gone))
-    0
   where
     gone : List Item
     gone = keep (leaves book.day.number) book.waiting
 
-    closed : Day
-    closed = record { opened = false; number = book.day.number; kind = book.day.kind; cycles = book.day.cycles; minute = book.day.minute }
+-- Everything that the rules say of a form.
+pub record Form : Type 0 where
+  pub name : String
+  -- the fields that it uses, besides form and minute, each with its rule
+  pub fields : List Rule
+  -- the first and the last minute at which it may come
+  pub window : Window
+  pub effect : Ledger → Order → Outcome
+  -- whether its rows are posting rows, or else notices
+  pub posts : Bool
+  -- the sides that it takes in
+  pub takes : ℕ
 
--- the forms, from 1
-unfoldable pub forms : List (Ledger → Order → Outcome)
+abbrev row : String → List Rule → Window → (Ledger → Order → Outcome) → Bool → ℕ → Form
+row name fields window effect posts takes = record { name = name; fields = fields; window = window; effect = effect; posts = posts; takes = takes }
+
+abbrev postings : Bool
+postings = true
+
+abbrev notices : Bool
+notices = false
+
+abbrev needs : List ℕ → List Rule
+needs = map from1
+
+-- The forms, from 1: name, fields, window, effect, rows, sides taken in.
+unfoldable pub forms : List Form
 forms =
-    openDay ∷ admit ∷ deposit ∷ withdraw ∷ transfer ∷ transfer ∷ transfer ∷ transfer ∷ transfer ∷ payIn ∷ payOut ∷ instruct ∷ instruct ∷ trade
-    ∷ cancel ∷ cycle ∷ close ∷ []
+    -- 1, RULES 6.1; the quantity is the day kind
+    row "open day" (from1To 2 quantity ∷ []) openingHours openDay postings 0
+    -- 2, RULES 6.2
+    ∷ row "admit" (needs (security ∷ quantity ∷ [])) officeHours admit postings 0
+    -- 3, RULES 6.3
+    ∷ row "deposit" (needs (security ∷ C ++ (quantity ∷ []))) counterHours deposit postings 0
+    -- 4, RULES 6.4
+    ∷ row "withdrawal" (needs (security ∷ D ++ (quantity ∷ []))) counterHours withdraw postings 0
+    -- 5, RULES 6.5
+    ∷ row "transfer" (needs (security ∷ D ++ C ++ (quantity ∷ settlement-day ∷ []))) counterHours transfer postings 0
+    -- 6, RULES 6.6
+    ∷ row "pledge" (needs (security ∷ D ++ C ++ (quantity ∷ settlement-day ∷ []))) counterHours transfer postings 0
+    -- 7, RULES 6.7
+    ∷ row "release" (needs (security ∷ D ++ C ++ (quantity ∷ settlement-day ∷ []))) counterHours transfer postings 0
+    -- 8, RULES 6.8
+    ∷ row "block" (needs (security ∷ D ++ C ++ (quantity ∷ settlement-day ∷ []))) counterHours transfer postings 0
+    -- 9, RULES 6.9
+    ∷ row "unblock" (needs (security ∷ D ++ C ++ (quantity ∷ settlement-day ∷ []))) counterHours transfer postings 0
+    -- 10, RULES 6.10
+    ∷ row "pay-in" (needs (currency ∷ credited-member ∷ amount ∷ [])) officeHours payIn postings 0
+    -- 11, RULES 6.11
+    ∷ row "pay-out" (needs (currency ∷ debited-member ∷ amount ∷ [])) officeHours payOut postings 0
+    -- 12, RULES 6.12
+    ∷ row "deliver" (needs (allBut credited-type)) paymentHours instruct postings 1
+    -- 13, RULES 6.13
+    ∷ row "receive" (needs (allBut debited-type)) paymentHours instruct postings 1
+    -- 14, RULES 6.14
+    ∷ row "exchange trade" (needs all) officeHours trade postings 2
+    -- 15, RULES 6.15; the debited member is the sender
+    ∷ row "cancel" (needs (debited-member ∷ reference ∷ [])) officeHours cancel notices 0
+    -- 16, RULES 6.16
+    ∷ row "cycle" [] cycleHours cycle postings 0
+    -- 17, RULES 6.17
+    ∷ row "close" [] closingHours close notices 0
+    ∷ []
 
+-- what stands for a number that no form has
+abbrev pub noRow : Form
+noRow = row "" [] (λ day order. (0, 0)) (λ book order. silent book) postings 0
+
+-- the row of a form's number
+unfoldable pub rowOf : ℕ → Form
+rowOf zero = noRow
+rowOf (suc n) = getD forms n noRow
+
+-- What the row says of a field: whether it is used, the least and the most that it may be.
+abbrev pub rulesOf : ℕ → List Rule
+rulesOf form = always ++ rowOf form .fields
+
+unfoldable pub used : (form place : ℕ) → Bool
+used form place = some (λ rule. place is rule.place) (rulesOf form)
+
+unfoldable pub least : (form place : ℕ) → ℕ
+least form place = ruleIn (rulesOf form) place .least
+
+unfoldable pub most : (form place : ℕ) → ℕ
+most form place = ruleIn (rulesOf form) place .most
+
+-- the first and the last minute at which an order may come
+unfoldable pub windowOf : Day → Order → ℕ × ℕ
+windowOf day order = rowOf order.form .window day order
+
+-- what an order does
 unfoldable pub effect : Ledger → Order → Outcome
-effect book order = getD forms (order.form - 1) (λ b o. silent b) book order
+effect book order = rowOf order.form .effect book order
+
+-- 1 where the order's rows are posting rows, 0 where they are notices
+unfoldable pub writes : Order → ℕ
+writes order = if rowOf order.form .posts then 1 else 0
+
+-- the sides that an order takes in
+unfoldable pub takesIn : Order → ℕ
+takesIn order = rowOf order.form .takes

@@ -1,6 +1,6 @@
 -- The book.
 use Prim.Native.Nat.{ℕ, zero, suc, _+_, _-_, _^_}
-use mathlib.Core.Bool.{Bool, false, _&&_}
+use mathlib.Core.Bool.{Bool, true, false, _&&_}
 use mathlib.Core.List.{List, [], map}
 use Rattle.rulebook.specs.Lists.{if_then_else_, _is_, some, total}
 use Rattle.rulebook.specs.declared.Party.{Party}
@@ -43,6 +43,19 @@ putHoldings holdings book = record { day = book.day; holdings = holdings; waitin
 
 unfoldable pub putWaiting : List Item → Ledger → Ledger
 putWaiting waiting book = record { day = book.day; holdings = book.holdings; waiting = waiting }
+
+-- the day with its last minute replaced, with one more cycle run, when it opens as a day of a kind, and when it closes
+abbrev pub withMinute : ℕ → Day → Day
+withMinute minute day = record { opened = day.opened; number = day.number; kind = day.kind; cycles = day.cycles; minute = minute }
+
+abbrev pub oneMoreCycle : Day → Day
+oneMoreCycle day = record { opened = day.opened; number = day.number; kind = day.kind; cycles = day.cycles + 1; minute = day.minute }
+
+abbrev pub opening : (kind : ℕ) → Day → Day
+opening kind day = record { opened = true; number = day.number + 1; kind = kind; cycles = 0; minute = day.minute }
+
+abbrev pub closing : Day → Day
+closing day = record { opened = false; number = day.number; kind = day.kind; cycles = day.cycles; minute = day.minute }
 
 -- a party's account in a security
 unfoldable pub accountOf : ℕ → Party → Account

@@ -1,7 +1,7 @@
 -- The paper as definitions, in the order in which they are read.
 pub mod Lists
 pub mod AccountTypes
-pub mod Record
+pub mod Field
 pub mod Ledger
 pub mod Movements
 pub mod Windows
@@ -11,8 +11,10 @@ pub mod Matching
 pub mod Cycle
 pub mod Close
 pub mod Forms
+pub mod Record
 pub mod Refusals
 pub mod Call
 pub mod Calls
 pub mod Premise
 pub mod Desk
+pub mod Theorems

@@ -23,19 +23,27 @@ pub record Movement : Type 0 where
 abbrev pub move : Place → Place → ℕ → Movement
 move from to number = record { from = from; to = to; number = number }
 
+-- what the book has at a place: nothing where it keeps none
+abbrev pub bookHas : Place → Holdings → ℕ
+bookHas (account a) h = h.balance a
+bookHas (type91 security) h = outsideOf security h
+bookHas (type90 security) h = 0
+bookHas (cashOf member currency) h = h.cash member currency
+bookHas (member0 currency) h = 0
+
+-- the holdings with that much at a place: no change where the book keeps none
+abbrev pub putAt : Place → ℕ → Holdings → Holdings
+putAt (account a) n h = putBalance a n h
+putAt (type91 security) n h = putOutside security n h
+putAt (type90 security) n h = h
+putAt (cashOf member currency) n h = putCash member currency n h
+putAt (member0 currency) n h = h
+
 unfoldable pub credit : Place → ℕ → Holdings → Holdings
-credit (account a) n h = putBalance a (h.balance a + n) h
-credit (type91 security) n h = putOutside security (outsideOf security h + n) h
-credit (type90 security) n h = h
-credit (cashOf member currency) n h = putCash member currency (h.cash member currency + n) h
-credit (member0 currency) n h = h
+credit place n h = putAt place (bookHas place h + n) h
 
 unfoldable pub debit : Place → ℕ → Holdings → Holdings
-debit (account a) n h = putBalance a (h.balance a - n) h
-debit (type91 security) n h = putOutside security (outsideOf security h - n) h
-debit (type90 security) n h = h
-debit (cashOf member currency) n h = putCash member currency (h.cash member currency - n) h
-debit (member0 currency) n h = h
+debit place n h = putAt place (bookHas place h - n) h
 
 unfoldable pub credits : List Movement → Holdings → Holdings
 credits [] h = h

@@ -1,4 +1,4 @@
--- What the fresh book is and every call keeps: the one premise that a call may have.
+-- What the fresh book meets and every call keeps, as `Theorems` says: the one premise of a call, which no caller has to show (RULES 12.15 to 12.17).
 use Prim.Native.Nat.{ℕ, _+_, _≤_, _<_, _^_}
 use mathlib.Core.Bool.{Bool, true, false, _||_}
 use mathlib.Core.List.{List, [], _∷_}
@@ -22,19 +22,19 @@ abbrev pub Each : {A : Type 0} → (A → Type 0) → List A → Type 0
 Each P [] = Unit {0}
 Each P (x ∷ rest) = P x × Each P rest
 
--- 1. at most 32 securities, at most 64 items, accounts plus items at most 256
+-- at most 32 securities, at most 64 items, accounts plus items at most 256
 pub record Sizes (b : Ledger) : Type 0 where
   pub securities : length b.holdings.securities ≤ 32
   pub items : length b.waiting ≤ 64
   pub accounts : b.holdings.accounts + length b.waiting ≤ 256
 
--- 2. how many accounts have a balance, over all that a record's fields can name
+-- how many accounts have a balance, over all that a record's fields can name
 unfoldable pub accountCount : Holdings → ℕ
 accountCount h =
     sumBelow (2 ^ 14) λ security. sumBelow (2 ^ 10) λ member. sumBelow (2 ^ 8) λ typ. sumBelow (2 ^ 30) λ shareholder.
     counted (h.balance (record { security = security; member = member; typ = typ; shareholder = shareholder }))
 
--- 3. how many securities have a code, and an admitted security
+-- how many securities have a code, and an admitted security
 abbrev pub withCode : ℕ → List Security → ℕ
 withCode code securities = total (λ s. if s.code is code then 1 else 0) securities
 
@@ -64,80 +64,88 @@ pub record AccountFits (h : Holdings) (a : Account) : Type 0 where
   pub shareholder-least : 1 ≤ a.shareholder
   pub shareholder : a.shareholder < 2 ^ 30
 
--- 4. a member and a currency that can have cash
+-- a member and a currency that can have cash
 pub record CashFits (member currency : ℕ) : Type 0 where
   pub member-least : 1 ≤ member
   pub member-most : member ≤ 64
   pub currency-least : 1 ≤ currency
   pub currency-most : currency ≤ 2
 
--- 5. a waiting item, by its state; today is the day that is open, or that opens next
+-- A waiting item, in parts: what stays as long as it waits; its days; its state; and that it is not overdue.
+
+-- security, currency, parties, quantity and amount
+pub record TermsFit (security currency : ℕ) (debited credited : Party) (quantity amount : ℕ) : Type 0 where
+  pub security-least : 1 ≤ security
+  pub security-most : security < 2 ^ 14
+  pub currency-least : 1 ≤ currency
+  pub currency-most : currency ≤ 2
+  pub debited-named : PartyNamed debited
+  pub credited-named : PartyNamed credited
+  pub quantity-least : 1 ≤ quantity
+  pub quantity-most : quantity < 2 ^ 40
+  pub amount-least : 1 ≤ amount
+  pub amount-most : amount < 2 ^ 40
+
+-- traded on a day up to the last that opened, to settle on that day or later, at most 20 days from the last that opened
+pub record DaysFit (number tradeDay settlementDay : ℕ) : Type 0 where
+  pub traded-least : 1 ≤ tradeDay
+  pub traded-most : tradeDay ≤ number
+  pub settles-least : tradeDay ≤ settlementDay
+  pub settles-most : settlementDay ≤ number + 20
 
 pub record ReferenceFits (reference : ℕ) : Type 0 where
   pub least : 1 ≤ reference
   pub most : reference < 2 ^ 32
 
-pub record SingleFits (today settlementDay : ℕ) (debited credited : Party) (delivers : Bool) (reference : ℕ) : Type 0 where
+pub record SingleFits (debited credited : Party) (delivers : Bool) (reference : ℕ) : Type 0 where
   pub named : ReferenceFits reference
   -- its own side free and its other side's type 0
   pub own : (if delivers then free debited.typ else free credited.typ) ≡ true
   pub other : (if delivers then credited.typ else debited.typ) ≡ 0
   pub shareholders : debited.shareholder ≡ credited.shareholder
   pub members : (debited.member is credited.member) ≡ false
-  -- not overdue
-  pub due : today ≤ settlementDay
 
-pub record PairFits (today settlementDay : ℕ) (debited credited : Party) (deliver receive : ℕ) : Type 0 where
+pub record PairFits (debited credited : Party) (deliver receive : ℕ) : Type 0 where
   pub deliver-named : ReferenceFits deliver
   pub receive-named : ReferenceFits receive
   -- both sides free, both book entry or both physical
   pub types : alike debited.typ credited.typ ≡ true
   pub shareholders : debited.shareholder ≡ credited.shareholder
   pub members : (debited.member is credited.member) ≡ false
-  -- not older than settlement day + 10
-  pub due : today ≤ settlementDay + 10
 
-pub record TradeFits (today settlementDay security : ℕ) (debited credited : Party) (reference : ℕ) : Type 0 where
+pub record TradeFits (security : ℕ) (debited credited : Party) (reference : ℕ) : Type 0 where
   pub named : ReferenceFits reference
   pub types : alike debited.typ credited.typ ≡ true
   -- not on one account
   pub apart : sameAccount (accountOf security debited) (accountOf security credited) ≡ false
-  -- not overdue
-  pub due : today ≤ settlementDay
 
-abbrev pub StateFits : (today settlementDay security : ℕ) (debited credited : Party) → State → Type 0
-StateFits today settlementDay security debited credited (Single delivers reference) = SingleFits today settlementDay debited credited delivers reference
-StateFits today settlementDay security debited credited (Pair deliver receive dm rm) = PairFits today settlementDay debited credited deliver receive
-StateFits today settlementDay security debited credited (Trade reference) = TradeFits today settlementDay security debited credited reference
+abbrev pub StateFits : (security : ℕ) (debited credited : Party) → State → Type 0
+StateFits security debited credited (Single delivers reference) = SingleFits debited credited delivers reference
+StateFits security debited credited (Pair deliver receive dm rm) = PairFits debited credited deliver receive
+StateFits security debited credited (Trade reference) = TradeFits security debited credited reference
+
+-- today is the day that is open, or that opens next: a pair may be up to 10 days late
+abbrev pub NotOverdue : (today settlementDay : ℕ) → State → Type 0
+NotOverdue today settlementDay (Single delivers reference) = today ≤ settlementDay
+NotOverdue today settlementDay (Pair deliver receive dm rm) = today ≤ settlementDay + 10
+NotOverdue today settlementDay (Trade reference) = today ≤ settlementDay
 
 pub record ItemFits (number today : ℕ) (h : Holdings) (i : Item) : Type 0 where
-  pub security : admitted i.security h ≡ true
-  pub security-least : 1 ≤ i.security
-  pub security-most : i.security < 2 ^ 14
-  pub currency-least : 1 ≤ i.currency
-  pub currency-most : i.currency ≤ 2
-  pub debited : PartyNamed i.debited
-  pub credited : PartyNamed i.credited
-  pub quantity-least : 1 ≤ i.quantity.0
-  pub quantity : i.quantity.0 < 2 ^ 40
-  pub amount-least : 1 ≤ i.amount.0
-  pub amount : i.amount.0 < 2 ^ 40
-  -- traded on a day up to the last that opened, to settle on that day or later, at most 20 days from it
-  pub traded-least : 1 ≤ i.«trade_day»
-  pub «trade_day» : i.«trade_day» ≤ number
-  pub settles-least : i.«trade_day» ≤ i.«settlement_day»
-  pub «settlement_day» : i.«settlement_day» ≤ number + 20
-  pub state : StateFits today i.«settlement_day» i.security i.debited i.credited i.state
+  pub listed : admitted i.security h ≡ true
+  pub terms : TermsFit i.security i.currency i.debited i.credited i.quantity.0 i.amount.0
+  pub days : DaysFit number i.«trade_day» i.«settlement_day»
+  pub state : StateFits i.security i.debited i.credited i.state
+  pub due : NotOverdue today i.«settlement_day» i.state
 
 -- the day that is open, or that opens next
 abbrev pub today : Day → ℕ
 today day = if day.opened then day.number else day.number + 1
 
--- 6. how many items wait under a sender's reference
+-- how many items wait under a sender's reference
 abbrev pub sent : (sender reference : ℕ) → List Item → ℕ
 sent sender reference items = total (λ item. if sentBy sender reference item then 1 else 0) items
 
--- 7. the day; kind and cycles stay after close
+-- the day; kind and cycles stay after close
 pub record DayFits (d : Day) : Type 0 where
   pub number : d.number ≤ 60_000
   pub kind : d.kind ≤ 2

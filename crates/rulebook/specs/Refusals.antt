@@ -5,11 +5,11 @@ use mathlib.Core.List.{List, [], _∷_}
 use lib.ListN.{length}
 use Rattle.rulebook.specs.Lists.{if_then_else_, _is_, _isNot_, _below_, _atMost_, _oneOf_, within, some, total}
 use Rattle.rulebook.specs.AccountTypes.{wrongTypes}
-use Rattle.rulebook.specs.Windows.{windowOf, cycleMinutes}
+use Rattle.rulebook.specs.Windows.{cycleMinutes}
 use Rattle.rulebook.specs.Ledger.{Ledger, Holdings, accountOf, sameAccount, admitted, outsideOf, cashTotal}
 use Rattle.rulebook.specs.declared.Account.{Account}
 use Rattle.rulebook.specs.Waiting.{senderOf, sentBy, notCancellable}
-use Rattle.rulebook.specs.Forms.{Outcome, effect}
+use Rattle.rulebook.specs.Forms.{windowOf, effect}
 use Rattle.rulebook.specs.declared.Day.{Day}
 use Rattle.rulebook.specs.declared.Item.{Item}
 use Rattle.rulebook.specs.declared.Order.{Order}

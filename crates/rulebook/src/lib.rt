@@ -21,7 +21,7 @@ pub struct Account {
     pub shareholder: u64,
 }
 
-// A record's fifteen fields.
+// A record's fields.
 pub struct Order {
     pub form: u64,
     pub minute: u64,
@@ -34,6 +34,11 @@ pub struct Order {
     pub trade_day: u64,
     pub settlement_day: u64,
     pub reference: u64,
+    // An operation on another trade, and that trade's reference.
+    pub operation: u64,
+    pub original: u64,
+    // The edition of the pairs of account types.
+    pub edition: u64,
 }
 
 // What the record reader answers.

@@ -1,129 +1,215 @@
 -- `ledger::handle` meets its contract: each form is handled as the table of forms has it. Assumes nothing.
-use Prim.Native.Nat.{_≤_}
+use Prim.Native.Nat.{ℕ, _+_, _≤_, _<_}
 use mathlib.Core.Path.{_≡_}
+use mathlib.Core.Logic.{_⊎_, inl, inr}
+use lib.ListN.{length}
 use native.Mathlib.Omega.{arith}
 use borrow.Author.Tests.{le-leb}
 use borrow.Author.Needs.{needs}
-use Rattle.rulebook.specs.Forms.{forms}
+use Rattle.rulebook.specs.Forms.{forms, rowOf}
+use Rattle.rulebook.proofs.ByCall.{HasForm, effect-at}
 use Rattle.book.specs.Meaning.{ledgerOf}
 use Rattle.refusals.proofs.Orders.{ranges}
 use Rattle.refusals.proofs.Growth.{instruction}
-use Rattle.ledger.proofs.ByForm.{effect-is, transfer-is, instruct-is, as-effect}
+use Rattle.ledger.proofs.ByForm.{transfer-is, instruct-is, as-effect}
 use Rattle.ledger.proofs.handle.Statement.{statement}
 use Rattle.ledger.proofs.handle.Tie as tie
 
-open-day-requires : tie.Need-open-day-requires
-open-day-requires c κs =
-    (record { kept = c .before .before .before .before .pre .kept; read = c .before .before .before .before .pre .read; passes = c .before .before .before .before .pre .passes }, (c .before .if1 .taken))
+abbrev start : tie.After-slice-known2 → tie.Start
+start c = c .before .before
 
-returns : tie.Need-returns
+-- past one number more
+past : (k n : ℕ) → k ≤ n → (n ≡ k → ⊥) → k + 1 ≤ n
+past k n l a = omega (arith, a)
+
+-- the forms that share a handler, past those before them, and the last
+
+transfers : (c : tie.Then2) → (5 ≤ start (c .before .before .before) .args .order .form) × (start (c .before .before .before) .args .order .form < 10)
+transfers c =
+    let rest = c .before .before .match .rest .0 .0 .0 .0 .0 in
+    (past 4 _ (past 3 _ (past 2 _ (past 1 _ (c .before .if1 .left) (rest .0 .0 .0 .1)) (rest .0 .0 .1)) (rest .0 .1)) (rest .1), c .if2 .taken)
+
+instructs : (c : tie.Then3) → (12 ≤ start (c .before .before .before .before) .args .order .form) × (start (c .before .before .before .before) .args .order .form < 14)
+instructs c =
+    let rest = c .before .before .before .match .rest .0 .0 .0 in
+    (past 11 _ (past 10 _ (c .before .if2 .left) (rest .0 .1)) (rest .1), c .if3 .taken)
+
+last-form : (n : ℕ) → HasForm n → 17 ≤ n → n ≡ 17
 unfolding forms
-returns c =
-    as-effect (ledgerOf (c .before .before .before .before .before .before .before .args .book .now)) (c .before .before .before .before .before .before .before .args .order) (effect-is 1 _ _ (c .before .before .before .before .if1 .taken)) (c .before .before .open-day .ensures _)
+last-form n h l = omega (arith, h .1)
 
-admit-requires : tie.Need-admit-requires
-admit-requires c κs =
-    (c .before .before .before .before .before .before .pre, (c .before .before .if2 .taken))
+either-way : {A B C : Type 0} → (A → C) → (B → C) → A ⊎ B → C
+either-way f g (inl a) = f a
+either-way f g (inr b) = g b
 
-returns-2 : tie.Need-returns-2
-unfolding forms
-returns-2 c =
-    as-effect (ledgerOf (c .before .before .before .before .before .before .before .before .before .before .before .args .book .now)) (c .before .before .before .before .before .before .before .before .before .before .before .args .order) (effect-is 2 _ _ (c .before .before .before .before .before .before .before .if2 .taken)) (c .before .before .before .before .admit .ensures)
-
-deposit-requires : tie.Need-deposit-requires
-deposit-requires c κs =
-    (c .before .before .before .before .before .before .before .pre, (c .before .before .if3 .taken))
-
-returns-3 : tie.Need-returns-3
-unfolding forms
-returns-3 c =
-    as-effect (ledgerOf (c .before .before .before .before .before .before .before .before .before .before .before .before .args .book .now)) (c .before .before .before .before .before .before .before .before .before .before .before .before .args .order) (effect-is 3 _ _ (c .before .before .before .before .before .before .before .if3 .taken)) (c .before .before .before .before .deposit .ensures)
-
-withdraw-requires : tie.Need-withdraw-requires
-withdraw-requires c κs =
-    (c .before .before .before .before .before .before .before .before .pre, (c .before .before .if4 .taken))
-
-returns-4 : tie.Need-returns-4
-unfolding forms
-returns-4 c =
-    as-effect (ledgerOf (c .before .before .before .before .before .before .before .before .before .before .before .before .before .args .book .now)) (c .before .before .before .before .before .before .before .before .before .before .before .before .before .args .order) (effect-is 4 _ _ (c .before .before .before .before .before .before .before .if4 .taken)) (c .before .before .before .before .withdraw .ensures)
+closes : (c : tie.Joined1) → start (c .before .before) .args .order .form ≡ 17
+closes c =
+    let has : HasForm (start (c .before .before) .args .order .form) = ranges _ (start (c .before .before) .pre .read) .form in
+    let rest = c .before .match .rest in
+    either-way (λ t. absurd (omega (arith, t .taken, has .0)))
+    (λ t. last-form _ has (past 16 _ (past 15 _ (past 14 _ (t .2 .left) (rest .0 .0 .1)) (rest .0 .1)) (rest .1)))
+    (c .if1 .came)
 
 transfer-requires : tie.Need-transfer-requires
 transfer-requires c κs =
-    let five : 5 ≤ c .before .before .before .before .before .before .before .before .before .args .order .form = omega (arith, ranges _ (c .before .before .before .before .before .before .before .before .before .pre .read) .form .0, (c .before .before .before .before .before .before .if1 .left), (c .before .before .before .before .before .if2 .left), (c .before .before .before .before .if3 .left), (c .before .before .before .if4 .left)) in
-    (c .before .before .before .before .before .before .before .before .before .pre, five, c .before .before .if5 .taken)
-
-returns-5 : tie.Need-returns-5
-returns-5 c =
-    let five : 5 ≤ c .before .before .before .before .before .before .before .before .before .before .before .before .before .before .args .order .form = omega (arith, ranges _ (c .before .before .before .before .before .before .before .before .before .before .before .before .before .before .pre .read) .form .0, (c .before .before .before .before .before .before .before .before .before .before .before .if1 .left), (c .before .before .before .before .before .before .before .before .before .before .if2 .left), (c .before .before .before .before .before .before .before .before .before .if3 .left), (c .before .before .before .before .before .before .before .before .if4 .left)) in
-    as-effect (ledgerOf (c .before .before .before .before .before .before .before .before .before .before .before .before .before .before .args .book .now)) (c .before .before .before .before .before .before .before .before .before .before .before .before .before .before .args .order) (transfer-is _ _ five (c .before .before .before .before .before .before .before .if5 .taken)) (c .before .before .before .before .transfer .ensures)
-
-pay-in-requires : tie.Need-pay-in-requires
-pay-in-requires c κs =
-    (c .before .before .before .before .before .before .before .before .before .before .pre, (c .before .before .if6 .taken))
-
-returns-6 : tie.Need-returns-6
-unfolding forms
-returns-6 c =
-    as-effect (ledgerOf (c .before .before .before .before .before .before .before .before .before .before .before .before .before .before .before .args .book .now)) (c .before .before .before .before .before .before .before .before .before .before .before .before .before .before .before .args .order) (effect-is 10 _ _ (c .before .before .before .before .before .before .before .if6 .taken)) (c .before .before .before .before .pay-in .ensures)
-
-pay-out-requires : tie.Need-pay-out-requires
-pay-out-requires c κs =
-    (c .before .before .before .before .before .before .before .before .before .before .before .pre, (c .before .before .if7 .taken))
-
-returns-7 : tie.Need-returns-7
-unfolding forms
-returns-7 c =
-    as-effect (ledgerOf (c .before .before .before .before .before .before .before .before .before .before .before .before .before .before .before .before .args .book .now)) (c .before .before .before .before .before .before .before .before .before .before .before .before .before .before .before .before .args .order) (effect-is 11 _ _ (c .before .before .before .before .before .before .before .if7 .taken)) (c .before .before .before .before .pay-out .ensures)
+    let here = c .before .before in
+    let f = transfers here in
+    (start (here .before .before .before) .pre, f .0, omega (arith, f .1))
 
 instruct-requires : tie.Need-instruct-requires
 instruct-requires c κs =
-    let twelve : 12 ≤ c .before .before .before .before .before .before .before .before .before .before .before .args .order .form = omega (arith, (c .before .before .before .before .if5 .left), (c .before .before .before .if6 .left), (c .before .before .if7 .left)) in
-    let s = c .before .before .before .before .before .before .before .before .before .before .before in
-    (record { kept = s .pre .kept; read = s .pre .read; passes = s .pre .passes }, instruction (c .before .before .before .before .before .before .before .before .before .before .before .args .order .form) (rw (le-leb _ _ twelve, le-leb _ _ (c .before .if8 .taken))))
-
-returns-8 : tie.Need-returns-8
-returns-8 c =
-    let twelve : 12 ≤ c .before .before .before .before .before .before .before .before .before .before .before .before .before .before .args .order .form = omega (arith, (c .before .before .before .before .before .before .before .if5 .left), (c .before .before .before .before .before .before .if6 .left), (c .before .before .before .before .before .if7 .left)) in
-    as-effect (ledgerOf (c .before .before .before .before .before .before .before .before .before .before .before .before .before .before .args .book .now)) (c .before .before .before .before .before .before .before .before .before .before .before .before .before .before .args .order) (instruct-is _ _ twelve (c .before .before .before .before .if8 .taken)) (c .before .before .instruct .ensures _)
-
-trade-requires : tie.Need-trade-requires
-trade-requires c κs =
-    (record { kept = c .before .before .before .before .before .before .before .before .before .before .before .before .pre .kept; read = c .before .before .before .before .before .before .before .before .before .before .before .before .pre .read; passes = c .before .before .before .before .before .before .before .before .before .before .before .before .pre .passes }, (c .before .if9 .taken))
-
-returns-9 : tie.Need-returns-9
-unfolding forms
-returns-9 c =
-    as-effect (ledgerOf (c .before .before .before .before .before .before .before .before .before .before .before .before .before .before .before .args .book .now)) (c .before .before .before .before .before .before .before .before .before .before .before .before .before .before .before .args .order) (effect-is 14 _ _ (c .before .before .before .before .if9 .taken)) (c .before .before .trade .ensures _)
-
-cancel-requires : tie.Need-cancel-requires
-cancel-requires c κs =
-    (c .before .before .before .before .before .before .before .before .before .before .before .before .before .before .pre, (c .before .before .if10 .taken))
-
-returns-10 : tie.Need-returns-10
-unfolding forms
-returns-10 c =
-    as-effect (ledgerOf (c .before .before .before .before .before .before .before .before .before .before .before .before .before .before .before .before .before .before .before .args .book .now)) (c .before .before .before .before .before .before .before .before .before .before .before .before .before .before .before .before .before .before .before .args .order) (effect-is 15 _ _ (c .before .before .before .before .before .before .before .if10 .taken)) (c .before .before .before .before .cancel .ensures)
-
-run-requires : tie.Need-run-requires
-run-requires c κs =
-    (c .before .before .before .before .before .before .before .before .before .before .before .before .before .before .before .pre .kept, c .before .before .before .before .before .before .before .before .before .before .before .before .before .before .before .pre .room)
-
-returns-11 : tie.Need-returns-11
-unfolding forms
-returns-11 c =
-    as-effect (ledgerOf (c .before .before .before .before .before .before .before .before .before .before .before .before .before .before .before .before .before .before .before .before .args .book .now)) (c .before .before .before .before .before .before .before .before .before .before .before .before .before .before .before .before .before .before .before .before .args .order) (effect-is 16 _ _ (c .before .before .before .before .before .before .before .if11 .taken)) (c .before .before .before .before .run .ensures (c .before .before .before .before .before .before .before .before .before .before .before .before .before .before .before .before .before .before .before .before .args .order))
+    let here = c .before in
+    let s = start (here .before .before .before .before) in
+    let f = instructs here in
+    (record { kept = s .pre .kept; read = s .pre .read; passes = s .pre .passes }, instruction (s .args .order .form) (rw (le-leb _ _ (f .0), le-leb (s .args .order .form) 13 (omega (arith, f .1)))))
 
 close-requires : tie.Need-close-requires
 close-requires c κs =
-    let last : c .before .before .before .before .before .before .before .before .before .before .before .before .before .before .before .args .order .form ≡ 17 = omega (arith, ranges _ (c .before .before .before .before .before .before .before .before .before .before .before .before .before .before .before .pre .read) .form .1, (c .before .before .before .before .before .if8 .left), (c .before .before .before .before .if9 .left), (c .before .before .before .if10 .left), (c .before .before .if11 .left)) in
-    (c .before .before .before .before .before .before .before .before .before .before .before .before .before .before .before .pre, last)
+    let here = c .before .before in
+    (start (here .before .before) .pre, closes here)
+
+returns : tie.Need-returns
+unfolding forms rowOf
+returns c =
+    let done = c .before .before in
+    let here = done .before .before in
+    let s = start (here .before) in
+    as-effect (ledgerOf (s .args .book .now)) (s .args .order) (effect-at 1 _ _ (here .match .keys1)) (done .open-day .ensures _)
+
+returns-2 : tie.Need-returns-2
+unfolding forms rowOf
+returns-2 c =
+    let done = c .before .before .before .before in
+    let here = done .before .before .before in
+    let s = start (here .before) in
+    as-effect (ledgerOf (s .args .book .now)) (s .args .order) (effect-at 2 _ _ (here .match .keys2)) (done .admit .ensures)
+
+returns-3 : tie.Need-returns-3
+unfolding forms rowOf
+returns-3 c =
+    let done = c .before .before .before .before in
+    let here = done .before .before .before in
+    let s = start (here .before) in
+    as-effect (ledgerOf (s .args .book .now)) (s .args .order) (effect-at 3 _ _ (here .match .keys3)) (done .deposit .ensures)
+
+returns-4 : tie.Need-returns-4
+unfolding forms rowOf
+returns-4 c =
+    let done = c .before .before .before .before in
+    let here = done .before .before .before in
+    let s = start (here .before) in
+    as-effect (ledgerOf (s .args .book .now)) (s .args .order) (effect-at 4 _ _ (here .match .keys4)) (done .withdraw .ensures)
+
+returns-5 : tie.Need-returns-5
+unfolding forms rowOf
+returns-5 c =
+    let done = c .before .before .before .before in
+    let here = done .before .before .before in
+    let s = start (here .before) in
+    as-effect (ledgerOf (s .args .book .now)) (s .args .order) (effect-at 10 _ _ (here .match .keys5)) (done .pay-in .ensures)
+
+returns-6 : tie.Need-returns-6
+unfolding forms rowOf
+returns-6 c =
+    let done = c .before .before .before .before in
+    let here = done .before .before .before in
+    let s = start (here .before) in
+    as-effect (ledgerOf (s .args .book .now)) (s .args .order) (effect-at 11 _ _ (here .match .keys6)) (done .pay-out .ensures)
+
+returns-7 : tie.Need-returns-7
+unfolding forms rowOf
+returns-7 c =
+    let done = c .before .before in
+    let here = done .before .before in
+    let s = start (here .before) in
+    as-effect (ledgerOf (s .args .book .now)) (s .args .order) (effect-at 14 _ _ (here .match .keys7)) (done .trade .ensures _)
+
+returns-8 : tie.Need-returns-8
+unfolding forms rowOf
+returns-8 c =
+    let done = c .before .before .before .before in
+    let here = done .before .before .before in
+    let s = start (here .before) in
+    as-effect (ledgerOf (s .args .book .now)) (s .args .order) (effect-at 15 _ _ (here .match .keys8)) (done .cancel .ensures)
+
+returns-9 : tie.Need-returns-9
+unfolding forms rowOf
+returns-9 c =
+    let done = c .before .before .before .before in
+    let here = done .before .before .before in
+    let s = start (here .before) in
+    as-effect (ledgerOf (s .args .book .now)) (s .args .order) (effect-at 16 _ _ (here .match .keys9)) (done .run .ensures _)
+
+returns-10 : tie.Need-returns-10
+returns-10 c =
+    let done = c .before .before .before .before in
+    let here = done .before .before .before in
+    let s = start (here .before .before .before) in
+    let f = transfers here in
+    as-effect (ledgerOf (s .args .book .now)) (s .args .order) (transfer-is _ _ (f .0) (f .1)) (done .transfer .ensures)
+
+returns-11 : tie.Need-returns-11
+returns-11 c =
+    let done = c .before .before in
+    let here = done .before .before in
+    let s = start (here .before .before .before .before) in
+    let f = instructs here in
+    as-effect (ledgerOf (s .args .book .now)) (s .args .order) (instruct-is _ _ (f .0) (f .1)) (done .instruct .ensures _)
 
 returns-12 : tie.Need-returns-12
-unfolding forms
+unfolding forms rowOf
 returns-12 c =
-    let last : c .before .before .before .before .before .before .before .before .before .before .before .before .before .before .before .before .before .before .before .before .args .order .form ≡ 17 = omega (arith, ranges _ (c .before .before .before .before .before .before .before .before .before .before .before .before .before .before .before .before .before .before .before .before .pre .read) .form .1, (c .before .before .before .before .before .before .before .before .before .before .if8 .left), (c .before .before .before .before .before .before .before .before .before .if9 .left), (c .before .before .before .before .before .before .before .before .if10 .left), (c .before .before .before .before .before .before .before .if11 .left)) in
-    as-effect (ledgerOf (c .before .before .before .before .before .before .before .before .before .before .before .before .before .before .before .before .before .before .before .before .args .book .now)) (c .before .before .before .before .before .before .before .before .before .before .before .before .before .before .before .before .before .before .before .before .args .order) (effect-is 17 _ _ last) (c .before .before .before .before .close .ensures)
+    let done = c .before .before .before .before in
+    let here = done .before .before .before in
+    let s = start (here .before .before) in
+    as-effect (ledgerOf (s .args .book .now)) (s .args .order) (effect-at 17 _ _ (closes here)) (done .close .ensures)
 
 pub handle-spec : {M : Type 1} → statement M
-handle-spec = tie.close (tie.spec open-day-requires (λ c. search needs) returns admit-requires (λ c. search needs) (λ c. search needs) returns-2 deposit-requires (λ c. search needs) (λ c. search needs) returns-3 withdraw-requires (λ c. search needs) (λ c. search needs) returns-4 transfer-requires (λ c. search needs) (λ c. search needs) returns-5 pay-in-requires (λ c. search needs) (λ c. search needs) returns-6 pay-out-requires (λ c. search needs) (λ c. search needs) returns-7 instruct-requires (λ c. search needs) returns-8 trade-requires (λ c. search needs) returns-9 cancel-requires (λ c. search needs) (λ c. search needs) returns-10 run-requires (λ c. search needs) (λ c. search needs) returns-11 close-requires (λ c. search needs) (λ c. search needs) returns-12)
+handle-spec =
+    tie.close
+    (tie.spec
+    (λ c κs. search needs)
+    (λ c κs. search needs)
+    (λ c κs. search needs)
+    (λ c κs. search needs)
+    (λ c κs. search needs)
+    (λ c κs. search needs)
+    (λ c κs. search needs)
+    (λ c κs. search needs)
+    (λ c κs. search needs)
+    transfer-requires
+    instruct-requires
+    close-requires
+    (λ c. search needs)
+    returns
+    (λ c. search needs)
+    (λ c. search needs)
+    returns-2
+    (λ c. search needs)
+    (λ c. search needs)
+    returns-3
+    (λ c. search needs)
+    (λ c. search needs)
+    returns-4
+    (λ c. search needs)
+    (λ c. search needs)
+    returns-5
+    (λ c. search needs)
+    (λ c. search needs)
+    returns-6
+    (λ c. search needs)
+    returns-7
+    (λ c. search needs)
+    (λ c. search needs)
+    returns-8
+    (λ c. search needs)
+    (λ c. search needs)
+    returns-9
+    (λ c. search needs)
+    (λ c. search needs)
+    returns-10
+    (λ c. search needs)
+    returns-11
+    (λ c. search needs)
+    (λ c. search needs)
+    returns-12)

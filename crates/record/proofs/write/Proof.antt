@@ -9,7 +9,8 @@ use lib.ListN.{drop}
 use Rattle.bits.specs.Bits.{put}
 use Rattle.bits.specs.Layout.{pack}
 use Rattle.bits.proofs.Packing.{put-front}
-use Rattle.rulebook.specs.Record.{widths, fieldsOf, recordOf, writeRefusal, writtenOf, areaWritten}
+use Rattle.rulebook.specs.Field.{widths}
+use Rattle.rulebook.specs.Record.{fieldsOf, recordOf, writeRefusal, writtenOf, areaWritten}
 use Rattle.rulebook.specs.declared.Order.{Order}
 use Rattle.record.specs.Fields.{fieldsRefusal}
 use Rattle.record.proofs.Answers.{write-refused, write-record, write-fits}

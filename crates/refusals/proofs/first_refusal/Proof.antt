@@ -133,7 +133,7 @@ unfolding refusals
 returns-14 c = sym (passed-13 c)
 
 outside-window-requires : tie.Need-outside-window-requires
-outside-window-requires c κs = ranges _ (c .before .before .before .before .before .before .before .before .pre .1) .form .1
+outside-window-requires c κs = ranges _ (c .before .before .before .before .before .before .before .before .pre .1) .form
 
 -- today is at most 60,000, and a trade day fits 16 bits
 wrong-days-requires : tie.Need-wrong-days-requires

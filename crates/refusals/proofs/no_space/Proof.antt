@@ -93,8 +93,7 @@ returns-6 c =
     let s = one .before .before in
     let b = ledgerOf (s .args .book .now) in
     let o = s .args .order in
-    let f = ranges _ (s .pre .1) .form in
-    sym (last b o (s .pre .0 .premise) (full (three .before)) (f .0) (f .1) (ne-eqb _ _ (one .if1 .left)) (ne-eqb _ _ (three .if3 .left)) (sym (four .before .is-within .ensures) ∙ four .if4 .left) (sym (c .before .is-within2 .ensures) ∙ c .if5 .left))
+    sym (last b o (s .pre .0 .premise) (full (three .before)) (ranges _ (s .pre .1) .form) (ne-eqb _ _ (one .if1 .left)) (ne-eqb _ _ (three .if3 .left)) (sym (four .before .is-within .ensures) ∙ four .if4 .left) (sym (c .before .is-within2 .ensures) ∙ c .if5 .left))
 
 pub no-space-spec : {M : Type 1} → statement M
 no-space-spec = tie.close (tie.spec (λ c κs. search needs) returns (λ c κs. search needs) returns-2 (λ c κs. search needs) balance-requires (λ c κs. search needs) returns-3 (λ c κs. search needs) (λ c κs. search needs) balance-requires-2 (λ c κs. search needs) balance-requires-3 (λ c κs. c .before .before .before .before .before .before .before .before .before .before .before .before .before .before .pre .0) returns-4 (λ c κs. search needs) (λ c κs. search needs) returns-5 returns-6)

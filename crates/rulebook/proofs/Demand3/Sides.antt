@@ -3,11 +3,10 @@ use mathlib.Core.Path.{_≡_, refl, ap}
 use mathlib.Core.Bool.{Bool, true, false, not, _&&_, _||_, false≢true}
 use mathlib.Core.List.{List, [], _∷_, map}
 use Prim.Native.Nat.{ℕ, zero, suc, _+_, _≤_, zero-le}
-use borrow.Author.Tests.{ne-eqb}
-use Rattle.rulebook.specs.Calls.{Call, Made, callsOn, bookAfter, ofAnswer, answers, takesIn, sidesTaken}
+use Rattle.rulebook.specs.Calls.{Call, Made, callsOn, bookAfter, Accepted, acceptedCalls, sum, sidesTaken, sidesSettled, sidesCancelled, sidesDeleted, sidesSuspended}
 use Rattle.rulebook.proofs.Lists.{_and_, keep-split, total-append, total-map}
 use Rattle.rulebook.proofs.Rounds.{cycle-total}
-use Rattle.rulebook.proofs.ByCall.{Form, AllForms, by-form, inAll, by-call, records-are, answers-are}
+use Rattle.rulebook.proofs.ByCall.{Effect, AllForms, by-form, by-call}
 use Rattle.rulebook.specs.Call.{putMinute}
 use Rattle.rulebook.specs.declared.Answer.{Answer}
 use native.Mathlib.Omega.{arith}
@@ -15,12 +14,12 @@ use Rattle.rulebook.specs.declared.Item.{Item}
 use Rattle.rulebook.specs.declared.Order.{Order}
 use Rattle.rulebook.specs.declared.State.{State}
 use Rattle.rulebook.specs.declared.State.the-variants.{Single, Pair, Trade}
-use Rattle.rulebook.specs.Lists.{if_then_else_, _is_, _atMost_, _oneOf_, keep}
+use Rattle.rulebook.specs.Lists.{if_then_else_, _is_, _atMost_, _oneOf_, keep, total}
 use Rattle.rulebook.specs.Ledger.{Ledger, fresh, putDay, putHoldings, putWaiting}
 use Rattle.rulebook.specs.Waiting.{sidesOf, sides, isDeliver, isReceive, itemOf, senderOf, withState, marked, marking, cancelled, staying, unmarked, sentBy}
 use Rattle.rulebook.specs.Matching.{tolerance, pairsWith, pairOf, arrive}
 use Rattle.rulebook.specs.Close.{closeKind, leaves, deletedAtClose, suspendedAtClose}
-use Rattle.rulebook.specs.Forms.{counts, outcome, moving, silent, openDay, admit, deposit, withdraw, transfer, payIn, payOut, instruct, trade, cancel, cycle, close, forms, effect}
+use Rattle.rulebook.specs.Forms.{counts, outcome, moving, silent, openDay, admit, deposit, withdraw, transfer, payIn, payOut, instruct, trade, cancel, cycle, close, forms, effect, takesIn}
 use Rattle.rulebook.specs.declared.Counts.{Counts}
 use Rattle.rulebook.specs.Cycle.{settled, notSettled}
 
@@ -137,103 +136,78 @@ close-sides day ws =
 
 -- forms
 
--- the sides that a form takes in, and those that an answer says are gone
-abbrev takesAt : ℕ → ℕ
-takesAt form = if form oneOf (12 ∷ 13 ∷ []) then 1 else if form is 14 then 2 else 0
-
+-- the sides that an answer says are gone
 abbrev gone : Counts → ℕ
 gone c = c.settled + c.cancelled + c.deleted + c.suspended
 
 -- a form keeps the sides: those taken in and those waiting are those gone and those waiting after it
-abbrev Keeps : ℕ → Form → Type 0
-Keeps n f = (b : Ledger) (o : Order) → takesAt n + sides b.waiting ≡ gone (f b o .counts) + sides (f b o .after .waiting)
+abbrev Keeps : ℕ → Effect → Type 0
+Keeps takes f = (b : Ledger) (o : Order) → takes + sides b.waiting ≡ gone (f b o .counts) + sides (f b o .after .waiting)
 
--- a form that leaves the waiting list as it was, and one that writes no rows
-quiet : (n : ℕ) (f : Form) → takesAt n ≡ 0 → ((b : Ledger) (o : Order) → (gone (f b o .counts) ≡ 0) × (f b o .after .waiting ≡ b.waiting)) → Keeps n f
-quiet n f z h b o =
-    let h₁ = h b o .0 in
-    let h₂ : sides (f b o .after .waiting) ≡ sides b.waiting = ap sides (h b o .1) in
-    omega (arith, z, h₁, h₂)
-
-instruct-keeps : (b : Ledger) (o : Order) → 1 + sides b.waiting ≡ gone (instruct b o .counts) + sides (instruct b o .after .waiting)
+instruct-keeps : Keeps 1 instruct
 unfolding instruct silent outcome counts putWaiting itemOf sidesOf
 instruct-keeps b o = omega (arith, arrive-sides (tolerance o.currency) (itemOf (Single (o.form is 12) o.reference) o) refl b.waiting)
 
-trade-keeps : Keeps 14 trade
+trade-keeps : Keeps 2 trade
 unfolding trade silent outcome counts putWaiting sides itemOf sidesOf
 trade-keeps b o = simp total-append (omega arith)
 
-cancel-keeps : Keeps 15 cancel
+cancel-keeps : Keeps 0 cancel
 unfolding cancel outcome counts putWaiting
 cancel-keeps b o =
     let now = marking (senderOf o) o.reference b.waiting in
     omega (arith, cancel-sides now, marking-sides (senderOf o) o.reference b.waiting)
 
-cycle-keeps : Keeps 16 cycle
+cycle-keeps : Keeps 0 cycle
 unfolding cycle outcome counts
 cycle-keeps b o = omega (arith, cycle-sides b)
 
-close-keeps : Keeps 17 close
+close-keeps : Keeps 0 close
 unfolding close outcome counts
 close-keeps b o = omega (arith, close-sides b.day.number b.waiting)
 
-forms-keep : AllForms Keeps 1 forms
+-- a form that leaves the waiting list as it was takes in none, and none is gone
+forms-keep : AllForms (λ n f. Keeps f.takes f.effect) 1 forms
 unfolding forms openDay admit deposit withdraw transfer payIn payOut moving silent outcome counts putDay putHoldings
 forms-keep =
-    quiet 1 openDay refl (λ b o. (refl, refl)) and quiet 2 admit refl (λ b o. (refl, refl)) and quiet 3 deposit refl (λ b o. (refl, refl))
-    and quiet 4 withdraw refl (λ b o. (refl, refl)) and quiet 5 transfer refl (λ b o. (refl, refl)) and quiet 6 transfer refl (λ b o. (refl, refl))
-    and quiet 7 transfer refl (λ b o. (refl, refl)) and quiet 8 transfer refl (λ b o. (refl, refl)) and quiet 9 transfer refl (λ b o. (refl, refl))
-    and quiet 10 payIn refl (λ b o. (refl, refl)) and quiet 11 payOut refl (λ b o. (refl, refl)) and instruct-keeps and instruct-keeps and trade-keeps
-    and cancel-keeps and cycle-keeps and close-keeps and tt
-
-takes-most : (m : ℕ) → 18 ≤ m → takesAt m ≡ 0
-takes-most m h = simp (ne-eqb m 12 (λ e. omega arith), ne-eqb m 13 (λ e. omega arith), ne-eqb m 14 (λ e. omega arith))
-
-silent-keeps : (m : ℕ) → 18 ≤ m → Keeps m (λ b o. silent b)
-unfolding silent outcome counts
-silent-keeps m h = quiet m (λ b o. silent b) (takes-most m h) (λ b o. (refl, refl))
-
-zero-keeps : Keeps 0 openDay
-unfolding openDay silent outcome counts putDay
-zero-keeps = quiet 0 openDay refl (λ b o. (refl, refl))
+    (λ b o. refl) and (λ b o. refl) and (λ b o. refl) and (λ b o. refl) and (λ b o. refl) and (λ b o. refl) and (λ b o. refl) and (λ b o. refl)
+    and (λ b o. refl) and (λ b o. refl) and (λ b o. refl) and instruct-keeps and instruct-keeps and trade-keeps and cancel-keeps and cycle-keeps
+    and close-keeps and tt
 
 effect-keeps : (b : Ledger) (o : Order) → takesIn o + sides b.waiting ≡ gone (effect b o .counts) + sides (effect b o .after .waiting)
 unfolding effect takesIn
-effect-keeps b o = by-form Keeps forms-keep silent-keeps zero-keeps o.form b o
+effect-keeps b o = by-form (λ n f. Keeps f.takes f.effect) forms-keep (λ m none b o. unfold silent outcome counts in refl) o.form b o
 
 -- calls: nothing has to be known of the book
 
 list-keeps :
     (calls : List Call)
-    → inAll (λ o c. takesIn o) (callsOn fresh calls) + sides (fresh .waiting) ≡ inAll (λ o c. gone c) (callsOn fresh calls) + sides (bookAfter fresh calls .waiting)
+    → sum (λ c. takesIn c.order) (callsOn fresh calls) + sides (fresh .waiting) ≡ sum (λ c. gone c.counts) (callsOn fresh calls) + sides (bookAfter fresh calls .waiting)
 unfolding putMinute putDay
 list-keeps calls =
-    by-call (λ b. Unit {0}) (λ b. sides b.waiting) (λ o c. takesIn o) (λ o c. gone c) (λ b o bytes i e f. (tt, effect-keeps b o)) fresh tt calls
+    by-call (λ b. Unit {0}) (λ b. sides b.waiting) (λ c. takesIn c.order) (λ c. gone c.counts) (λ b o bytes area i e f. (tt, effect-keeps b o)) fresh tt calls
 
--- in the words of demand 3
+-- in the words of the claim
 
-gone-of : (a : Answer) → ofAnswer gone a ≡ ofAnswer (λ c. c.settled) a + ofAnswer (λ c. c.cancelled) a + ofAnswer (λ c. c.deleted) a + ofAnswer (λ c. c.suspended) a
-unfolding ofAnswer
-gone-of (Answer.Accepted c) = refl
-gone-of (Answer.Refused n) = refl
-
-gone-in : (h : List Made) → answers gone h ≡ answers (λ c. c.settled) h + answers (λ c. c.cancelled) h + answers (λ c. c.deleted) h + answers (λ c. c.suspended) h
-unfolding answers
-gone-in [] = refl
-gone-in (m ∷ rest) = omega (arith, gone-of m.answer, gone-in rest)
+gone-in : (h : List Made) → sum (λ c. gone c.counts) h ≡ sidesSettled h + sidesCancelled h + sidesDeleted h + sidesSuspended h
+unfolding sum sidesSettled sidesCancelled sidesDeleted sidesSuspended
+gone-in h = go (acceptedCalls h)
+  where
+    go :
+        (l : List Accepted)
+        → total (λ c. gone c.counts) l
+        ≡ total (λ c. c.counts.settled) l + total (λ c. c.counts.cancelled) l + total (λ c. c.counts.deleted) l + total (λ c. c.counts.suspended) l
+    go [] = refl
+    go (c ∷ rest) = omega (arith, go rest)
 
 none-waiting : sides (fresh .waiting) ≡ 0
 unfolding fresh sides
 none-waiting = refl
 
--- the last part of demand 3
 pub sided :
     (calls : List Call)
     → sidesTaken (callsOn fresh calls)
-    ≡ answers (λ c. c.settled) (callsOn fresh calls) + answers (λ c. c.cancelled) (callsOn fresh calls) + answers (λ c. c.deleted) (callsOn fresh calls)
-    + answers (λ c. c.suspended) (callsOn fresh calls)
+    ≡ sidesSettled (callsOn fresh calls) + sidesCancelled (callsOn fresh calls) + sidesDeleted (callsOn fresh calls) + sidesSuspended (callsOn fresh calls)
     + sides (bookAfter fresh calls .waiting)
 unfolding sidesTaken
-sided calls =
-    let h = callsOn fresh calls in
-    omega (arith, list-keeps calls, gone-in h, none-waiting, records-are takesIn h, answers-are gone fresh calls)
+sided calls = omega (arith, list-keeps calls, gone-in (callsOn fresh calls), none-waiting)

@@ -12,13 +12,13 @@ use Rattle.rulebook.specs.AccountTypes.{pledgedOrBlocked}
 use Rattle.rulebook.specs.Record.{readOf}
 use Rattle.rulebook.specs.Ledger.{Holdings, Ledger, fresh, cashTotal, issuedOf, putDay, held}
 use Rattle.rulebook.specs.declared.Account.{Account}
-use Rattle.rulebook.specs.Movements.{account}
+use Rattle.rulebook.specs.Movements.{account, bookHas}
 use Rattle.rulebook.specs.Forms.{Outcome, effect}
 use Rattle.rulebook.specs.Refusals.{refusals}
 use Rattle.rulebook.specs.Call.{putMinute}
-use Rattle.rulebook.specs.Calls.{Call, callsOn, bookAfter, records, sharesIn, cashIn, putIn, released, kept}
+use Rattle.rulebook.specs.Calls.{Call, callsOn, bookAfter, Accepted, sum, sharesOf, cashOfForm, issues, deposits, withdrawals, payIns, payOuts, putIn, released}
 use Rattle.rulebook.specs.Premise.{Premise}
-use Rattle.rulebook.proofs.ByCall.{by-call, records-are, none-in}
+use Rattle.rulebook.proofs.ByCall.{acceptedCall, by-call, sum-none}
 use Rattle.rulebook.proofs.Sums.{none-held, held-exact, none-paid, cash-exact}
 use Rattle.rulebook.proofs.Steps.OneCall.{sharesAt, cashAt, putInAt, releasedAt, Step, step-issued}
 use Rattle.rulebook.proofs.Steps.{order-step}
@@ -27,61 +27,57 @@ use Rattle.rulebook.proofs.EveryCall.{fresh-premise, order-premise}
 -- what each step keeps, a list of calls keeps
 module _
     (keeps : Holdings → ℕ)
-    (comes goes : Order → ℕ)
-    (law : (b : Ledger) (o : Order) (x : Outcome) → Step o.form b o x → comes o + keeps b.holdings ≡ goes o + keeps x.after.holdings)
+    (comes goes : Accepted → ℕ)
+    (law :
+    (b : Ledger) (o : Order) (area : List ℕ) → Step o.form b o (effect b o)
+    → comes (acceptedCall b o area) + keeps b.holdings ≡ goes (acceptedCall b o area) + keeps (effect b o .after .holdings))
   where
     list-step :
-        (b : Ledger) (o : Order) (bytes : List ℕ) → Premise b → readOf bytes ≡ Read.Order o → first (refusals b o) ≡ 0
-        → Premise (putMinute o.minute (effect b o .after)) × (comes o + keeps b.holdings ≡ goes o + keeps (putMinute o.minute (effect b o .after) .holdings))
+        (b : Ledger) (o : Order) (bytes area : List ℕ) → Premise b → readOf bytes ≡ Read.Order o → first (refusals b o) ≡ 0
+        → Premise (putMinute o.minute (effect b o .after))
+        × (comes (acceptedCall b o area) + keeps b.holdings ≡ goes (acceptedCall b o area) + keeps (putMinute o.minute (effect b o .after) .holdings))
     unfolding putMinute putDay
-    list-step b o bytes p e z = (unfold putMinute putDay in order-premise b o bytes p e z, law b o (effect b o) (order-step b o bytes p e z))
+    list-step b o bytes area p e z = (unfold putMinute putDay in order-premise b o bytes p e z, law b o area (order-step b o bytes p e z))
 
-    by-step :
-        keeps (fresh .holdings) ≡ 0 → (calls : List Call) → keeps (bookAfter fresh calls .holdings) + records goes (callsOn fresh calls) ≡ records comes (callsOn fresh calls)
-    by-step z calls =
-        omega (
-          arith,
-          z,
-          by-call Premise (λ b. keeps b.holdings) (λ o c. comes o) (λ o c. goes o) list-step fresh fresh-premise calls,
-          records-are comes (callsOn fresh calls),
-          records-are goes (callsOn fresh calls),
-        )
+    pub by-step : keeps (fresh .holdings) ≡ 0 → (calls : List Call) → keeps (bookAfter fresh calls .holdings) + sum goes (callsOn fresh calls) ≡ sum comes (callsOn fresh calls)
+    by-step z calls = omega (arith, z, by-call Premise (λ b. keeps b.holdings) comes goes list-step fresh fresh-premise calls)
 
--- held = deposits − withdrawals
-pub custody : (s : ℕ) (calls : List Call) → held s (bookAfter fresh calls .holdings) + sharesIn 4 s (callsOn fresh calls) ≡ sharesIn 3 s (callsOn fresh calls)
-unfolding sharesIn
+-- held is deposits less withdrawals
+pub custody : (s : ℕ) (calls : List Call) → held s (bookAfter fresh calls .holdings) + withdrawals s (callsOn fresh calls) ≡ deposits s (callsOn fresh calls)
+unfolding withdrawals deposits
 custody s =
-    by-step (held s) (λ o. sharesAt 3 s o.form o) (λ o. sharesAt 4 s o.form o)
-    (λ b o x t. omega (arith, held-exact s (t .moves) b.holdings x.after.holdings (t .proper) (t .changes), t .figures .held s))
+    by-step (held s) (sharesOf 3 s) (sharesOf 4 s)
+    (λ b o area t. unfold sharesOf in omega (arith, held-exact s (t .moves) b.holdings (effect b o .after .holdings) (t .proper) (t .changes), t .figures .held s))
     (none-held s)
 
--- Issued, the book's count, is the quantity of the security's form 2
-pub issued : (s : ℕ) (calls : List Call) → issuedOf s (bookAfter fresh calls .holdings) ≡ sharesIn 2 s (callsOn fresh calls)
-unfolding sharesIn
+-- the issued count is what was admitted
+pub issued : (s : ℕ) (calls : List Call) → issuedOf s (bookAfter fresh calls .holdings) ≡ issues s (callsOn fresh calls)
+unfolding issues
 issued s calls =
     let l =
-    by-step (issuedOf s) (λ o. sharesAt 2 s o.form o) (λ o. 0) (λ b o x t. omega (arith, step-issued o.form b o x t s)) (unfold issuedOf fresh in refl) calls
+    by-step (issuedOf s) (sharesOf 2 s) (λ c. 0) (λ b o area t. unfold sharesOf in omega (arith, step-issued o.form b o (effect b o) t s))
+    (unfold issuedOf fresh in refl) calls
     in
-    omega (arith, l, records-are (λ o. 0) (callsOn fresh calls), none-in (callsOn fresh calls))
+    omega (arith, l, sum-none (callsOn fresh calls))
 
--- cash = pay-ins − pay-outs
-pub cash : (c : ℕ) (calls : List Call) → cashTotal c (bookAfter fresh calls .holdings) + cashIn 11 c (callsOn fresh calls) ≡ cashIn 10 c (callsOn fresh calls)
-unfolding cashIn
+-- cash is pay-ins less pay-outs
+pub cash : (c : ℕ) (calls : List Call) → cashTotal c (bookAfter fresh calls .holdings) + payOuts c (callsOn fresh calls) ≡ payIns c (callsOn fresh calls)
+unfolding payOuts payIns
 cash c =
-    by-step (cashTotal c) (λ o. cashAt 10 c o.form o) (λ o. cashAt 11 c o.form o)
-    (λ b o x t. omega (arith, cash-exact (t .moves) b.holdings x.after.holdings (t .proper) (t .changes) c, t .figures .cash c))
+    by-step (cashTotal c) (cashOfForm 10 c) (cashOfForm 11 c)
+    (λ b o area t. unfold cashOfForm in omega (arith, cash-exact (t .moves) b.holdings (effect b o .after .holdings) (t .proper) (t .changes) c, t .figures .cash c))
     (none-paid c)
 
 T-true : (t : Bool) → T t → t ≡ true
 T-true true h = refl
 T-true false h = absurd h
 
--- pledged or blocked = put in − released
+-- a pledged or blocked account holds what was put in less what was released
 pub pledged :
     (a : Account) → T (pledgedOrBlocked a.typ) → (calls : List Call)
     → bookAfter fresh calls .holdings .balance a + released a (callsOn fresh calls) ≡ putIn a (callsOn fresh calls)
-unfolding putIn released kept fresh
+unfolding putIn released fresh
 pledged a t =
-    by-step (λ h. h.balance a) (λ o. putInAt a o.form o) (λ o. releasedAt a o.form o)
-    (λ b o x u. let p = u .figures .pledged a (T-true (pledgedOrBlocked a.typ) t) in omega (arith, u .changes (account a), p .0, p .1))
+    by-step (λ h. h.balance a) (λ c. putInAt a c.order.form c.order) (λ c. releasedAt a c.order.form c.order)
+    (λ b o area u. let p = u .figures .pledged a (T-true (pledgedOrBlocked a.typ) t) in omega (arith, u .changes (account a), p .0, p .1))
     refl

@@ -5,7 +5,7 @@ use Prim.Native.Nat.{ℕ, _+_, _-_, _^_}
 use Rattle.rulebook.specs.declared.Security.{Security}
 use Rattle.rulebook.specs.declared.Order.{Order}
 use Rattle.rulebook.specs.Ledger.{Holdings, Ledger, fresh, counted, putCash, putSecurities, putOutside}
-use Rattle.rulebook.specs.Movements.{Place, account, type91, type90, cashOf, member0, Movement, credit, debit}
+use Rattle.rulebook.specs.Movements.{Place, account, type91, type90, cashOf, member0, Movement, credit, debit, putAt}
 use Rattle.rulebook.specs.Forms.{Outcome}
 use Rattle.rulebook.specs.Premise.{accountCount}
 use Rattle.rulebook.proofs.Held.{sum-zero, accounts-put}
@@ -20,21 +20,13 @@ pub fresh-counted : Counted (fresh .holdings)
 unfolding accountCount fresh counted
 fresh-counted = sym (sum-zero (2 ^ 14) _ (λ s. sum-zero (2 ^ 10) _ (λ m. sum-zero (2 ^ 8) _ (λ t. sum-zero (2 ^ 30) _ (λ k. refl)))))
 
-credit-counted : (q : Place) (n : ℕ) (h : Holdings) → Proper q → Counted h → Counted (credit q n h)
-unfolding credit accountCount putCash putSecurities putOutside
-credit-counted (account a) n h f e = accounts-put h a (h.balance a + n) (f .0) (f .1) (f .2) (f .3) e
-credit-counted (type91 s) n h f e = e
-credit-counted (type90 s) n h f e = e
-credit-counted (cashOf m c) n h f e = e
-credit-counted (member0 c) n h f e = e
-
-debit-counted : (q : Place) (n : ℕ) (h : Holdings) → Proper q → Counted h → Counted (debit q n h)
-unfolding debit accountCount putCash putSecurities putOutside
-debit-counted (account a) n h f e = accounts-put h a (h.balance a - n) (f .0) (f .1) (f .2) (f .3) e
-debit-counted (type91 s) n h f e = e
-debit-counted (type90 s) n h f e = e
-debit-counted (cashOf m c) n h f e = e
-debit-counted (member0 c) n h f e = e
+put-counted : (q : Place) (v : ℕ) (h : Holdings) → Proper q → Counted h → Counted (putAt q v h)
+unfolding accountCount putCash putSecurities putOutside
+put-counted (account a) v h f e = accounts-put h a v (f .0) (f .1) (f .2) (f .3) e
+put-counted (type91 s) v h f e = e
+put-counted (type90 s) v h f e = e
+put-counted (cashOf m c) v h f e = e
+put-counted (member0 c) v h f e = e
 
 both-proper : (ms : List Movement) → AllProper ms → Both Proper ms
 both-proper [] f = tt
@@ -48,4 +40,4 @@ listed-counted xs h e = e
 pub step-counted : (n : ℕ) (b : Ledger) (o : Order) (x : Outcome) → Step n b o x → Counted b.holdings → Counted x.after.holdings
 step-counted n b o x t e =
     subst Counted (sym (t .holds))
-    (booked-keeps Proper Counted credit-counted debit-counted (t .moves) (both-proper (t .moves) (t .proper)) (putSecurities (t .listed) b.holdings) (listed-counted (t .listed) b.holdings e))
+    (booked-keeps Proper Counted (λ q n h. unfold credit in put-counted q _ h) (λ q n h. unfold debit in put-counted q _ h) (t .moves) (both-proper (t .moves) (t .proper)) (putSecurities (t .listed) b.holdings) (listed-counted (t .listed) b.holdings e))

@@ -1,20 +1,21 @@
 -- Part 7 of the premise: the day, and that a minute which is accepted is within office hours. Assumes nothing.
-use mathlib.Core.Path.{_≡_, refl}
+use mathlib.Core.Path.{_≡_, refl, sym, subst}
 use mathlib.Core.Bool.{Bool, true, false, false≢true}
-use mathlib.Core.List.{List, [], _∷_}
-use Prim.Native.Nat.{ℕ, zero, suc, _-_, _≤_, _<_}
+use Prim.Native.Nat.{ℕ, _≤_}
 use native.Mathlib.Omega.{arith}
 use borrow.Author.Tests.{eqb-false}
-use lib.ListN.{getD}
 use Rattle.rulebook.specs.declared.Order.{Order}
 use Rattle.rulebook.specs.Lists.{if_then_else_, _is_}
-use Rattle.rulebook.specs.Record.{used, usedFields, most}
+use Rattle.rulebook.specs.Field as Field
 use Rattle.rulebook.specs.Ledger.{Ledger, fresh, putDay}
-use Rattle.rulebook.specs.Windows.{byKind, cycleMinutes, officeEnd, windowOf}
+use Rattle.rulebook.specs.Windows.{byKind, cycleMinutes, officeEnd, officeHours, counterHours, paymentHours}
 use Rattle.rulebook.specs.Call.{putMinute}
-use Rattle.rulebook.specs.Forms.{outcome, silent, openDay, cycle, close}
+use Rattle.rulebook.specs.Forms.{Form, outcome, silent, openDay, cycle, close, forms, rowOf, used, least, most, windowOf}
 use Rattle.rulebook.specs.Premise.{DayFits}
-use Rattle.rulebook.proofs.Orders.{Accepted, uses, opens-next, cycles-left, in-window}
+use Rattle.rulebook.specs.declared.Day.{Day}
+use Rattle.rulebook.proofs.Lists.{_and_}
+use Rattle.rulebook.proofs.ByCall.{AllForms, window-at, by-form}
+use Rattle.rulebook.proofs.Orders.{Accepted, needed, opens-next, cycles-left, in-window}
 
 -- the day with the minute of the call
 abbrev pub DayAt : ℕ → Ledger → Type 0
@@ -32,18 +33,7 @@ fresh-day = record {
   office = λ e. absurd (false≢true e);
 }
 
--- every window but that of the close ends in office hours
-
-abbrev Ends : ℕ → ℕ → List (ℕ × ℕ) → Type 0
-Ends zero e ws = Unit {0}
-Ends (suc n) e [] = Unit {0}
-Ends (suc n) e (w ∷ rest) = (w .1 ≤ e) × Ends n e rest
-
-end-at : (n e : ℕ) (ws : List (ℕ × ℕ)) (i : ℕ) → Ends n e ws → i < n → getD ws i (0, 0) .1 ≤ e
-end-at zero e ws i f l = absurd (omega arith)
-end-at (suc n) e [] i f l = omega arith
-end-at (suc n) e (w ∷ rest) zero f l = f .0
-end-at (suc n) e (w ∷ rest) (suc i) f l = end-at n e rest i (f .1) (omega arith)
+-- office hours end after 480, and after every shorter time
 
 kind-end : (k x y : ℕ) → x ≤ 960 → y ≤ 900 → byKind k x y ≤ officeEnd k
 unfolding byKind officeEnd
@@ -65,47 +55,50 @@ either-end : (t : Bool) (p q : ℕ × ℕ) (e : ℕ) → p .1 ≤ e → q .1 ≤
 either-end true p q e l m = l
 either-end false p q e l m = m
 
-window-end : (b : Ledger) (o : Order) → o.form ≤ 16 → windowOf b.day o .1 ≤ officeEnd b.day.kind
+-- every window but that of the close ends in office hours
+abbrev Ends : ℕ → Form → Type 0
+Ends n f = (n is 17) ≡ false → (d : Day) (o : Order) → f.window d o .1 ≤ officeEnd d.kind
+
+all-end : AllForms Ends 1 forms
+unfolding forms rowOf
+all-end =
+    (λ _ d o. office-least d.kind) and office and counter and counter and counter and counter and counter and counter and counter and office and office
+    and payment and payment and office and office and (λ _ d o. omega arith) and (λ e. absurd (false≢true (sym e))) and tt
+  where
+    office : false ≡ false → (d : Day) (o : Order) → officeHours d o .1 ≤ officeEnd d.kind
+    office _ d o = omega arith
+
+    counter : false ≡ false → (d : Day) (o : Order) → counterHours d o .1 ≤ officeEnd d.kind
+    counter _ d o = kind-end d.kind 870 750 (omega arith) (omega arith)
+
+    payment : false ≡ false → (d : Day) (o : Order) → paymentHours d o .1 ≤ officeEnd d.kind
+    payment _ d o =
+        either-end (o.«settlement_day» is d.number) (480, byKind d.kind 825 705) (officeHours d o) (officeEnd d.kind)
+        (kind-end d.kind 825 705 (omega arith) (omega arith)) (omega arith)
+
+window-end : (n : ℕ) (b : Ledger) (o : Order) → o.form ≡ n → (n is 17) ≡ false → windowOf b.day o .1 ≤ officeEnd b.day.kind
 unfolding windowOf
-window-end b o l =
-    let k = b.day.kind in
-    let office : ℕ × ℕ = (480, officeEnd k) in
-    let counter : ℕ × ℕ = (510, byKind k 870 750) in
-    let payment : ℕ × ℕ = if o.«settlement_day» is b.day.number then (480, byKind k 825 705) else office in
-    let cycle : ℕ × ℕ = (getD (cycleMinutes k) b.day.cycles 0, officeEnd k) in
-    let windows : List (ℕ × ℕ) =
-    (0, 480) ∷ office ∷ counter ∷ counter ∷ counter ∷ counter ∷ counter ∷ counter ∷ counter ∷ office ∷ office ∷ payment ∷ payment ∷ office ∷ office
-    ∷ cycle ∷ (officeEnd k, 1439) ∷ []
-    in
-    let f : officeEnd k ≤ officeEnd k = omega arith in
-    let c : byKind k 870 750 ≤ officeEnd k = kind-end k 870 750 (omega arith) (omega arith) in
-    let p : payment .1 ≤ officeEnd k =
-    either-end (o.«settlement_day» is b.day.number) (480, byKind k 825 705) office (officeEnd k) (kind-end k 825 705 (omega arith) (omega arith)) f
-    in
-    let ends : Ends 16 (officeEnd k) windows =
-    (office-least k, (f, (c, (c, (c, (c, (c, (c, (c, (f, (f, (p, (p, (f, (f, (f, tt))))))))))))))))
-    in
-    end-at 16 (officeEnd k) windows (o.form - 1) ends (omega arith)
+window-end n b o e t = by-form Ends all-end (λ m none _ d o. omega arith) o.form (rw e t) b.day o
 
 -- a form that leaves the day as it is
-pub same-day : (b : Ledger) (o : Order) → o.form ≤ 16 → DayFits b.day → Accepted b o → DayAt o.minute b
+pub same-day : (n : ℕ) (b : Ledger) (o : Order) → o.form ≡ n → (n is 17) ≡ false → DayFits b.day → Accepted b o → DayAt o.minute b
 unfolding putMinute putDay
-same-day b o l d a = record {
+same-day n b o e t d a = record {
   number = d.number;
   kind = d.kind;
   cycles = d.cycles;
   minute = a.ranges.minute;
   number-least = d.number-least;
   kind-least = d.kind-least;
-  office = λ _. omega (arith, in-window b o a.window, window-end b o l);
+  office = λ _. omega (arith, in-window b o a.window, window-end n b o e t);
 }
 
 pub open-day : (b : Ledger) (o : Order) → o.form ≡ 1 → DayFits b.day → Accepted b o → DayAt o.minute (openDay b o .after)
-unfolding openDay silent outcome putMinute putDay used usedFields windowOf most
+unfolding openDay silent outcome putMinute putDay used least windowOf most forms rowOf
 open-day b o e d a =
     let c = eqb-false b.day.number 60_000 (opens-next b o e a.right-day .1) in
-    let q = a.ranges.quantity (uses 1 10 o e true refl) in
-    let w : o.minute ≤ 480 = simp e at (in-window b o a.window) in
+    let q = a.ranges.quantity (needed 1 Field.quantity o e refl) in
+    let w : o.minute ≤ 480 = subst (λ (x : ℕ × ℕ). o.minute ≤ x .1) (window-at 1 b.day o e) (in-window b o a.window) in
     record {
       number = omega (arith, d.number, c);
       kind = simp e at (q .1);
@@ -125,7 +118,7 @@ cycle-day b o e d a = record {
   minute = a.ranges.minute;
   number-least = d.number-least;
   kind-least = d.kind-least;
-  office = λ _. omega (arith, in-window b o a.window, window-end b o (omega arith));
+  office = λ _. omega (arith, in-window b o a.window, window-end 16 b o e refl);
 }
 
 pub close-day : (b : Ledger) (o : Order) → DayFits b.day → Accepted b o → DayAt o.minute (close b o .after)

@@ -15,7 +15,7 @@ use Rattle.rulebook.specs.Ledger.{Holdings, admitted}
 use Rattle.rulebook.specs.Waiting.{isDeliver, isReceive, ownReference, withState, marked, marking, unmarked, sentBy}
 use Rattle.rulebook.specs.Matching.{agree, pairsWith, pairOf, arrive}
 use Rattle.rulebook.specs.Close.{closeKind, leaves}
-use Rattle.rulebook.specs.Premise.{Each, SingleFits, StateFits, ItemFits, PartyNamed}
+use Rattle.rulebook.specs.Premise.{Each, SingleFits, StateFits, ItemFits, PartyNamed, NotOverdue}
 use Rattle.rulebook.proofs.Lists.{both, each-append, each-map, each-kept}
 use Rattle.rulebook.proofs.Types.{Quiet, zero-quiet, free-quiet, free-fits, alike-free}
 
@@ -100,25 +100,19 @@ arrive-each P pair limit new f (w ∷ rest) e = go (pairsWith limit new w) refl 
 -- later, with more securities, in another state
 pub item-state :
     (n n′ t t′ : ℕ) (h h′ : Holdings) → n ≤ n′ → ((c : ℕ) → admitted c h ≡ true → admitted c h′ ≡ true) → (i : Item) (x : State)
-    → StateFits t′ i.«settlement_day» i.security i.debited i.credited x → ItemFits n t h i → ItemFits n′ t′ h′ (withState x i)
+    → StateFits i.security i.debited i.credited x → NotOverdue t′ i.«settlement_day» x → ItemFits n t h i → ItemFits n′ t′ h′ (withState x i)
 unfolding withState
-item-state n n′ t t′ h h′ l a i x s f = record {
-  security = a i.security f.security;
-  security-least = f.security-least;
-  security-most = f.security-most;
-  currency-least = f.currency-least;
-  currency-most = f.currency-most;
-  debited = f.debited;
-  credited = f.credited;
-  quantity-least = f.quantity-least;
-  quantity = f.quantity;
-  amount-least = f.amount-least;
-  amount = f.amount;
-  traded-least = f.traded-least;
-  «trade_day» = omega (arith, f.«trade_day»);
-  settles-least = f.settles-least;
-  «settlement_day» = omega (arith, f.«settlement_day»);
+item-state n n′ t t′ h h′ l a i x s d f = record {
+  listed = a i.security f.listed;
+  terms = f.terms;
+  days = record {
+    traded-least = f.days.traded-least;
+    traded-most = omega (arith, f.days.traded-most);
+    settles-least = f.days.settles-least;
+    settles-most = omega (arith, f.days.settles-most);
+  };
   state = s;
+  due = d;
 }
 
 -- in its own state
@@ -126,23 +120,29 @@ pub item-later :
     (n n′ t t′ : ℕ) (h h′ : Holdings) → n ≤ n′ → t′ ≡ t → ((c : ℕ) → admitted c h ≡ true → admitted c h′ ≡ true) → (i : Item) → ItemFits n t h i → ItemFits n′ t′ h′ i
 unfolding withState
 item-later n n′ t t′ h h′ l e a i f =
-    item-state n n′ t t′ h h′ l a i i.state (subst (λ (x : ℕ). StateFits x i.«settlement_day» i.security i.debited i.credited i.state) (sym e) f.state) f
+    item-state n n′ t t′ h h′ l a i i.state f.state (subst (λ (x : ℕ). NotOverdue x i.«settlement_day» i.state) (sym e) f.due) f
 
+-- a mark changes neither
 mark-state :
-    (t sender : ℕ) (i : Item) (x : State) → StateFits t i.«settlement_day» i.security i.debited i.credited x
-    → StateFits t i.«settlement_day» i.security i.debited i.credited (marked sender (withState x i) .state)
+    (t sender : ℕ) (i : Item) (x : State) → StateFits i.security i.debited i.credited x → NotOverdue t i.«settlement_day» x
+    → StateFits i.security i.debited i.credited (marked sender (withState x i) .state) × NotOverdue t i.«settlement_day» (marked sender (withState x i) .state)
 unfolding marked withState
-mark-state t sender i (Single d r) f = f
-mark-state t sender i (Pair d r dm rm) f = go (sender is i.debited.member)
+mark-state t sender i (Single d r) f g = (f, g)
+mark-state t sender i (Pair d r dm rm) f g = go (sender is i.debited.member)
   where
-    go : (b : Bool) → StateFits t i.«settlement_day» i.security i.debited i.credited (if b then Pair d r true rm else Pair d r dm true)
-    go true = f
-    go false = f
-mark-state t sender i (Trade r) f = f
+    go :
+        (b : Bool)
+        → StateFits i.security i.debited i.credited (if b then Pair d r true rm else Pair d r dm true)
+        × NotOverdue t i.«settlement_day» (if b then Pair d r true rm else Pair d r dm true)
+    go true = (f, g)
+    go false = (f, g)
+mark-state t sender i (Trade r) f g = (f, g)
 
 marked-fits : (n t : ℕ) (h : Holdings) (sender : ℕ) (i : Item) → ItemFits n t h i → ItemFits n t h (marked sender i)
 unfolding marked withState
-marked-fits n t h sender i f = item-state n n t t h h (omega arith) (λ c e. e) i (marked sender i .state) (mark-state t sender i i.state f.state) f
+marked-fits n t h sender i f =
+    let m = mark-state t sender i i.state f.state f.due in
+    item-state n n t t h h (omega arith) (λ c e. e) i (marked sender i .state) (m .0) (m .1) f
 
 pub marking-fits : (n t : ℕ) (h : Holdings) (sender reference : ℕ) (ws : List Item) → Each (ItemFits n t h) ws → Each (ItemFits n t h) (marking sender reference ws)
 unfolding marking
@@ -158,38 +158,27 @@ is-no : (x : Bool) (n : ℕ) → (if x then suc n else 0) ≡ 0 → x ≡ false
 is-no true n e = absurd (omega arith)
 is-no false n e = refl
 
-next-state :
-    (day : ℕ) (i : Item) (x : State) → closeKind day (withState x i) ≡ 0 → StateFits day i.«settlement_day» i.security i.debited i.credited x
-    → StateFits (day + 1) i.«settlement_day» i.security i.debited i.credited (unmarked (withState x i) .state)
+unmark-state :
+    (i : Item) (x : State) → StateFits i.security i.debited i.credited x → StateFits i.security i.debited i.credited (unmarked (withState x i) .state)
+unfolding unmarked withState
+unmark-state i (Single d r) f = f
+unmark-state i (Pair d r dm rm) f = f
+unmark-state i (Trade r) f = f
+
+next-due :
+    (day : ℕ) (i : Item) (x : State) → closeKind day (withState x i) ≡ 0 → NotOverdue day i.«settlement_day» x
+    → NotOverdue (day + 1) i.«settlement_day» (unmarked (withState x i) .state)
 unfolding closeKind unmarked withState
-next-state day i (Single d r) k f =
-    let z = eqb-false i.«settlement_day» day (is-no (i.«settlement_day» is day) 0 k) in
-    record {
-      named = f.named;
-      own = f.own;
-      other = f.other;
-      shareholders = f.shareholders;
-      members = f.members;
-      due = omega (arith, f.due, z);
-    }
-next-state day i (Pair d r dm rm) k f =
-    let z = eqb-false day (i.«settlement_day» + 10) (is-no (day is (i.«settlement_day» + 10)) 1 k) in
-    record {
-      deliver-named = f.deliver-named;
-      receive-named = f.receive-named;
-      types = f.types;
-      shareholders = f.shareholders;
-      members = f.members;
-      due = omega (arith, f.due, z);
-    }
-next-state day i (Trade r) k f =
-    let z = leb-false i.«settlement_day» day (is-no (i.«settlement_day» atMost day) 2 k) in
-    record { named = f.named; types = f.types; apart = f.apart; due = omega (arith, z) }
+next-due day i (Single d r) k f = omega (arith, f, eqb-false i.«settlement_day» day (is-no (i.«settlement_day» is day) 0 k))
+next-due day i (Pair d r dm rm) k f =
+    omega (arith, f, eqb-false day (i.«settlement_day» + 10) (is-no (day is (i.«settlement_day» + 10)) 1 k))
+next-due day i (Trade r) k f = omega (arith, leb-false i.«settlement_day» day (is-no (i.«settlement_day» atMost day) 2 k))
 
 next-fits : (day : ℕ) (h : Holdings) (i : Item) → not (leaves day i) ≡ true → ItemFits day day h i → ItemFits day (day + 1) h (unmarked i)
 unfolding leaves unmarked withState
 next-fits day h i e f =
-    item-state day day day (day + 1) h h (omega arith) (λ c e. e) i (unmarked i .state) (next-state day i i.state (eqb-true _ 0 (not-false _ (not-true _ e))) f.state) f
+    item-state day day day (day + 1) h h (omega arith) (λ c e. e) i (unmarked i .state) (unmark-state i i.state f.state)
+    (next-due day i i.state (eqb-true _ 0 (not-false _ (not-true _ e))) f.due) f
 
 pub close-fits :
     (day : ℕ) (h : Holdings) (ws : List Item) → Each (ItemFits day day h) ws
@@ -201,50 +190,48 @@ close-fits day h ws e =
 -- pairs
 
 deliver-state :
-    (t s σ : ℕ) (d c : Party) (x : State) → isDeliver x ≡ true → StateFits t s σ d c x → SingleFits t s d c true (ownReference x)
+    (t s σ : ℕ) (d c : Party) (x : State) → isDeliver x ≡ true → StateFits σ d c x → NotOverdue t s x → SingleFits d c true (ownReference x) × (t ≤ s)
 unfolding isDeliver ownReference
-deliver-state t s σ d c (Single true r) e f = f
-deliver-state t s σ d c (Single false r) e f = absurd (false≢true e)
-deliver-state t s σ d c (Pair x y dm rm) e f = absurd (false≢true e)
-deliver-state t s σ d c (Trade r) e f = absurd (false≢true e)
+deliver-state t s σ d c (Single true r) e f g = (f, g)
+deliver-state t s σ d c (Single false r) e f g = absurd (false≢true e)
+deliver-state t s σ d c (Pair x y dm rm) e f g = absurd (false≢true e)
+deliver-state t s σ d c (Trade r) e f g = absurd (false≢true e)
 
-receive-state :
-    (t s σ : ℕ) (d c : Party) (x : State) → isReceive x ≡ true → StateFits t s σ d c x → SingleFits t s d c false (ownReference x)
+receive-state : (σ : ℕ) (d c : Party) (x : State) → isReceive x ≡ true → StateFits σ d c x → SingleFits d c false (ownReference x)
 unfolding isReceive ownReference
-receive-state t s σ d c (Single true r) e f = absurd (false≢true e)
-receive-state t s σ d c (Single false r) e f = f
-receive-state t s σ d c (Pair x y dm rm) e f = absurd (false≢true e)
-receive-state t s σ d c (Trade r) e f = absurd (false≢true e)
+receive-state σ d c (Single true r) e f = absurd (false≢true e)
+receive-state σ d c (Single false r) e f = f
+receive-state σ d c (Pair x y dm rm) e f = absurd (false≢true e)
+receive-state σ d c (Trade r) e f = absurd (false≢true e)
 
 pair-fits : (n t : ℕ) (h : Holdings) (d r : Item) → Agreed d r → ItemFits n t h d → ItemFits n t h r → ItemFits n t h (pairOf d r)
 unfolding pairOf
 pair-fits n t h d r a f g =
-    let x = deliver-state t d.«settlement_day» d.security d.debited d.credited d.state (a .delivers) f.state in
-    let y = receive-state t r.«settlement_day» r.security r.debited r.credited r.state (a .receives) g.state in
+    let x = deliver-state t d.«settlement_day» d.security d.debited d.credited d.state (a .delivers) f.state f.due in
+    let y = receive-state r.security r.debited r.credited r.state (a .receives) g.state in
     record {
-      security = f.security;
-      security-least = f.security-least;
-      security-most = f.security-most;
-      currency-least = f.currency-least;
-      currency-most = f.currency-most;
-      debited = f.debited;
-      credited = g.credited;
-      quantity-least = f.quantity-least;
-      quantity = f.quantity;
-      amount-least = g.amount-least;
-      amount = g.amount;
-      traded-least = f.traded-least;
-      «trade_day» = f.«trade_day»;
-      settles-least = f.settles-least;
-      «settlement_day» = f.«settlement_day»;
+      listed = f.listed;
+      terms = record {
+        security-least = f.terms.security-least;
+        security-most = f.terms.security-most;
+        currency-least = f.terms.currency-least;
+        currency-most = f.terms.currency-most;
+        debited-named = f.terms.debited-named;
+        credited-named = g.terms.credited-named;
+        quantity-least = f.terms.quantity-least;
+        quantity-most = f.terms.quantity-most;
+        amount-least = g.terms.amount-least;
+        amount-most = g.terms.amount-most;
+      };
+      days = f.days;
       state = record {
-        deliver-named = x.named;
+        deliver-named = x .0 .named;
         receive-named = y.named;
         types = a .types;
         shareholders = a .shareholders;
-        members = subst (λ (k : ℕ). (d.debited.member is k) ≡ false) (a .credited-members) x.members;
-        due = omega (arith, x.due);
+        members = subst (λ (k : ℕ). (d.debited.member is k) ≡ false) (a .credited-members) (x .0 .members);
       };
+      due = omega (arith, x .1);
     }
 
 pub arrive-fits :
@@ -278,25 +265,24 @@ free-posts p f e = party-posts p f (free-fits p.typ e) (free-quiet p.typ e)
 no-type-posts : (p : Party) → PartyNamed p → p.typ ≡ 0 → PartyPosts p
 no-type-posts p f e = party-posts p f (omega arith) (subst Quiet (sym e) zero-quiet)
 
-parties-post :
-    (t s σ : ℕ) (d c : Party) (x : State) → PartyNamed d → PartyNamed c → StateFits t s σ d c x → PartyPosts d × PartyPosts c
-parties-post t s σ d c (Single true r) p q f = (free-posts d p f.own, no-type-posts c q f.other)
-parties-post t s σ d c (Single false r) p q f = (no-type-posts d p f.other, free-posts c q f.own)
-parties-post t s σ d c (Pair x y dm rm) p q f =
+parties-post : (σ : ℕ) (d c : Party) (x : State) → PartyNamed d → PartyNamed c → StateFits σ d c x → PartyPosts d × PartyPosts c
+parties-post σ d c (Single true r) p q f = (free-posts d p f.own, no-type-posts c q f.other)
+parties-post σ d c (Single false r) p q f = (no-type-posts d p f.other, free-posts c q f.own)
+parties-post σ d c (Pair x y dm rm) p q f =
     let z = alike-free d.typ c.typ f.types in
     (free-posts d p (z .0), free-posts c q (z .1))
-parties-post t s σ d c (Trade r) p q f =
+parties-post σ d c (Trade r) p q f =
     let z = alike-free d.typ c.typ f.types in
     (free-posts d p (z .0), free-posts c q (z .1))
 
 pub item-posts : (n t : ℕ) (h : Holdings) (i : Item) → ItemFits n t h i → ItemPosts i
 item-posts n t h i f =
-    let p = parties-post t i.«settlement_day» i.security i.debited i.credited i.state f.debited f.credited f.state in
+    let p = parties-post i.security i.debited i.credited i.state f.terms.debited-named f.terms.credited-named f.state in
     record {
-      security = f.security-most;
-      currency = omega (arith, f.currency-most);
+      security = f.terms.security-most;
+      currency = omega (arith, f.terms.currency-most);
       debited = p .0;
       credited = p .1;
-      quantity = f.quantity;
-      amount = f.amount;
+      quantity = f.terms.quantity-most;
+      amount = f.terms.amount-most;
     }

@@ -11,21 +11,21 @@ use Rattle.rulebook.specs.declared.State.{State}
 use Rattle.rulebook.specs.declared.State.the-variants.{Single, Pair, Trade}
 use Rattle.rulebook.specs.Lists.{_is_, within, keep}
 use Rattle.rulebook.specs.AccountTypes.{alike, wrongTypes}
-use Rattle.rulebook.specs.Record.{D, C, usedFields, used}
+use Rattle.rulebook.specs.Field as Field
 use Rattle.rulebook.specs.Ledger.{Ledger, Holdings, accountOf, admitted, putDay, putHoldings, putWaiting, putSecurities}
 use Rattle.rulebook.specs.Movements.{Movement, booked}
 use Rattle.rulebook.specs.Waiting.{isTrade, itemOf, senderOf, sentBy, marking, staying, bothMarked}
 use Rattle.rulebook.specs.Matching.{tolerance}
 use Rattle.rulebook.specs.Cycle.{buyer, settled, notSettled, legs}
 use Rattle.rulebook.specs.Close.{leaves}
-use Rattle.rulebook.specs.Forms.{outcome, moving, silent, openDay, admit, deposit, withdraw, transfer, payIn, payOut, instruct, trade, cancel, cycle, close, forms, effect}
+use Rattle.rulebook.specs.Forms.{outcome, moving, silent, openDay, admit, deposit, withdraw, transfer, payIn, payOut, instruct, trade, cancel, cycle, close, forms, rowOf, used, least, effect}
 use Rattle.rulebook.specs.Call.{putMinute}
 use Rattle.rulebook.specs.Premise.{Each, SecurityFits, accountType, AccountFits, StateFits, ItemFits, Premise, today}
-use Rattle.rulebook.proofs.ByCall.{Form, AllForms, by-form}
+use Rattle.rulebook.proofs.ByCall.{Effect, AllForms, not-read, by-form}
 use Rattle.rulebook.proofs.Lists.{_and_, total-append, each-so, each-both, each-append, each-kept}
 use Rattle.rulebook.proofs.Rounds.{settled-fits, notSettled-fits, Due, settled-due}
 use Rattle.rulebook.proofs.Types.{free-type, pledged-type, alike-free, deposit-free, transfer-free, pledge-types, release-types, block-types, unblock-types}
-use Rattle.rulebook.proofs.Orders.{Accepted, uses, is-admitted, right-types, is-open, opens-next, none-waits}
+use Rattle.rulebook.proofs.Orders.{Accepted, needs, needed, is-admitted, right-types, is-open, opens-next, none-waits}
 use Rattle.rulebook.proofs.EveryCall.Owners.{Owned, AllGet, still-admitted, booked-admitted, account-admitted, booked-owned}
 use Rattle.rulebook.proofs.EveryCall.References.{Once, arrive-sent, cancel-sent, close-sent, cycle-sent, new-once}
 use Rattle.rulebook.proofs.Halves.{Half, arrive-halves, kept-halves, closed-halves}
@@ -44,7 +44,7 @@ pub record Kept (minute : ℕ) (b : Ledger) : Type 0 where
   pub halves : Each Half b.waiting
   pub day : DayAt minute b
 
-abbrev Keeps : ℕ → Form → Type 0
+abbrev Keeps : ℕ → Effect → Type 0
 Keeps n f = (b : Ledger) (o : Order) → o.form ≡ n → Premise b → Accepted b o → Kept o.minute (f b o .after)
 
 owned-of : (b : Ledger) → Premise b → Owned b.holdings
@@ -64,50 +64,50 @@ moving-kept b minute ms w i r v d g = record {
   day = d;
 }
 
-moves : (n : ℕ) → n ≤ 16 → (b : Ledger) (o : Order) (ms : List Movement) → o.form ≡ n → Premise b → Accepted b o → AllGet b.holdings ms → Kept o.minute (moving ms b .after)
-moves n l b o ms e p a g = moving-kept b o.minute ms (owned-of b p) p.items p.references p.halves (same-day b o (omega arith) p.day a) g
+moves : (n : ℕ) → (n is 17) ≡ false → (b : Ledger) (o : Order) (ms : List Movement) → o.form ≡ n → Premise b → Accepted b o → AllGet b.holdings ms → Kept o.minute (moving ms b .after)
+moves n l b o ms e p a g = moving-kept b o.minute ms (owned-of b p) p.items p.references p.halves (same-day n b o e l p.day a) g
 
 -- the credited account
 credited-fits :
-    (n : ℕ) (b : Ledger) (o : Order) → o.form ≡ n → Accepted b o → (within 3 9 n || within 12 14 n) ≡ true → (n is 2) ≡ false → used n 6 ≡ true → used n 9 ≡ true
+    (n : ℕ) (b : Ledger) (o : Order) → o.form ≡ n → Accepted b o → (within 3 9 n || within 12 14 n) ≡ true → (n is 2) ≡ false → needs n Field.credited-member ≡ true → needs n Field.credited-shareholder ≡ true
     → (wrongTypes n o.debited.typ o.credited.typ ≡ false → accountType o.credited.typ ≡ true) → AccountFits b.holdings (accountOf o.security o.credited)
 unfolding accountOf admitted
 credited-fits n b o e a t t₂ u u₂ f =
-    let c = a.ranges.credited (uses n 6 o e true u) in
+    let c = a.ranges.credited (needed n 6 o e u) in
     record {
       security = is-admitted n b o e t t₂ a.security;
       member-least = c .0;
       member = c .1;
       typ = f (right-types n b o e a.types);
-      shareholder-least = a.ranges.credited-holder (uses n 9 o e true u₂);
+      shareholder-least = a.ranges.credited-holder (needed n 9 o e u₂);
       shareholder = a.fits.credited.shareholder;
     }
 
 deposit-keeps : Keeps 3 deposit
-unfolding deposit used usedFields C
+unfolding deposit used least forms rowOf
 deposit-keeps b o e p a =
-    moves 3 (omega arith) b o _ e p a (credited-fits 3 b o e a refl refl refl refl (λ w. free-type o.credited.typ (deposit-free o.debited.typ o.credited.typ w)), tt)
+    moves 3 refl b o _ e p a (credited-fits 3 b o e a refl refl refl refl (λ w. free-type o.credited.typ (deposit-free o.debited.typ o.credited.typ w)), tt)
 
 withdraw-keeps : Keeps 4 withdraw
 unfolding withdraw
-withdraw-keeps b o e p a = moves 4 (omega arith) b o _ e p a (tt, tt)
+withdraw-keeps b o e p a = moves 4 refl b o _ e p a (tt, tt)
 
 transfer-keeps :
-    (n : ℕ) → n ≤ 16 → (within 3 9 n || within 12 14 n) ≡ true → (n is 2) ≡ false → used n 6 ≡ true → used n 9 ≡ true
+    (n : ℕ) → (n is 17) ≡ false → (within 3 9 n || within 12 14 n) ≡ true → (n is 2) ≡ false → needs n Field.credited-member ≡ true → needs n Field.credited-shareholder ≡ true
     → ((d c : ℕ) → wrongTypes n d c ≡ false → accountType c ≡ true) → Keeps n transfer
 unfolding transfer
 transfer-keeps n l t t₂ u u₂ f b o e p a = moves n l b o _ e p a (credited-fits n b o e a t t₂ u u₂ (f o.debited.typ o.credited.typ), tt)
 
 payIn-keeps : Keeps 10 payIn
-unfolding payIn used usedFields
+unfolding payIn used least forms rowOf
 payIn-keeps b o e p a =
-    let c = a.ranges.credited (uses 10 6 o e true refl) in
-    let v = a.ranges.currency (uses 10 3 o e true refl) in
-    moves 10 (omega arith) b o _ e p a (record { member-least = c .0; member-most = c .1; currency-least = v .0; currency-most = v .1 }, tt)
+    let c = a.ranges.credited (needed 10 Field.credited-member o e refl) in
+    let v = a.ranges.currency (needed 10 Field.currency o e refl) in
+    moves 10 refl b o _ e p a (record { member-least = c .0; member-most = c .1; currency-least = v .0; currency-most = v .1 }, tt)
 
 payOut-keeps : Keeps 11 payOut
 unfolding payOut
-payOut-keeps b o e p a = moves 11 (omega arith) b o _ e p a (tt, tt)
+payOut-keeps b o e p a = moves 11 refl b o _ e p a (tt, tt)
 
 -- form 2
 
@@ -116,15 +116,15 @@ unfolding putSecurities
 admit-more new h c = still-admitted c h (putSecurities (h.securities ++ (new ∷ [])) h) (simp total-append (omega arith))
 
 admit-keeps : Keeps 2 admit
-unfolding admit putHoldings putSecurities used usedFields
+unfolding admit putHoldings putSecurities used least forms rowOf
 admit-keeps b o e p a =
     let new : Security = record { code = o.security; issued = o.quantity; outside = record { 0 = 0 } } in
     let h = putSecurities (b.holdings.securities ++ (new ∷ [])) b.holdings in
     let f : SecurityFits new =
     record {
-      code-least = a.ranges.security (uses 2 2 o e true refl);
+      code-least = a.ranges.security (needed 2 Field.security o e refl);
       code = a.fits.security;
-      issued-least = a.ranges.quantity (uses 2 10 o e true refl) .0;
+      issued-least = a.ranges.quantity (needed 2 Field.quantity o e refl) .0;
       issued = a.fits.quantity;
     }
     in
@@ -137,7 +137,7 @@ admit-keeps b o e p a =
     in
     moving-kept (putHoldings h b) o.minute _ w
     (each-so _ _ (item-later b.day.number b.day.number (today b.day) (today b.day) b.holdings h (omega arith) refl (admit-more new b.holdings)) b.waiting p.items)
-    p.references p.halves (unfold putMinute putDay in same-day b o (omega arith) p.day a) (tt, tt)
+    p.references p.halves (unfold putMinute putDay in same-day 2 b o e refl p.day a) (tt, tt)
 
 -- forms that change what waits
 
@@ -146,12 +146,12 @@ unfolding putWaiting putMinute putDay
 waiting-kept b minute ws p d i r v = record { owned = owned-of b p; items = i; references = r; halves = v; day = d }
 
 instruct-keeps :
-    (n : ℕ) → n ≤ 16 → within 12 14 n ≡ true → (n is 15) ≡ false
+    (n : ℕ) → (n is 17) ≡ false → within 12 14 n ≡ true → (n is 15) ≡ false
     → ((b : Ledger) (o : Order) → Accepted b o → o.form ≡ n → ItemFits b.day.number (today b.day) b.holdings (single o))
     → ((b : Ledger) (o : Order) → Accepted b o → o.form ≡ n → (s r : ℕ) → sentBy s r (single o) ≡ true → (s ≡ senderOf o) × (r ≡ o.reference)) → Keeps n instruct
 unfolding instruct silent outcome
 instruct-keeps n l t t₂ item sender b o e p a =
-    waiting-kept b o.minute _ p (same-day b o (omega arith) p.day a)
+    waiting-kept b o.minute _ p (same-day n b o e l p.day a)
     (arrive-fits _ _ b.holdings (tolerance o.currency) (single o) (item b o a e) b.waiting p.items)
     (λ s r. omega (arith, arrive-sent s r (tolerance o.currency) (single o) b.waiting, new-once (senderOf o) o.reference (single o) b.waiting p.references (none-waits b o n e t t₂ a.reference) (sender b o a e) s r))
     (arrive-halves (tolerance o.currency) (single o) (unfold bothMarked itemOf in refl) b.waiting p.halves)
@@ -160,7 +160,7 @@ trade-keeps : Keeps 14 trade
 unfolding trade silent outcome
 trade-keeps b o e p a =
     let new = itemOf (Trade o.reference) o in
-    waiting-kept b o.minute _ p (same-day b o (omega arith) p.day a)
+    waiting-kept b o.minute _ p (same-day 14 b o e refl p.day a)
     (each-append _ b.waiting _ p.items (trade-item b o a e, tt))
     (λ s r. simp total-append (omega (arith, new-once (senderOf o) o.reference new b.waiting p.references (none-waits b o 14 e refl refl a.reference) (trade-sender b o a e) s r)))
     (each-append Half b.waiting _ p.halves ((unfold bothMarked itemOf in refl), tt))
@@ -168,7 +168,7 @@ trade-keeps b o e p a =
 cancel-keeps : Keeps 15 cancel
 unfolding cancel outcome staying
 cancel-keeps b o e p a =
-    waiting-kept b o.minute _ p (same-day b o (omega arith) p.day a)
+    waiting-kept b o.minute _ p (same-day 15 b o e refl p.day a)
     (each-kept (ItemFits b.day.number (today b.day) b.holdings) (ItemFits b.day.number (today b.day) b.holdings) _ (λ i t f. f) (marking (senderOf o) o.reference b.waiting) (marking-fits _ _ b.holdings (senderOf o) o.reference b.waiting p.items))
     (λ s r. omega (arith, cancel-sent s r (senderOf o) o.reference b.waiting, p.references s r))
     (kept-halves (marking (senderOf o) o.reference b.waiting))
@@ -201,28 +201,28 @@ close-keeps b o e p a =
 
 -- the cycle: its buyers are such accounts, its sellers members with cash
 
-trade-types : (t s σ : ℕ) (i : Item) (x : State) → isTrade x ≡ true → StateFits t s σ i.debited i.credited x → alike i.debited.typ i.credited.typ ≡ true
+trade-types : (σ : ℕ) (i : Item) (x : State) → isTrade x ≡ true → StateFits σ i.debited i.credited x → alike i.debited.typ i.credited.typ ≡ true
 unfolding isTrade
-trade-types t s σ i (Single d r) e f = absurd (false≢true e)
-trade-types t s σ i (Pair d r dm rm) e f = f.types
-trade-types t s σ i (Trade r) e f = f.types
+trade-types σ i (Single d r) e f = absurd (false≢true e)
+trade-types σ i (Pair d r dm rm) e f = f.types
+trade-types σ i (Trade r) e f = f.types
 
 legs-get : (n t d : ℕ) (h : Holdings) (ts : List Item) → Each (λ i. ItemFits n t h i × Due d i) ts → AllGet h (legs ts)
 unfolding legs buyer accountOf
 legs-get n t d h [] e = tt
 legs-get n t d h (i ∷ rest) e =
     let f = e .0 .0 in
-    let y = trade-types t i.«settlement_day» i.security i i.state (e .0 .1 .0) f.state in (
+    let y = trade-types i.security i i.state (e .0 .1 .0) f.state in (
       record {
-        security = f.security;
-        member-least = f.credited.member-least;
-        member = f.credited.member;
+        security = f.listed;
+        member-least = f.terms.credited-named.member-least;
+        member = f.terms.credited-named.member;
         typ = free-type i.credited.typ (alike-free i.debited.typ i.credited.typ y .1);
-        shareholder-least = f.credited.shareholder-least;
-        shareholder = f.credited.shareholder;
+        shareholder-least = f.terms.credited-named.shareholder-least;
+        shareholder = f.terms.credited-named.shareholder;
       },
       (
-        record { member-least = f.debited.member-least; member-most = f.debited.member; currency-least = f.currency-least; currency-most = f.currency-most },
+        record { member-least = f.terms.debited-named.member-least; member-most = f.terms.debited-named.member; currency-least = f.terms.currency-least; currency-most = f.terms.currency-most },
         legs-get n t d h rest (e .1),
       ),
     )
@@ -245,19 +245,19 @@ cycle-keeps b o e p a =
 
 -- every form
 
-forms-keep : AllForms Keeps 1 forms
-unfolding forms used usedFields D C
+forms-keep : AllForms (λ n f. Keeps n f.effect) 1 forms
+unfolding forms rowOf used least
 forms-keep =
     open-keeps and admit-keeps and deposit-keeps and withdraw-keeps
-    and transfer-keeps 5 (omega arith) refl refl refl refl (λ d c w. free-type c (transfer-free d c w .1))
-    and transfer-keeps 6 (omega arith) refl refl refl refl (λ d c w. pledged-type c (pledge-types d c w .1))
-    and transfer-keeps 7 (omega arith) refl refl refl refl (λ d c w. free-type c (release-types d c w .0))
-    and transfer-keeps 8 (omega arith) refl refl refl refl (λ d c w. pledged-type c (block-types d c w .1))
-    and transfer-keeps 9 (omega arith) refl refl refl refl (λ d c w. free-type c (unblock-types d c w .0))
-    and payIn-keeps and payOut-keeps and instruct-keeps 12 (omega arith) refl refl deliver-item deliver-sender and instruct-keeps 13 (omega arith) refl refl receive-item receive-sender and trade-keeps and cancel-keeps and cycle-keeps and close-keeps and tt
+    and transfer-keeps 5 refl refl refl refl refl (λ d c w. free-type c (transfer-free d c w .1))
+    and transfer-keeps 6 refl refl refl refl refl (λ d c w. pledged-type c (pledge-types d c w .1))
+    and transfer-keeps 7 refl refl refl refl refl (λ d c w. free-type c (release-types d c w .0))
+    and transfer-keeps 8 refl refl refl refl refl (λ d c w. pledged-type c (block-types d c w .1))
+    and transfer-keeps 9 refl refl refl refl refl (λ d c w. free-type c (unblock-types d c w .0))
+    and payIn-keeps and payOut-keeps and instruct-keeps 12 refl refl refl deliver-item deliver-sender and instruct-keeps 13 refl refl refl receive-item receive-sender and trade-keeps and cancel-keeps and cycle-keeps and close-keeps and tt
 
 -- no order that was read has another form
 pub effect-keeps : (b : Ledger) (o : Order) → Premise b → Accepted b o → Kept o.minute (effect b o .after)
 unfolding effect
 effect-keeps b o p a =
-    by-form Keeps forms-keep (λ m l b o e p a. absurd (omega (arith, a.ranges.form .1))) (λ b o e p a. absurd (omega (arith, a.ranges.form .0))) o.form b o refl p a
+    by-form (λ n f. Keeps n f.effect) forms-keep (λ m none b o e p a. absurd (not-read none e a.ranges.form)) o.form b o refl p a

@@ -11,53 +11,56 @@ use Rattle.rulebook.specs.declared.State.{State}
 use Rattle.rulebook.specs.declared.State.the-variants.{Single, Trade}
 use Rattle.rulebook.specs.Lists.{if_then_else_, _is_, _oneOf_, within}
 use Rattle.rulebook.specs.AccountTypes.{free}
-use Rattle.rulebook.specs.Record.{D, C, all, allBut, usedFields, used}
+use Rattle.rulebook.specs.Field as Field
+use Rattle.rulebook.specs.Forms.{forms, rowOf, used, least}
 use Rattle.rulebook.specs.Ledger.{Ledger, admitted}
 use Rattle.rulebook.specs.Waiting.{itemOf, senderOf, sentBy}
-use Rattle.rulebook.specs.Premise.{Each, ReferenceFits, StateFits, ItemFits, today}
+use Rattle.rulebook.specs.Premise.{Each, ReferenceFits, StateFits, NotOverdue, ItemFits, today}
 use Rattle.rulebook.proofs.Lists.{_and_, both}
 use Rattle.rulebook.proofs.Types.{one-of, deliver-free, receive-free, trade-alike}
-use Rattle.rulebook.proofs.Orders.{Accepted, uses, is-admitted, right-types, is-open, instruct-parties, instruct-days, trade-parties, trade-days}
+use Rattle.rulebook.proofs.Orders.{Accepted, needs, needed, uses, is-admitted, right-types, is-open, instruct-parties, instruct-days, trade-parties, trade-days}
 
 -- the fields that all three use
 abbrev common : List ℕ
-common = 2 ∷ 3 ∷ 4 ∷ 6 ∷ 8 ∷ 9 ∷ 10 ∷ 11 ∷ 12 ∷ 14 ∷ []
+common =
+    Field.security ∷ Field.currency ∷ Field.debited-member ∷ Field.credited-member ∷ Field.debited-shareholder ∷ Field.credited-shareholder ∷ Field.quantity
+    ∷ Field.amount ∷ Field.trade-day ∷ Field.reference ∷ []
 
 abbrev Uses : ℕ → Type 0
-Uses n = Each (λ k. used n k ≡ true) common
+Uses n = Each (λ k. needs n k ≡ true) common
 
 module _ (n : ℕ) (b : Ledger) (o : Order) (e : o.form ≡ n) (a : Accepted b o) (u : Uses n) where
-  field : (k : ℕ) → (k oneOf common) ≡ true → used o.form k ≡ true
-  field k t = uses n k o e true (one-of (λ j. used n j ≡ true) common k u t)
+  field : (k : ℕ) → (k oneOf common) ≡ true → needs o.form k ≡ true
+  field k t = needed n k o e (one-of (λ j. needs n j ≡ true) common k u t)
 
   order-reference : ReferenceFits o.reference
-  order-reference = record { least = a.ranges.reference (field 14 refl); most = a.fits.reference }
+  order-reference = record { least = a.ranges.reference (field Field.reference refl); most = a.fits.reference }
 
   order-item :
       (x : State) → (within 3 9 n || within 12 14 n) ≡ true → (n is 2) ≡ false → o.«trade_day» ≤ b.day.number → o.«trade_day» ≤ o.«settlement_day» → o.«settlement_day» ≤ b.day.number + 20
-      → StateFits (today b.day) o.«settlement_day» o.security o.debited o.credited x → ItemFits b.day.number (today b.day) b.holdings (itemOf x o)
+      → StateFits o.security o.debited o.credited x → NotOverdue (today b.day) o.«settlement_day» x → ItemFits b.day.number (today b.day) b.holdings (itemOf x o)
   unfolding itemOf admitted
-  order-item x t t₂ l₁ l₂ l₃ f =
-      let d = a.ranges.debited (field 4 refl) in
-      let c = a.ranges.credited (field 6 refl) in
-      let v = a.ranges.currency (field 3 refl) in
+  order-item x t t₂ l₁ l₂ l₃ f g =
+      let d = a.ranges.debited (field Field.debited-member refl) in
+      let c = a.ranges.credited (field Field.credited-member refl) in
+      let v = a.ranges.currency (field Field.currency refl) in
       record {
-        security = is-admitted n b o e t t₂ a.security;
-        security-least = a.ranges.security (field 2 refl);
-        security-most = a.fits.security;
-        currency-least = v .0;
-        currency-most = v .1;
-        debited = record { member-least = d .0; member = d .1; shareholder-least = a.ranges.debited-holder (field 8 refl); shareholder = a.fits.debited.shareholder };
-        credited = record { member-least = c .0; member = c .1; shareholder-least = a.ranges.credited-holder (field 9 refl); shareholder = a.fits.credited.shareholder };
-        quantity-least = a.ranges.quantity (field 10 refl) .0;
-        quantity = a.fits.quantity;
-        amount-least = a.ranges.amount (field 11 refl);
-        amount = a.fits.amount;
-        traded-least = a.ranges.«trade_day» (field 12 refl);
-        «trade_day» = l₁;
-        settles-least = l₂;
-        «settlement_day» = l₃;
+        listed = is-admitted n b o e t t₂ a.security;
+        terms = record {
+          security-least = a.ranges.security (field Field.security refl);
+          security-most = a.fits.security;
+          currency-least = v .0;
+          currency-most = v .1;
+          debited-named = record { member-least = d .0; member = d .1; shareholder-least = a.ranges.debited-holder (field Field.debited-shareholder refl); shareholder = a.fits.debited.shareholder };
+          credited-named = record { member-least = c .0; member = c .1; shareholder-least = a.ranges.credited-holder (field Field.credited-shareholder refl); shareholder = a.fits.credited.shareholder };
+          quantity-least = a.ranges.quantity (field Field.quantity refl) .0;
+          quantity-most = a.fits.quantity;
+          amount-least = a.ranges.amount (field Field.amount refl);
+          amount-most = a.fits.amount;
+        };
+        days = record { traded-least = a.ranges.«trade_day» (field Field.trade-day refl); traded-most = l₁; settles-least = l₂; settles-most = l₃ };
         state = f;
+        due = g;
       }
 
   open-today : (n is 1) ≡ false → today b.day ≡ b.day.number
@@ -91,26 +94,26 @@ single-item n b o e a u i own other =
       other = other;
       shareholders = p .0;
       members = p .1;
-      due = omega (arith, t, d);
     })
+    (omega (arith, t, d))
 
 module _ (b : Ledger) (o : Order) (a : Accepted b o) where
   pub deliver-item : o.form ≡ 12 → ItemFits b.day.number (today b.day) b.holdings (single o)
-  unfolding used usedFields allBut all D C
+  unfolding used least forms rowOf
   deliver-item e =
       single-item 12 b o e a (refl and refl and refl and refl and refl and refl and refl and refl and refl and refl and tt)
       (record { not-5-9 = refl; not-6-9 = refl; is-12-13 = refl; not-5-14 = refl; not-14 = refl; not-1 = refl; names = refl; not-2 = refl })
-      (simp e (deliver-free o.debited.typ o.credited.typ (right-types 12 b o e a.types))) (simp e (a.ranges.no-credited-type (uses 12 7 o e false refl)))
+      (simp e (deliver-free o.debited.typ o.credited.typ (right-types 12 b o e a.types))) (simp e (a.ranges.no-credited-type (uses 12 Field.credited-type o e false refl)))
 
   pub receive-item : o.form ≡ 13 → ItemFits b.day.number (today b.day) b.holdings (single o)
-  unfolding used usedFields allBut all D C
+  unfolding used least forms rowOf
   receive-item e =
       single-item 13 b o e a (refl and refl and refl and refl and refl and refl and refl and refl and refl and refl and tt)
       (record { not-5-9 = refl; not-6-9 = refl; is-12-13 = refl; not-5-14 = refl; not-14 = refl; not-1 = refl; names = refl; not-2 = refl })
-      (simp e (receive-free o.debited.typ o.credited.typ (right-types 13 b o e a.types))) (simp e (a.ranges.no-debited-type (uses 13 5 o e false refl)))
+      (simp e (receive-free o.debited.typ o.credited.typ (right-types 13 b o e a.types))) (simp e (a.ranges.no-debited-type (uses 13 Field.debited-type o e false refl)))
 
   pub trade-item : o.form ≡ 14 → ItemFits b.day.number (today b.day) b.holdings (itemOf (Trade o.reference) o)
-  unfolding used usedFields allBut all D C
+  unfolding used least forms rowOf
   trade-item e =
       let u : Uses 14 = refl and refl and refl and refl and refl and refl and refl and refl and refl and refl and tt in
       let d = trade-days b o e a.days in
@@ -120,8 +123,8 @@ module _ (b : Ledger) (o : Order) (a : Accepted b o) where
         named = order-reference 14 b o e a u;
         types = trade-alike o.debited.typ o.credited.typ (right-types 14 b o e a.types);
         apart = trade-parties b o e a.parties;
-        due = omega (arith, t, d);
       })
+      (omega (arith, t, d))
 
   -- who sent it
 

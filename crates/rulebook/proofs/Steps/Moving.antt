@@ -10,17 +10,16 @@ use Rattle.rulebook.specs.declared.Order.{Order}
 use Rattle.rulebook.specs.declared.Security.{Security}
 use Rattle.rulebook.specs.Lists.{if_then_else_, _is_, within}
 use Rattle.rulebook.specs.AccountTypes.{pledgedOrBlocked, wrongTypes}
-use Rattle.rulebook.specs.Record.{usedFields, used}
+use Rattle.rulebook.specs.Field as Field
 use Rattle.rulebook.specs.Ledger.{Ledger, Holdings, accountOf, sameAccount, outsideOf, putHoldings, putSecurities}
 use Rattle.rulebook.specs.declared.Account.{Account}
-use Rattle.rulebook.specs.Movements.{Place, account, type91, type90, cashOf, member0, move}
-use Rattle.rulebook.specs.Forms.{outcome, counts, moving, admit, deposit, withdraw, transfer, payIn, payOut}
+use Rattle.rulebook.specs.Movements.{Place, account, type91, type90, cashOf, member0, move, bookHas}
+use Rattle.rulebook.specs.Forms.{outcome, counts, moving, admit, deposit, withdraw, transfer, payIn, payOut, forms, rowOf, used, least}
 use Rattle.rulebook.specs.Refusals.{wrongSecurity}
-use Rattle.rulebook.specs.Calls.{kept}
 use Rattle.rulebook.specs.Premise.{Each, withCode, Premise}
 use Rattle.rulebook.proofs.Lists.{_and_, total-append}
 use Rattle.rulebook.proofs.Rounds.{same-eq}
-use Rattle.rulebook.proofs.Orders.{PartyFits, is-admitted, not-admitted, little-parts, debit-enough, right-types, uses}
+use Rattle.rulebook.proofs.Orders.{PartyFits, is-admitted, not-admitted, little-parts, debit-enough, right-types, needed}
 use Rattle.rulebook.proofs.Securities.{outs, known, unknown, new-count, new-issued}
 use Rattle.rulebook.proofs.Places.{brought, Known, Bears, booked-exact, one-enough}
 use Rattle.rulebook.proofs.Reading.{Proper}
@@ -80,8 +79,8 @@ party-apart security p t k a q = simp (apart a (accountOf security p) q (unfold 
 
 -- form 2: a security that is admitted changes nothing that is kept, as its outside count is still 0
 
-kept-new : (new : Security) → new.outside.0 ≡ 0 → (h : Holdings) (p : Place) → kept p (putSecurities (h.securities ++ (new ∷ [])) h) ≡ kept p h
-unfolding kept putSecurities outsideOf
+kept-new : (new : Security) → new.outside.0 ≡ 0 → (h : Holdings) (p : Place) → bookHas p (putSecurities (h.securities ++ (new ∷ [])) h) ≡ bookHas p h
+unfolding putSecurities outsideOf
 kept-new new z h (account a) = refl
 kept-new new z h (type91 s) = simp (total-append, z) (go (new.code is s) (outs s h.securities))
   where
@@ -93,7 +92,7 @@ kept-new new z h (cashOf m c) = refl
 kept-new new z h (member0 c) = refl
 
 pub admit-steps : Steps 2 admit
-unfolding admit putSecurities
+unfolding admit putSecurities forms rowOf
 admit-steps b o e p a =
     let xs = b.holdings.securities in
     let new : Security = record { code = o.security; issued = o.quantity; outside = record { 0 = 0 } } in
@@ -111,7 +110,7 @@ admit-steps b o e p a =
 -- forms 3 and 4
 
 pub deposit-steps : Steps 3 deposit
-unfolding deposit accountOf
+unfolding deposit accountOf forms rowOf
 deposit-steps b o e p a =
     let t = free-quiet o.credited.typ (deposit-free o.debited.typ o.credited.typ (right-types 3 b o e a.types)) in
     moves-one 3 b o (type91 o.security) (account (accountOf o.security o.credited)) o.quantity.0 refl p refl (one-code 3 b o e refl refl p a.security) tt
@@ -125,7 +124,7 @@ deposit-steps b o e p a =
     })
 
 pub withdraw-steps : Steps 4 withdraw
-unfolding withdraw accountOf
+unfolding withdraw accountOf forms rowOf
 withdraw-steps b o e p a =
     let t = free-quiet o.debited.typ (withdraw-free o.debited.typ o.credited.typ (right-types 4 b o e a.types)) in
     moves-one 4 b o (account (accountOf o.security o.debited)) (type91 o.security) o.quantity.0 refl p refl tt (one-code 4 b o e refl refl p a.security)
@@ -176,6 +175,7 @@ credited-apart : (o : Order) → Quiet o.credited.typ → (a : Account) → pled
 credited-apart o t a q = party-apart o.security o.credited t o.quantity.0 a q
 
 pub transfer-steps : Steps 5 transfer
+unfolding forms rowOf
 transfer-steps = shifts 5 refl refl (refl and refl and refl and refl and refl and tt) λ o w.
     let f = transfer-free o.debited.typ o.credited.typ w in
     let d = free-quiet o.debited.typ (f .0) in
@@ -194,31 +194,35 @@ takes-out n o t all none =
     record { from = pledged-account o.debited.typ (t .1); to = c .1; out = λ a q. all a; into = λ a q. credited-apart o c a q ∙ sym (none a) }
 
 pub pledge-steps : Steps 6 transfer
+unfolding forms rowOf
 pledge-steps = shifts 6 refl refl (refl and refl and refl and refl and refl and tt) (λ o w. puts-in 6 o (pledge-types o.debited.typ o.credited.typ w) (λ a. refl) (λ a. refl))
 
 pub release-steps : Steps 7 transfer
+unfolding forms rowOf
 release-steps = shifts 7 refl refl (refl and refl and refl and refl and refl and tt) (λ o w. takes-out 7 o (release-types o.debited.typ o.credited.typ w) (λ a. refl) (λ a. refl))
 
 pub block-steps : Steps 8 transfer
+unfolding forms rowOf
 block-steps = shifts 8 refl refl (refl and refl and refl and refl and refl and tt) (λ o w. puts-in 8 o (block-types o.debited.typ o.credited.typ w) (λ a. refl) (λ a. refl))
 
 pub unblock-steps : Steps 9 transfer
+unfolding forms rowOf
 unblock-steps = shifts 9 refl refl (refl and refl and refl and refl and refl and tt) (λ o w. takes-out 9 o (unblock-types o.debited.typ o.credited.typ w) (λ a. refl) (λ a. refl))
 
 -- forms 10 and 11
 
 pub payIn-steps : Steps 10 payIn
-unfolding payIn used usedFields
+unfolding payIn used least forms rowOf
 payIn-steps b o e p a =
-    let m = a.ranges.credited (uses 10 6 o e true refl) in
+    let m = a.ranges.credited (needed 10 Field.credited-member o e refl) in
     moves-one 10 b o (member0 o.currency) (cashOf o.credited.member o.currency) o.amount.0 refl p refl tt tt tt (omega (arith, a.fits.currency))
     (m .0, m .1, omega (arith, a.fits.currency)) a.fits.amount
     (record { held = λ c. refl; outside = λ c. refl; cash = λ c. omega arith; pledged = λ x q. (refl, refl) })
 
 pub payOut-steps : Steps 11 payOut
-unfolding payOut used usedFields
+unfolding payOut used least forms rowOf
 payOut-steps b o e p a =
-    let m = a.ranges.debited (uses 11 4 o e true refl) in
+    let m = a.ranges.debited (needed 11 Field.debited-member o e refl) in
     moves-one 11 b o (cashOf o.debited.member o.currency) (member0 o.currency) o.amount.0 refl p refl tt tt (ltb-false _ _ (simp e at (little-parts b o a.little .2)))
     (m .0, m .1, omega (arith, a.fits.currency)) (omega (arith, a.fits.currency)) a.fits.amount
     (record { held = λ c. refl; outside = λ c. refl; cash = λ c. omega arith; pledged = λ x q. (refl, refl) })

@@ -11,12 +11,11 @@ use Rattle.rulebook.specs.declared.Security.{Security}
 use Rattle.rulebook.specs.Lists.{if_then_else_, _is_, _oneOf_}
 use Rattle.rulebook.specs.AccountTypes.{pledgedOrBlocked}
 use Rattle.rulebook.specs.Ledger.{Ledger, Holdings, accountOf, sameAccount, issuedOf, putSecurities}
-use Rattle.rulebook.specs.Movements.{Place, account, type91, Movement, booked}
+use Rattle.rulebook.specs.Movements.{Place, account, type91, Movement, booked, bookHas}
 use Rattle.rulebook.specs.Rows.{postingRows}
-use Rattle.rulebook.specs.Forms.{Outcome}
-use Rattle.rulebook.specs.Calls.{kept}
+use Rattle.rulebook.specs.Forms.{Outcome, rowOf}
 use Rattle.rulebook.specs.Premise.{withCode, Premise}
-use Rattle.rulebook.proofs.ByCall.{Form}
+use Rattle.rulebook.proofs.ByCall.{Effect}
 use Rattle.rulebook.proofs.Orders.{Accepted}
 use Rattle.rulebook.proofs.Securities.{booked-issued}
 use Rattle.rulebook.proofs.Places.{brought, taken, booked-codes}
@@ -38,7 +37,7 @@ abbrev pub releasedAt : Account → ℕ → Order → ℕ
 releasedAt a form o = if form oneOf (7 ∷ 9 ∷ []) && sameAccount (accountOf o.security o.debited) a then o.quantity.0 else 0
 
 abbrev pub writesAt : ℕ → ℕ
-writesAt form = if form oneOf (15 ∷ 17 ∷ []) then 0 else 1
+writesAt form = if rowOf form .posts then 1 else 0
 
 -- movements bring and take what the order's figures say
 pub record Figures (form : ℕ) (o : Order) (moves : List Movement) : Type 0 where
@@ -50,7 +49,7 @@ pub record Figures (form : ℕ) (o : Order) (moves : List Movement) : Type 0 whe
 
 -- a security may be admitted first: what is kept stays, codes stay distinct, and its issued count is the order's quantity
 pub record Admits (form : ℕ) (o : Order) (h : Holdings) (listed : List Security) : Type 0 where
-  pub keeps : (p : Place) → kept p (putSecurities listed h) ≡ kept p h
+  pub keeps : (p : Place) → bookHas p (putSecurities listed h) ≡ bookHas p h
   pub codes : (c : ℕ) → withCode c listed ≤ 1
   pub issued : (s : ℕ) → sharesAt 2 s form o + issuedOf s h ≡ issuedOf s (putSecurities listed h)
 
@@ -64,7 +63,7 @@ pub record Step (form : ℕ) (b : Ledger) (o : Order) (x : Outcome) : Type 0 whe
   pub admits : Admits form o b.holdings listed
   pub moves : List Movement
   pub holds : x.after.holdings ≡ booked moves (putSecurities listed b.holdings)
-  pub changes : (p : Place) → kept p x.after.holdings + taken p moves ≡ kept p b.holdings + brought p moves
+  pub changes : (p : Place) → bookHas p x.after.holdings + taken p moves ≡ bookHas p b.holdings + brought p moves
   pub proper : AllProper moves
   pub rows : writesAt form ≡ 1 → x.rows ≡ postingRows moves
   pub notices : writesAt form ≡ 0 → moves ≡ []
@@ -72,7 +71,7 @@ pub record Step (form : ℕ) (b : Ledger) (o : Order) (x : Outcome) : Type 0 whe
   pub figures : Figures form o moves
 
 -- a form makes such a step
-abbrev pub Steps : ℕ → Form → Type 0
+abbrev pub Steps : ℕ → Effect → Type 0
 Steps n f = (b : Ledger) (o : Order) → o.form ≡ n → Premise b → Accepted b o → Step n b o (f b o)
 
 module _ (form : ℕ) (b : Ledger) (o : Order) (x : Outcome) (t : Step form b o x) where

@@ -9,10 +9,9 @@ use Rattle.rulebook.specs.declared.Item.{Item}
 use Rattle.rulebook.specs.AccountTypes.{pledgedOrBlocked}
 use Rattle.rulebook.specs.Ledger.{Ledger, Holdings, accountOf, putSecurities}
 use Rattle.rulebook.specs.declared.Account.{Account}
-use Rattle.rulebook.specs.Movements.{Place, account, type91, type90, cashOf, member0, Movement, booked}
+use Rattle.rulebook.specs.Movements.{Place, account, type91, type90, cashOf, member0, Movement, booked, bookHas}
 use Rattle.rulebook.specs.Cycle.{Marked, seller, buyer, over, bringsShares, takesShares, bringsCash, takesCash, sharesTaken, sharesBrought, cashTaken, cashBrought, settling, withMark, settled, legs}
-use Rattle.rulebook.specs.Forms.{outcome, counts, cycle}
-use Rattle.rulebook.specs.Calls.{kept}
+use Rattle.rulebook.specs.Forms.{outcome, counts, cycle, forms, rowOf}
 use Rattle.rulebook.proofs.Rounds.{settling-done, enough-shares, enough-cash, settled-fits}
 use Rattle.rulebook.specs.Premise.{Each, ItemFits, today}
 use Rattle.rulebook.proofs.Lists.{each-so}
@@ -104,7 +103,7 @@ none-taken p f [] = refl
 none-taken p f (m ∷ rest) = simp (f m.from) (omega (arith, none-taken p f rest))
 
 cycle-enough : (b : Ledger) → Enough b.holdings (legs (settled b))
-unfolding kept settled settling
+unfolding settled settling
 cycle-enough b (account a) =
     omega (arith, enough-shares b.holdings (settling b) (settling-done b.day.number b.holdings b.waiting) a, shares-legs a (settling b) .0, shares-legs a (settling b) .1)
 cycle-enough b (type91 s) = omega (arith, legs-sums (settled b) .1 s .0)
@@ -116,11 +115,11 @@ cycle-enough b (member0 c) = omega (arith, none-taken (member0 c) (λ q. refl) (
 -- so no debit of a settlement is cut off at 0: each account and each member's cash changes by exactly what the settled trades bring and take
 pub cycle-exact :
     (b : Ledger) (p : Place)
-    → kept p (booked (legs (settled b)) b.holdings) + taken p (legs (settled b)) ≡ kept p b.holdings + brought p (legs (settled b))
+    → bookHas p (booked (legs (settled b)) b.holdings) + taken p (legs (settled b)) ≡ bookHas p b.holdings + brought p (legs (settled b))
 cycle-exact b = booked-exact (legs (settled b)) b.holdings (legs-known b.holdings (settled b)) (cycle-enough b)
 
 pub cycle-steps : Steps 16 cycle
-unfolding cycle outcome counts putSecurities
+unfolding cycle outcome counts putSecurities forms rowOf
 cycle-steps b o e p a =
     let ts = settled b in
     let P : Item → Type 0 = ItemFits b.day.number (today b.day) b.holdings in

@@ -1,16 +1,14 @@
 -- `record::refusals::least_of` meets its contract. Assumes nothing.
-use borrow.Author.Tests.{eq-eqb, ne-eqb}
-use Rattle.rulebook.specs.Record.{least}
+use mathlib.Core.Path.{_≡_}
+use borrow.Author.Needs.{needs}
 use Rattle.record.proofs.refusals.least_of.Statement.{statement}
 use Rattle.record.proofs.refusals.least_of.Tie as tie
 
 returns : tie.Need-returns
-unfolding least
-returns c = simp (eq-eqb _ _ (c .if1 .taken))
+returns c = simp (← c .before .is-in .ensures, c .if1 .taken)
 
 returns-2 : tie.Need-returns-2
-unfolding least
-returns-2 c = simp (ne-eqb _ _ (c .if1 .left))
+returns-2 c = simp (← c .before .is-in .ensures, c .if1 .left)
 
 pub least-of-spec : {M : Type 1} → statement M
-least-of-spec = tie.close (tie.spec returns returns-2)
+least-of-spec = tie.close (tie.spec (λ c κs. search needs) returns returns-2)

@@ -1,0 +1,74 @@
+-- What is proved of the definitions, whole. Assumes nothing.
+use Prim.Native.Nat.{ℕ, _≤_}
+use mathlib.Core.Bool.{Bool, true, false}
+use mathlib.Core.List.{List, [], _∷_}
+use mathlib.Core.Path.{_≡_, refl, sym, ap, subst, _∙_}
+use native.Mathlib.Omega.{arith}
+use borrow.Author.Tests.{eqb-true}
+use lib.ListN.{length, take, drop}
+use lib.Seq.{take-at, take-append-le}
+use Rattle.bits.proofs.Laws.{length-bytes}
+use Rattle.bits.specs.Bits.{Octets, bytes}
+use Rattle.rulebook.specs.Lists.{if_then_else_, _is_}
+use Rattle.rulebook.specs.Ledger.{Holdings}
+use Rattle.bits.specs.Layout.{pack}
+use Rattle.rulebook.specs.Field.{widths}
+use Rattle.rulebook.specs.Record.{fieldsOf, readOf, recordOf, writeRefusal, writtenOf, areaWritten}
+use Rattle.rulebook.specs.Cycle.{Marked, NothingShort, anyShort, settling, sharesMissing, cashMissing}
+use Rattle.rulebook.specs.Theorems.{Theorems}
+use Rattle.rulebook.specs.declared.Order.{Order}
+use Rattle.rulebook.specs.declared.Read.{Read}
+use Rattle.rulebook.specs.declared.Written.{Written}
+use Rattle.rulebook.proofs.RoundTrips.{write-read, read-write, read-writable, first-bytes}
+use Rattle.rulebook.proofs.Rounds.{settling-done, enough-shares, enough-cash}
+use Rattle.rulebook.proofs.Sizes.{cycle-space}
+use Rattle.rulebook.proofs.EveryCall.{fresh-premise, call-premise}
+use Rattle.rulebook.proofs.Demand3.{demand3}
+use Rattle.rulebook.proofs.Desk.{desk}
+
+-- the writer writes where nothing refuses
+wrote : (o : Order) (area : List ℕ) → writtenOf o area ≡ Written.Record → writeRefusal o area ≡ 0
+unfolding writtenOf
+wrote o area e = go (writeRefusal o area is 0) refl e
+  where
+    go : (t : Bool) → (writeRefusal o area is 0) ≡ t → (if t then Written.Record else Written.Refused (writeRefusal o area)) ≡ Written.Record → writeRefusal o area ≡ 0
+    go true p q = eqb-true _ 0 p
+    go false p q = cc
+
+module _ (o : Order) (area : List ℕ) (e : writeRefusal o area ≡ 0) where
+  writes : writtenOf o area ≡ Written.Record
+  unfolding writtenOf
+  writes = rw e
+
+  bytes-there : take 40 (areaWritten o area) ≡ recordOf o
+  unfolding areaWritten recordOf
+  bytes-there = rw e (take-at (recordOf o) (drop 40 area) 40 (length-bytes 40 _))
+
+-- form 3 at minute 540
+first-bytes-of : (o : Order) (area : List ℕ) → o.form ≡ 3 → o.minute ≡ 540 → writtenOf o area ≡ Written.Record → take 2 (areaWritten o area) ≡ 0x1A ∷ 0x1C ∷ []
+unfolding areaWritten recordOf bytes
+first-bytes-of o area f m w =
+    let e = wrote o area w in
+    let l : 2 ≤ length (recordOf o) = omega (arith, length-bytes 40 (pack 0 widths (fieldsOf o))) in
+    rw e (take-append-le 2 (recordOf o) (drop 40 area) l) ∙ first-bytes o area e ∙ rw (f, m)
+
+short-found : (h : Holdings) (marked : List Marked) → anyShort h marked ≡ false → NothingShort h marked
+unfolding sharesMissing cashMissing
+short-found h marked e = record {
+  shares = λ a. omega (arith, enough-shares h marked e a);
+  cash = λ m c. omega (arith, enough-cash h marked e m c);
+}
+
+pub theorems : Theorems
+theorems = record {
+  writeRead = λ o area w. let e = wrote o area w in ap readOf (bytes-there o area e) ∙ write-read o area e;
+  readWrite = λ octets o area fine r room. let e = read-writable octets o area r room in (writes o area e, bytes-there o area e ∙ read-write octets o fine r);
+  firstBytes = first-bytes-of;
+  shortFound = short-found;
+  nothingShort = λ book. unfold settling in short-found book.holdings (settling book) (settling-done book.day.number book.holdings book.waiting);
+  cycleHasRoom = λ book o form p. cycle-space book o form (p .sizes);
+  freshMeets = fresh-premise;
+  callsKeep = call-premise;
+  balanced = demand3;
+  desk = desk;
+}

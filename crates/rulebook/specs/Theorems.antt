@@ -1,0 +1,39 @@
+-- What is proved of these definitions, whole: a record whose fields are the theorems. `proofs/Theorems` has its one element.
+use Prim.Native.Nat.{ℕ, _≤_}
+use mathlib.Core.Bool.{Bool, false}
+use mathlib.Core.List.{List, [], _∷_}
+use mathlib.Core.Path.{_≡_}
+use lib.ListN.{length, take}
+use Rattle.bits.specs.Bits.{Octets}
+use Rattle.rulebook.specs.Ledger.{Holdings, Ledger, fresh}
+use Rattle.rulebook.specs.Record.{readOf, recordOf, writtenOf, areaWritten}
+use Rattle.rulebook.specs.Cycle.{Marked, NothingShort, anyShort, settling}
+use Rattle.rulebook.specs.Refusals.{noSpace}
+use Rattle.rulebook.specs.Calls.{Call, resultOf, Demand3}
+use Rattle.rulebook.specs.Premise.{Premise}
+use Rattle.rulebook.specs.Desk.{Desk}
+use Rattle.rulebook.specs.declared.Order.{Order}
+use Rattle.rulebook.specs.declared.Read.{Read}
+use Rattle.rulebook.specs.declared.Written.{Written}
+
+pub record Theorems : Type 0 where
+  -- RULES 2.11: the reader gives back what the writer wrote, and from what was read the writer makes the same bytes
+  pub writeRead : (o : Order) (area : List ℕ) → writtenOf o area ≡ Written.Record → readOf (take 40 (areaWritten o area)) ≡ Read.Order o
+  pub readWrite :
+      (octets : List ℕ) (o : Order) (area : List ℕ) → Octets octets → readOf octets ≡ Read.Order o → 40 ≤ length area
+      → (writtenOf o area ≡ Written.Record) × (take 40 (areaWritten o area) ≡ octets)
+  -- RULES A.1, of every such order
+  pub firstBytes :
+      (o : Order) (area : List ℕ) → o.form ≡ 3 → o.minute ≡ 540 → writtenOf o area ≡ Written.Record → take 2 (areaWritten o area) ≡ 0x1A ∷ 0x1C ∷ []
+  -- RULES 9.4, 9.7: the test on the trades that are taken finds whatever is short, and nothing is short when a cycle settles
+  pub shortFound : (h : Holdings) (marked : List Marked) → anyShort h marked ≡ false → NothingShort h marked
+  pub nothingShort : (book : Ledger) → NothingShort book.holdings (settling book)
+  -- RULES 3.10: a cycle always has room
+  pub cycleHasRoom : (book : Ledger) (o : Order) → o.form ≡ 16 → Premise book → noSpace book o ≡ false
+  -- RULES 12.15 to 12.17: the fresh book meets the premise, and every call keeps it, so a caller never has to show it
+  pub freshMeets : Premise fresh
+  pub callsKeep : (book : Ledger) (c : Call) → Premise book → Premise (resultOf book c .book)
+  -- RULES 12.6 to 12.12: the one claim about every list of calls
+  pub balanced : Demand3
+  -- RULES, appendix A
+  pub desk : Desk
