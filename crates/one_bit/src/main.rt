@@ -6,6 +6,7 @@ ghost use mathlib.Core.Path.{_≡_};
 ghost use Prim.Native.Nat.{_<_};
 ghost use Rattle.one_bit.specs.Changes.{answerTo, countOf};
 use rulebook::Read;
+use rulebook::Written;
 
 // The reader's answer to the record with one bit changed.
 fn answer_to(record: [u8; 40], bit: usize) -> u64
@@ -39,9 +40,13 @@ fn print(number: u64) {
     io::print_decimal(1, number);
 }
 
+// Prints nothing where there is no such form: the writer refuses its order.
 fn print_form(form: u64) {
     let mut record = [0u8; 40];
-    record::write(samples::sample(form), &mut record);
+    let written = record::write(samples::sample(form), &mut record);
+    let Written::Record = written else {
+        return;
+    };
     io::print_decimal(1, form);
     print(count_of(record, 0));
     print(count_of(record, 2));
@@ -51,9 +56,10 @@ fn print_form(form: u64) {
     io::write_all(1, b"\n");
 }
 
+// All that five bits can name.
 fn main() {
     io::write_all(1, b"form read 2 3 4 5\n");
-    for form in 1..18 {
+    for form in 1..32 {
         print_form(form);
     }
 }

@@ -5,10 +5,10 @@ use Rattle.one_bit.proofs.main.Statement.{statement}
 use Rattle.one_bit.proofs.main.Tie as tie
 
 abbrev Inv-loop : tie.InvT-loop
-Inv-loop form₀ form = form ≤ 18
+Inv-loop form₀ form = form ≤ 32
 
 abbrev μ-loop : tie.MeasureT-loop
-μ-loop form₀ form = 18 - form
+μ-loop form₀ form = 32 - form
 
 pub main-spec : {M : Type 1} → statement M
 main-spec =
