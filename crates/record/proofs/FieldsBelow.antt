@@ -10,7 +10,7 @@ use lib.ListN.{length, getD}
 use Rattle.rulebook.specs.Lists.{_isNot_, within, first}
 use Rattle.rulebook.specs.Record.{places, used, least, most}
 use Rattle.record.specs.Fields.{earlierOf}
-use Rattle.record.proofs.Below.{any, any-more, none-passes}
+use Rattle.rulebook.proofs.Below.{any, any-more, none-passes}
 
 -- 4 or 5, whichever applies first
 abbrev pub either : Bool → Bool → ℕ

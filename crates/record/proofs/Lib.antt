@@ -1,4 +1,3 @@
-pub mod Below
 pub mod FieldsBelow
 pub mod Answers
 pub mod RoundTrips

@@ -15,10 +15,11 @@ use Rattle.bits.proofs.Packing.{values-back, bytes-back}
 use Rattle.rulebook.specs.declared.Order.{Order}
 use Rattle.rulebook.specs.declared.Read.{Read}
 use Rattle.rulebook.specs.Lists.{if_then_else_, _is_, _isNot_, _below_, _oneOf_, within}
-use Rattle.rulebook.specs.Record.{widths, places, fieldsOf, orderOf, D, C, all, allBut, usedFields, used, least, most, noForm, unusedNotZero, usedOutOfRange, fieldsIn, readRefusal, readOf, recordOf, writeRefusal}
+use Rattle.rulebook.specs.Record.{widths, places, fieldsOf, orderOf, D, C, all, allBut, usedFields, used, least, most, noForm, unusedNotZero, usedOutOfRange, fieldTests, fieldsIn, readRefusal, readOf, recordOf, writeRefusal}
 use Rattle.rulebook.specs.Premise.{Each}
 use Rattle.rulebook.proofs.Lists.{_and_}
-use Rattle.rulebook.proofs.Orders.{none-applies, none-at, in-range, is-zero, read-is, Passed, read-tests}
+use Rattle.rulebook.proofs.Checking.{none-applies}
+use Rattle.rulebook.proofs.Orders.{none-at, in-range, is-zero, read-is, Passed, read-tests}
 
 -- a field that is used is in its range, and another is 0
 in-width : (u : Bool) (a b w n : ℕ) → (u && not (within a b n)) ≡ false → (not u && n isNot 0) ≡ false → b < 2 ^ w → n < 2 ^ w
@@ -67,8 +68,8 @@ write-tests : (o : Order) (area : List ℕ) → writeRefusal o area ≡ 0 → Pa
 unfolding writeRefusal
 write-tests o area e =
     let fields = fieldsOf o in
-    let n = none-applies ((1, length area below 40) ∷ (3, noForm fields) ∷ (4, unusedNotZero fields) ∷ (5, usedOutOfRange fields) ∷ []) (omega arith) e in
-    record { form = n .1 .0; unused = n .1 .1 .0; ranges = n .1 .1 .1 .0 }
+    let n = none-applies ((1, length area below 40) ∷ fieldTests fields) (omega arith) e in
+    record { form = n 3; unused = n 4; ranges = n 5 }
 
 -- the fields of the 40 bytes that the writer makes are the order's
 fields-back : (o : Order) → Passed (fieldsOf o) → fieldsIn (recordOf o) ≡ fieldsOf o

@@ -16,7 +16,7 @@ use Rattle.rulebook.specs.Matching.{tolerance, agree, pairsWith, pairOf,
 use Rattle.rulebook.specs.Cycle.{seller, buyer, taken, due, settlingOf, over, sharesBrought, sharesTaken, cashBrought, cashTaken, bringsShares, takesShares, bringsCash, takesCash, sharesMissing, cashMissing, debitsShort, anyShort, dropLast, rounds, settling, withMark, withoutMark, legs, settled, notSettled, dropped}
 use Rattle.rulebook.specs.Close.{closeKind, leaves, deletedAtClose, suspendedAtClose, closeNotice}
 use Rattle.rulebook.specs.Forms.{counts, outcome, moving, silent, openDay, admit, deposit, withdraw, transfer, payIn, payOut, instruct, trade, cancel, cycle, close, forms, effect}
-use Rattle.rulebook.specs.Refusals.{wrongDay, wrongCycle, goesBack, outsideWindow, wrongSecurity, wrongPair, wrongParties, wrongDays, wrongReference, wrongCancel, tooLittle, overCeiling, noSpace, refusals}
+use Rattle.rulebook.specs.Refusals.{wrongDay, wrongCycle, goesBack, outsideWindow, wrongSecurity, wrongPair, wrongParties, wrongDays, wrongReference, wrongCancel, tooLittle, overCeiling, noSpace, dayTests, orderTests, itemTests, roomTests, refusals}
 use Rattle.rulebook.specs.Call.{answerNumber, refused, putMinute, accepted, orderCall, readCall, callOf, Result}
 use Rattle.rulebook.specs.Calls.{resultOf, recordIn, callsOn, bookAfter, ofRecord, records, ofAnswer, answers, firstRows, writes, postingsOf, postings, sharesIn, cashIn, putIn, released, names, written, kept, takesIn, sidesTaken, Call, call}
 use Rattle.rulebook.specs.declared.Order.{Order}
@@ -159,7 +159,7 @@ unfolding
     debitsShort anyShort dropLast rounds settling withMark withoutMark legs settled notSettled dropped closeKind leaves deletedAtClose
     suspendedAtClose closeNotice counts outcome moving silent openDay admit deposit withdraw transfer payIn payOut instruct trade cancel cycle
     close forms effect wrongDay wrongCycle goesBack outsideWindow wrongSecurity wrongPair wrongParties wrongDays wrongReference wrongCancel
-    tooLittle overCeiling noSpace refusals answerNumber refused putMinute accepted orderCall readCall callOf resultOf recordIn callsOn bookAfter
+    tooLittle overCeiling noSpace dayTests orderTests itemTests roomTests refusals answerNumber refused putMinute accepted orderCall readCall callOf resultOf recordIn callsOn bookAfter
     ofRecord records ofAnswer answers firstRows writes postingsOf postings sharesIn cashIn putIn released names written kept takesIn
     sidesTaken
 desk = record {

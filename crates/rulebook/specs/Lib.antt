@@ -13,6 +13,7 @@ pub mod Close
 pub mod Forms
 pub mod Refusals
 pub mod Call
+pub mod Checks
 pub mod Calls
 pub mod Premise
 pub mod Desk

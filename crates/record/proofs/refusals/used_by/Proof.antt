@@ -9,7 +9,7 @@ use lib.Dec.{eqb}
 use lib.ListN.{getD}
 use borrow.Author.Needs.{needs}
 use Rattle.rulebook.specs.Record.{D, C, all, allBut, usedFields, used}
-use Rattle.record.proofs.Below.{any, none-passes, differ, same}
+use Rattle.rulebook.proofs.Below.{any, none-passes, differ, same}
 use Rattle.record.proofs.refusals.used_by.Statement.{statement}
 use Rattle.record.proofs.refusals.used_by.Tie as tie
 
