@@ -11,7 +11,6 @@ ghost use Rattle.netting.specs.Marks.{markedOf};
 ghost use Rattle.netting.specs.Ready.{Ready};
 ghost use Rattle.cycle.specs.Booking.{CanCredit, CanDebit, Covered};
 use netting::marks;
-use netting::trades;
 use rulebook::Item;
 
 // What a trade brings: shares to the buyer's account, cash to the seller.
@@ -19,7 +18,7 @@ fn credit_trade(book: &mut [u64], trade: Item)
     requires { ⌜ Stored (now book) × CanCredit trade (ledgerOf (now book) .holdings) ⌝ }
     ensures { λ u. ⌜ Means (now (book .exit)) (putHoldings (credits (legs (trade ∷ [])) (ledgerOf (now (book .entry)) .holdings)) (ledgerOf (now (book .entry)))) ⌝ }
 {
-    book::credit(book, trades::buyer_of(trade), trade.quantity);
+    book::credit(book, parties::buyer_of(trade), trade.quantity);
     book::credit_cash(book, trade.debited.member, trade.currency, trade.amount);
 }
 
@@ -28,7 +27,7 @@ fn debit_trade(book: &mut [u64], trade: Item)
     requires { ⌜ Stored (now book) × CanDebit trade (ledgerOf (now book) .holdings) ⌝ }
     ensures { λ u. ⌜ Means (now (book .exit)) (putHoldings (debits (legs (trade ∷ [])) (ledgerOf (now (book .entry)) .holdings)) (ledgerOf (now (book .entry)))) ⌝ }
 {
-    book::debit(book, trades::seller_of(trade), trade.quantity);
+    book::debit(book, parties::seller_of(trade), trade.quantity);
     book::debit_cash(book, trade.credited.member, trade.currency, trade.amount);
 }
 

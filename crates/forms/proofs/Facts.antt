@@ -21,7 +21,8 @@ use Rattle.rulebook.proofs.Bounds.{balance-fits, outside-fits, cash-fits}
 use Rattle.rulebook.proofs.Space.{admit-space, deposit-space, transfer-space, sides-apart, same-sym}
 use Rattle.accounts.specs.Keys.{InRange}
 use Rattle.accounts.specs.Map.{CreditFits}
-use Rattle.rows.specs.Widths.{AccountFits, outsideAccount}
+use Rattle.parties.specs.Counted.{outsideAccount}
+use Rattle.rows.specs.Widths.{AccountFits}
 use Rattle.rows.specs.Widths as rows
 use Rattle.book.specs.Meaning.{ledgerOf}
 use Rattle.book.specs.Stored.{Kept}

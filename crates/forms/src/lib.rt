@@ -46,8 +46,8 @@ pub fn admit(book: &mut [u64], order: Order, area: &mut [u8]) -> Counts
     ensures { λ r. ⌜ Handled (admit (ledgerOf (now (book .entry))) order) (now (book .exit)) (now (area .entry)) (now (area .exit)) r ⌝ }
 {
     book::admit(book, order.security, order.quantity);
-    let issued = rows::issued_account(order.security);
-    let outside = rows::outside_account(order.security);
+    let issued = parties::issued_account(order.security);
+    let outside = parties::outside_account(order.security);
     rows::write_shares(area, issued, outside, order.quantity);
     counts_of(2)
 }
@@ -57,8 +57,8 @@ pub fn deposit(book: &mut [u64], order: Order, area: &mut [u8]) -> Counts
     requires { ⌜ Accepted (now book) order (now area) × (order .form ≡ 3) ⌝ }
     ensures { λ r. ⌜ Handled (deposit (ledgerOf (now (book .entry))) order) (now (book .exit)) (now (area .entry)) (now (area .exit)) r ⌝ }
 {
-    let outside = rows::outside_account(order.security);
-    let to = checks::account_of(order.security, order.credited);
+    let outside = parties::outside_account(order.security);
+    let to = parties::account_of(order.security, order.credited);
     book::credit(book, to, order.quantity);
     book::debit_outside(book, order.security, order.quantity);
     rows::write_shares(area, outside, to, order.quantity);
@@ -70,8 +70,8 @@ pub fn withdraw(book: &mut [u64], order: Order, area: &mut [u8]) -> Counts
     requires { ⌜ Accepted (now book) order (now area) × (order .form ≡ 4) ⌝ }
     ensures { λ r. ⌜ Handled (withdraw (ledgerOf (now (book .entry))) order) (now (book .exit)) (now (area .entry)) (now (area .exit)) r ⌝ }
 {
-    let outside = rows::outside_account(order.security);
-    let from = checks::account_of(order.security, order.debited);
+    let outside = parties::outside_account(order.security);
+    let from = parties::account_of(order.security, order.debited);
     book::credit_outside(book, order.security, order.quantity);
     book::debit(book, from, order.quantity);
     rows::write_shares(area, from, outside, order.quantity);
@@ -84,8 +84,8 @@ pub fn transfer(book: &mut [u64], order: Order, area: &mut [u8]) -> Counts
     requires { ⌜ Accepted (now book) order (now area) × (5 ≤ order .form) × (order .form ≤ 9) ⌝ }
     ensures { λ r. ⌜ Handled (transfer (ledgerOf (now (book .entry))) order) (now (book .exit)) (now (area .entry)) (now (area .exit)) r ⌝ }
 {
-    let from = checks::account_of(order.security, order.debited);
-    let to = checks::account_of(order.security, order.credited);
+    let from = parties::account_of(order.security, order.debited);
+    let to = parties::account_of(order.security, order.credited);
     book::debit(book, from, order.quantity);
     book::credit(book, to, order.quantity);
     rows::write_shares(area, from, to, order.quantity);

@@ -17,14 +17,14 @@ use Rattle.rulebook.specs.declared.Item.{Item}
 use Rattle.rulebook.specs.declared.Order.{Order}
 use Rattle.rulebook.specs.declared.State.the-variants.{Single}
 use Rattle.rulebook.proofs.Space.{instruct-space}
-use Rattle.words.specs.Places.{removeAt}
+use Rattle.words.specs.Places.{isFound, removeAt}
 use Rattle.words.specs.declared.Found.{Found}
 use Rattle.words.specs.declared.Found.the-variants.{At, Nothing}
 use Rattle.book.specs.Meaning.{ledgerOf}
 use Rattle.book.specs.Stored.{Means}
 use Rattle.book.specs.Handled.{Given, Handled}
 use Rattle.book.proofs.Laws.{next}
-use Rattle.search.specs.Place.{placeFrom, placeIn, isFound}
+use Rattle.search.specs.Place.{placeFrom, placeIn}
 use Rattle.instructions.specs.Paired.{paired}
 use Rattle.search.proofs.Laws.{found-some}
 use Rattle.instructions.proofs.Handling.{silent-handled, means-so, first-false, known}

@@ -19,13 +19,13 @@ use Rattle.rulebook.specs.declared.State.the-variants.{Single, Pair, Trade}
 use Rattle.rulebook.proofs.Orders.{accepted}
 use Rattle.rulebook.proofs.ByIndex.{item-at, cancel-at}
 use Rattle.rows.specs.Widths.{NoticeFits}
-use Rattle.words.specs.Places.{removeAt}
+use Rattle.words.specs.Places.{isFound, removeAt}
 use Rattle.words.specs.declared.Found.{Found}
 use Rattle.words.specs.declared.Found.the-variants.{At, Nothing}
 use Rattle.book.specs.Meaning.{ledgerOf}
 use Rattle.book.specs.Stored.{Means}
 use Rattle.book.specs.Handled.{Accepted, Handled}
-use Rattle.search.specs.Place.{placeIn, isFound}
+use Rattle.search.specs.Place.{placeIn}
 use Rattle.search.proofs.Laws.{Passes, found-passes, found-some}
 use Rattle.instructions.proofs.Notices.{notice-fits, marked-notice}
 

@@ -21,16 +21,17 @@ pub fn item_of(state: State, order: Order) -> Item
     Item {
         security: order.security,
         currency: order.currency,
-        debited: debited,
-        credited: credited,
-        quantity: quantity,
-        amount: amount,
+        debited,
+        credited,
+        quantity,
+        amount,
         trade_day: order.trade_day,
         settlement_day: order.settlement_day,
-        state: state,
+        state,
     }
 }
 
+// The item in another state.
 fn with_state(state: State, item: Item) -> Item
     ensures { λ r. ⌜ r ≡ withState state item ⌝ }
 {
@@ -41,13 +42,13 @@ fn with_state(state: State, item: Item) -> Item
     Item {
         security: item.security,
         currency: item.currency,
-        debited: debited,
-        credited: credited,
-        quantity: quantity,
-        amount: amount,
+        debited,
+        credited,
+        quantity,
+        amount,
         trade_day: item.trade_day,
         settlement_day: item.settlement_day,
-        state: state,
+        state,
     }
 }
 
@@ -84,8 +85,7 @@ pub fn sent_by(sender: u64, reference: u64, item: Item) -> bool
         State::Pair {
             deliver_reference,
             receive_reference,
-            deliver_marked: _,
-            receive_marked: _,
+            ..
         } => {
             ((sender == item.debited.member) & (reference == deliver_reference))
                 | ((sender == item.credited.member) & (reference == receive_reference))
@@ -99,17 +99,9 @@ pub fn sides_of(state: State) -> u64
     ensures { λ r. ⌜ r ≡ sidesOf state ⌝ }
 {
     match state {
-        State::Single {
-            delivers: _,
-            reference: _,
-        } => 1,
-        State::Pair {
-            deliver_reference: _,
-            receive_reference: _,
-            deliver_marked: _,
-            receive_marked: _,
-        } => 2,
-        State::Trade { reference: _ } => 2,
+        State::Single { .. } => 1,
+        State::Pair { .. } => 2,
+        State::Trade { .. } => 2,
     }
 }
 
@@ -121,22 +113,18 @@ pub fn not_cancellable(sender: u64, item: Item) -> bool
 {
     let state = item.state;
     match state {
-        State::Single {
-            delivers: _,
-            reference: _,
-        } => true,
+        State::Single { .. } => true,
         State::Pair {
-            deliver_reference: _,
-            receive_reference: _,
             deliver_marked,
             receive_marked,
+            ..
         } => {
             if sender == item.debited.member {
                 return deliver_marked;
             }
             receive_marked
         }
-        State::Trade { reference: _ } => false,
+        State::Trade { .. } => false,
     }
 }
 
@@ -146,16 +134,7 @@ pub fn mark(sender: u64, item: Item) -> Item
 {
     let state = item.state;
     match state {
-        State::Single {
-            delivers,
-            reference,
-        } => with_state(
-            State::Single {
-                delivers: delivers,
-                reference: reference,
-            },
-            item,
-        ),
+        State::Single { .. } => item,
         State::Pair {
             deliver_reference,
             receive_reference,
@@ -165,48 +144,40 @@ pub fn mark(sender: u64, item: Item) -> Item
             if sender == item.debited.member {
                 return with_state(
                     State::Pair {
-                        deliver_reference: deliver_reference,
-                        receive_reference: receive_reference,
+                        deliver_reference,
+                        receive_reference,
                         deliver_marked: true,
-                        receive_marked: receive_marked,
+                        receive_marked,
                     },
                     item,
                 );
             }
             with_state(
                 State::Pair {
-                    deliver_reference: deliver_reference,
-                    receive_reference: receive_reference,
-                    deliver_marked: deliver_marked,
+                    deliver_reference,
+                    receive_reference,
+                    deliver_marked,
                     receive_marked: true,
                 },
                 item,
             )
         }
-        State::Trade { reference } => with_state(
-            State::Trade {
-                reference: reference,
-            },
-            item,
-        ),
+        State::Trade { .. } => item,
     }
 }
 
+// Both halves of a pair are marked.
 pub fn both_marked(state: State) -> bool
     ensures { λ r. ⌜ r ≡ bothMarked state ⌝ }
 {
     match state {
-        State::Single {
-            delivers: _,
-            reference: _,
-        } => false,
+        State::Single { .. } => false,
         State::Pair {
-            deliver_reference: _,
-            receive_reference: _,
             deliver_marked,
             receive_marked,
+            ..
         } => deliver_marked & receive_marked,
-        State::Trade { reference: _ } => false,
+        State::Trade { .. } => false,
     }
 }
 
@@ -216,36 +187,21 @@ pub fn unmark(item: Item) -> Item
 {
     let state = item.state;
     match state {
-        State::Single {
-            delivers,
-            reference,
-        } => with_state(
-            State::Single {
-                delivers: delivers,
-                reference: reference,
-            },
-            item,
-        ),
+        State::Single { .. } => item,
         State::Pair {
             deliver_reference,
             receive_reference,
-            deliver_marked: _,
-            receive_marked: _,
+            ..
         } => with_state(
             State::Pair {
-                deliver_reference: deliver_reference,
-                receive_reference: receive_reference,
+                deliver_reference,
+                receive_reference,
                 deliver_marked: false,
                 receive_marked: false,
             },
             item,
         ),
-        State::Trade { reference } => with_state(
-            State::Trade {
-                reference: reference,
-            },
-            item,
-        ),
+        State::Trade { .. } => item,
     }
 }
 
@@ -261,39 +217,25 @@ pub fn tolerance_of(currency: u64) -> u64
     3_015_000
 }
 
+// A single that delivers.
 pub fn is_deliver(state: State) -> bool
     ensures { λ r. ⌜ r ≡ isDeliver state ⌝ }
 {
     match state {
-        State::Single {
-            delivers,
-            reference: _,
-        } => delivers,
-        State::Pair {
-            deliver_reference: _,
-            receive_reference: _,
-            deliver_marked: _,
-            receive_marked: _,
-        } => false,
-        State::Trade { reference: _ } => false,
+        State::Single { delivers, .. } => delivers,
+        State::Pair { .. } => false,
+        State::Trade { .. } => false,
     }
 }
 
+// A single that receives.
 pub fn is_receive(state: State) -> bool
     ensures { λ r. ⌜ r ≡ isReceive state ⌝ }
 {
     match state {
-        State::Single {
-            delivers,
-            reference: _,
-        } => !delivers,
-        State::Pair {
-            deliver_reference: _,
-            receive_reference: _,
-            deliver_marked: _,
-            receive_marked: _,
-        } => false,
-        State::Trade { reference: _ } => false,
+        State::Single { delivers, .. } => !delivers,
+        State::Pair { .. } => false,
+        State::Trade { .. } => false,
     }
 }
 
@@ -302,16 +244,8 @@ fn own_reference(state: State) -> u64
     ensures { λ r. ⌜ r ≡ ownReference state ⌝ }
 {
     match state {
-        State::Single {
-            delivers: _,
-            reference,
-        } => reference,
-        State::Pair {
-            deliver_reference: _,
-            receive_reference: _,
-            deliver_marked: _,
-            receive_marked: _,
-        } => 0,
+        State::Single { reference, .. } => reference,
+        State::Pair { .. } => 0,
         State::Trade { reference } => reference,
     }
 }
@@ -333,7 +267,7 @@ fn do_agree(limit: u64, deliver: Item, receive: Item) -> bool
         & (deliver.currency == receive.currency)
         & (deliver.debited.member == receive.debited.member)
         & (deliver.credited.member == receive.credited.member)
-        & checks::are_alike(deliver.debited.typ, receive.credited.typ)
+        & types::are_alike(deliver.debited.typ, receive.credited.typ)
         & (difference <= limit)
 }
 
@@ -368,13 +302,13 @@ pub fn pair_up(deliver: Item, receive: Item) -> Item
     Item {
         security: deliver.security,
         currency: deliver.currency,
-        debited: debited,
-        credited: credited,
-        quantity: quantity,
-        amount: amount,
+        debited,
+        credited,
+        quantity,
+        amount,
         trade_day: deliver.trade_day,
         settlement_day: deliver.settlement_day,
-        state: state,
+        state,
     }
 }
 
@@ -388,27 +322,19 @@ pub fn close_kind(day: u64, item: Item) -> u64
     let state = item.state;
     let settles = item.settlement_day;
     match state {
-        State::Single {
-            delivers: _,
-            reference: _,
-        } => {
+        State::Single { .. } => {
             if settles == day {
                 return 1;
             }
             0
         }
-        State::Pair {
-            deliver_reference: _,
-            receive_reference: _,
-            deliver_marked: _,
-            receive_marked: _,
-        } => {
+        State::Pair { .. } => {
             if day == settles + 10 {
                 return 2;
             }
             0
         }
-        State::Trade { reference: _ } => {
+        State::Trade { .. } => {
             if settles <= day {
                 return 3;
             }

@@ -8,7 +8,6 @@ ghost use Rattle.netting.specs.Figures.{TO, NUMBER, cashKey};
 ghost use Rattle.netting.specs.Filled.{ShareLegs, ShareStart, CashLegs, CashStart};
 ghost use Rattle.netting.specs.Ready.{Ready};
 use crate::figures;
-use crate::trades;
 
 pub const TO: usize = 64;
 
@@ -34,9 +33,9 @@ pub fn fill_shares(legs: &mut [u64], figures: &mut [u64], book: &[u64])
     let mut i: usize = 0;
     while i < n {
         let trade = book::item_at(book, i);
-        let seller = trades::seller_of(trade);
+        let seller = parties::seller_of(trade);
         let from = accounts::key_of(seller);
-        let to = accounts::key_of(trades::buyer_of(trade));
+        let to = accounts::key_of(parties::buyer_of(trade));
         put_leg(legs, i, from, to, trade.quantity.0);
         let held = book::balance(book, seller);
         figures::put_figures(figures, i, held.0, 0);

@@ -3,7 +3,6 @@ mod figures;
 mod legs;
 pub mod marks;
 mod slots;
-pub mod trades;
 
 ghost use Prim.Native.Nat.{_≤_};
 ghost use Rattle.book.specs.Meaning.{ledgerOf};

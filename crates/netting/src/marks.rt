@@ -33,17 +33,9 @@ fn is_due(item: Item, day: u64) -> bool
 {
     let state = item.state;
     match state {
-        State::Single {
-            delivers: _,
-            reference: _,
-        } => false,
-        State::Pair {
-            deliver_reference: _,
-            receive_reference: _,
-            deliver_marked: _,
-            receive_marked: _,
-        } => item.settlement_day <= day,
-        State::Trade { reference: _ } => item.settlement_day <= day,
+        State::Single { .. } => false,
+        State::Pair { .. } => item.settlement_day <= day,
+        State::Trade { .. } => item.settlement_day <= day,
     }
 }
 

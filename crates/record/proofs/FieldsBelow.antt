@@ -12,7 +12,7 @@ use Rattle.rulebook.specs.Field.{places, always, ruleIn}
 use Rattle.rulebook.specs.Forms.{Form, forms, rowOf, used, least, most}
 use Rattle.rulebook.proofs.ByCall.{by-test}
 use Rattle.record.specs.Fields.{earlierOf, lastAreZero}
-use Rattle.record.proofs.Below.{any, any-more, none-passes}
+use Rattle.rulebook.proofs.Below.{any, any-more, none-passes}
 
 -- 4 or 5, whichever applies first
 abbrev pub either : Bool → Bool → ℕ

@@ -7,7 +7,7 @@ use native.Mathlib.Omega.{arith}
 use borrow.Author.Tests.{eq-eqb, ne-eqb, leb-true, leb-false, lt-leb}
 use lib.Dec.{leb}
 use lib.ListN.{length, getD}
-use Rattle.rulebook.specs.Lists.{_is_, within, some, first}
+use Rattle.rulebook.specs.Lists.{_is_, within, some}
 use Rattle.rulebook.specs.Ledger.{Ledger}
 use Rattle.rulebook.specs.Premise.{Premise}
 use Rattle.rulebook.specs.Waiting.{senderOf, sentBy, notCancellable}
@@ -15,9 +15,10 @@ use Rattle.rulebook.specs.Refusals.{wrongCancel}
 use Rattle.rulebook.specs.declared.Order.{Order}
 use Rattle.rulebook.specs.declared.Item.{Item}
 use Rattle.rulebook.proofs.ByIndex.{reference-once}
+use Rattle.words.specs.Places.{isFound}
 use Rattle.words.specs.declared.Found.{Found}
 use Rattle.words.specs.declared.Found.the-variants.{At, Nothing}
-use Rattle.search.specs.Place.{placeIn, isFound}
+use Rattle.search.specs.Place.{placeIn}
 use Rattle.search.proofs.Laws.{Passes, found-some, found-passes}
 
 -- where none passes one test, none passes it together with another
@@ -98,11 +99,3 @@ module _ (b : Ledger) (o : Order) (s : ℕ) (f : Found) (form : o.form ≡ 15) (
     cancel-at p x here =
         rw (eq-eqb o.form 15 form, ← sender)
         (cancel-one b p s o.reference i (found-passes (sentBy s o.reference) b.waiting i (sym found ∙ e)) x here)
-
--- ---- one step in a checking order
-
-pub first-hit : (n : ℕ) (t : Bool) (rest : List (ℕ × Bool)) → t ≡ true → first ((n, t) ∷ rest) ≡ n
-first-hit n t rest e = rw e
-
-pub first-skip : (n : ℕ) (t : Bool) (rest : List (ℕ × Bool)) → t ≡ false → first ((n, t) ∷ rest) ≡ first rest
-first-skip n t rest e = rw e

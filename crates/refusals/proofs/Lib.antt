@@ -1,4 +1,6 @@
 pub mod Laws
+pub mod Arms
+pub mod Windows
 pub mod Growth
 pub mod Orders
 pub mod Roomy

@@ -8,13 +8,14 @@ use lib.ListN.{length}
 use Rattle.rulebook.specs.Lists.{_is_, _below_, within}
 use Rattle.rulebook.specs.Ledger.{Ledger}
 use Rattle.rulebook.specs.Premise.{Premise}
-use Rattle.rulebook.specs.Refusals.{wrongPair, wrongParties, tooLittle, noSpace}
+use Rattle.rulebook.specs.Refusals.{noSpace}
 use Rattle.rulebook.specs.declared.Order.{Order}
 use Rattle.rulebook.proofs.ByCall.{HasForm}
 use Rattle.rulebook.proofs.Sizes.{never-grows}
 use Rattle.rulebook.proofs.Space.{deposit-space, transfer-space, instruct-space, trade-space, sides-apart}
 use Rattle.rulebook.proofs.Orders.{debit-enough}
 use Rattle.book.specs.Handled.{WasRead}
+use Rattle.refusals.specs.Room.{isFull, isListFull, SidesPassed}
 use Rattle.refusals.proofs.Laws.{within-parts}
 use Rattle.refusals.proofs.Growth.{wider, instruction, never}
 use Rattle.refusals.proofs.Orders.{ranges, some-quantity}
@@ -29,7 +30,7 @@ not-false false e = sym e
 
 -- the last form that can lack space, in a book without room for one more item
 pub last :
-    (b : Ledger) (o : Order) → Premise b → (63 below length b.waiting || 255 below (b.holdings.accounts + length b.waiting)) ≡ true → HasForm o.form
+    (b : Ledger) (o : Order) → Premise b → isListFull b ≡ true → HasForm o.form
     → (o.form is 2) ≡ false → (o.form is 3) ≡ false → within 5 9 o.form ≡ false → within 12 13 o.form ≡ false → noSpace b o ≡ (o.form is 14)
 last b o p full h two three five twelve = go (o.form is 14) refl
   where
@@ -37,13 +38,13 @@ last b o p full h two three five twelve = go (o.form is 14) refl
     go true e = trade-space b o (p .sizes) (eqb-true o.form 14 e) ∙ full ∙ sym e
     go false e = never-grows b o (never o.form h two three five twelve e) (p .sizes) ∙ sym e
 
-module _ (b : Ledger) (o : Order) (w : WasRead o) (p : Premise b) (enough : tooLittle b.holdings o ≡ false) (pair : wrongPair o ≡ false) (parties : wrongParties o ≡ false) where
+module _ (b : Ledger) (o : Order) (w : WasRead o) (p : Premise b) (passed : SidesPassed b o) where
   pub roomy :
-      (o.form is 2) ≡ false → (63 below length b.waiting || 255 below (b.holdings.accounts + length b.waiting)) ≡ false → noSpace b o ≡ false
+      (o.form is 2) ≡ false → isListFull b ≡ false → noSpace b o ≡ false
   roomy two room = on-3 (o.form is 3) refl
     where
-      full : (255 below (b.holdings.accounts + length b.waiting)) ≡ false
-      full = or-none (63 below length b.waiting) (255 below (b.holdings.accounts + length b.waiting)) room
+      full : isFull b ≡ false
+      full = or-none (63 below length b.waiting) (isFull b) room
 
       on-14 : (t : Bool) → (o.form is 14) ≡ t → (o.form is 3) ≡ false → within 5 9 o.form ≡ false → within 12 13 o.form ≡ false → noSpace b o ≡ false
       on-14 true e three five twelve = trade-space b o (p .sizes) (eqb-true o.form 14 e) ∙ room
@@ -58,7 +59,7 @@ module _ (b : Ledger) (o : Order) (w : WasRead o) (p : Premise b) (enough : tooL
       on-5 true e three =
           let r = within-parts 5 9 o.form e in
           let l : 3 ≤ o.form = omega (arith, r .0) in
-          transfer-space b o (p .sizes) (r .0) (r .1) (some-quantity o w l (r .1)) (debit-enough b o enough (wider o.form e)) (sides-apart b o (r .0) (r .1) pair parties)
+          transfer-space b o (p .sizes) (r .0) (r .1) (some-quantity o w l (r .1)) (debit-enough b o (passed .enough) (wider o.form e)) (sides-apart b o (r .0) (r .1) (passed .types) (passed .parties))
           ∙ simp (full, and-false)
       on-5 false e three = on-12 (within 12 13 o.form) refl three e
 

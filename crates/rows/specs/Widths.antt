@@ -34,7 +34,3 @@ pub record TradeFits (trade : Item) : Type 0 where
   pub debited : AccountFits (seller trade)
   pub credited : AccountFits (buyer trade)
   pub currency : trade.currency < 2 ^ 14
-
--- types 90 and 91 of a security have member 0 and shareholder 0
-abbrev pub outsideAccount : (typ security : ℕ) → Account
-outsideAccount typ security = record { security = security; member = 0; typ = typ; shareholder = 0 }

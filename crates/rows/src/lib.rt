@@ -6,7 +6,7 @@ ghost use lib.ListN.{length, drop};
 ghost use Rattle.rulebook.specs.Movements.{account, cashOf, move};
 ghost use Rattle.rulebook.specs.Cycle.{legs};
 ghost use Rattle.rulebook.specs.Rows.{postingBytes, noticeBytes, postingOf, postingRows, notice, noticeOf, rowsBytes, deliverReference, receiveReference};
-ghost use Rattle.rows.specs.Widths.{PostingFits, NoticeFits, AccountFits, CashFits, TradeFits, outsideAccount};
+ghost use Rattle.rows.specs.Widths.{PostingFits, NoticeFits, AccountFits, CashFits, TradeFits};
 use rulebook::Account;
 use rulebook::Cents;
 use rulebook::Item;
@@ -44,35 +44,11 @@ fn write_movement(area: &mut [u8], debit: Posting, credit: Posting)
     write_posting(&mut area[16..], credit);
 }
 
-// Type 91 of a security, its outside count, as a posting row names it.
-pub fn outside_account(security: u64) -> Account
-    ensures { λ r. ⌜ r ≡ outsideAccount 91 security ⌝ }
-{
-    Account {
-        security: security,
-        member: 0,
-        typ: 91,
-        shareholder: 0,
-    }
-}
-
-// Type 90 of a security, its issued count, as a posting row names it.
-pub fn issued_account(security: u64) -> Account
-    ensures { λ r. ⌜ r ≡ outsideAccount 90 security ⌝ }
-{
-    Account {
-        security: security,
-        member: 0,
-        typ: 90,
-        shareholder: 0,
-    }
-}
-
 fn shares_row(credit: u64, a: Account, quantity: Shares) -> Posting
     ensures { λ r. ⌜ r ≡ postingOf credit (account a) (quantity .0) ⌝ }
 {
     Posting {
-        credit: credit,
+        credit,
         cash: 0,
         what: a.security,
         member: a.member,
@@ -86,10 +62,10 @@ fn cash_row(credit: u64, member: u64, currency: u64, amount: Cents) -> Posting
     ensures { λ r. ⌜ r ≡ postingOf credit (cashOf member currency) (amount .0) ⌝ }
 {
     Posting {
-        credit: credit,
+        credit,
         cash: 1,
         what: currency,
-        member: member,
+        member,
         typ: 0,
         shareholder: 0,
         number: amount.0,
@@ -125,18 +101,8 @@ pub fn write_trade(area: &mut [u8], trade: Item)
     requires { ⌜ (64 ≤ length (now area)) × TradeFits trade ⌝ }
     ensures { λ u. ⌜ now (area .exit) ≡ rowsBytes (postingRows (legs (trade ∷ []))) ++ drop 64 (now (area .entry)) ⌝ }
 {
-    let seller = Account {
-        security: trade.security,
-        member: trade.debited.member,
-        typ: trade.debited.typ,
-        shareholder: trade.debited.shareholder,
-    };
-    let buyer = Account {
-        security: trade.security,
-        member: trade.credited.member,
-        typ: trade.credited.typ,
-        shareholder: trade.credited.shareholder,
-    };
+    let seller = parties::seller_of(trade);
+    let buyer = parties::buyer_of(trade);
     write_shares(area, seller, buyer, trade.quantity);
     let payer = trade.credited.member;
     let payee = trade.debited.member;
@@ -153,9 +119,7 @@ fn deliver_reference(state: State) -> u64
         } => { if delivers { reference } else { 0 } }
         State::Pair {
             deliver_reference,
-            receive_reference: _,
-            deliver_marked: _,
-            receive_marked: _,
+            ..
         } => deliver_reference,
         State::Trade { reference } => reference,
     }
@@ -170,10 +134,8 @@ fn receive_reference(state: State) -> u64
             reference,
         } => { if delivers { 0 } else { reference } }
         State::Pair {
-            deliver_reference: _,
             receive_reference,
-            deliver_marked: _,
-            receive_marked: _,
+            ..
         } => receive_reference,
         State::Trade { reference } => reference,
     }
@@ -184,7 +146,7 @@ fn notice_of(kind: u64, item: Item) -> Notice
 {
     let state = item.state;
     Notice {
-        kind: kind,
+        kind,
         deliverer: item.debited.member,
         receiver: item.credited.member,
         deliver_reference: deliver_reference(state),

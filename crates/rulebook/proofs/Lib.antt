@@ -8,6 +8,8 @@ pub mod RoundTrips
 pub mod Demand3
 -- the desk checks: `desk`
 pub mod Desk
+-- a call answers with the first of its checks that applies: `checking-order`
+pub mod CheckingOrder
 -- the premise: the fresh book meets it (`fresh-premise`) and every call keeps it (`call-premise`), so the number of accounts that a book carries is
 -- the number of those with a balance (`accounts-counted`)
 pub mod EveryCall
@@ -34,11 +36,15 @@ pub mod Cancelling
 
 -- lists, account types, sums over accounts, securities, rows that are read back, what movements do to sums
 pub mod Lists
+-- a test on every number below another: a table's rule by one computed test
+pub mod Below
 pub mod Types
 pub mod Held
 pub mod Securities
 pub mod Reading
 pub mod Sums
+-- checking orders: the test of a number (`none-applies`), one order behind another (`first-append`)
+pub mod Checking
 -- an order that was read, and one that no test refuses
 pub mod Orders
 -- from forms to calls and lists of calls, and the step that each form makes

@@ -19,11 +19,12 @@ use Rattle.rulebook.specs.Field as Field
 use Rattle.rulebook.specs.Field.{places, widths, ceiling, always, ruleIn}
 use Rattle.rulebook.proofs.ByCall.{by-test}
 use Rattle.rulebook.specs.Forms.{Form, forms, used, least, most, windowOf}
-use Rattle.rulebook.specs.Record.{orderOf, fieldsIn, noForm, unusedNotZero, usedOutOfRange, readRefusal, readOf}
+use Rattle.rulebook.specs.Record.{orderOf, fieldsIn, noForm, unusedNotZero, usedOutOfRange, fieldTests, readRefusal, readOf}
 use Rattle.rulebook.specs.Ledger.{Ledger, accountOf, sameAccount, admitted, outsideOf}
 use Rattle.rulebook.specs.Windows.{cycleMinutes}
 use Rattle.rulebook.specs.Waiting.{senderOf, sentBy}
-use Rattle.rulebook.specs.Refusals.{wrongDay, wrongCycle, goesBack, outsideWindow, wrongSecurity, wrongPair, wrongParties, wrongDays, wrongReference, wrongCancel, tooLittle, overCeiling, noSpace, refusals}
+use Rattle.rulebook.specs.Refusals.{wrongDay, wrongCycle, goesBack, outsideWindow, wrongSecurity, wrongPair, wrongParties, wrongDays, wrongReference, wrongCancel, tooLittle, overCeiling, noSpace, dayTests, orderTests, itemTests, roomTests, refusals}
+use Rattle.rulebook.proofs.Checking.{none-applies}
 
 -- ---- an order that was read
 
@@ -73,24 +74,6 @@ read-is bytes o e = go (readRefusal bytes is 0) (readRefusal bytes) e
 -- the fields of an order that was read fit their widths
 pub read-fits : (bytes : List ℕ) (o : Order) → readOf bytes ≡ Read.Order o → OrderFits o
 read-fits bytes o e = subst OrderFits (read-is bytes o e) (fields-fit bytes)
-
--- where no number is given, no test applies
-
-abbrev Numbered : List (ℕ × Bool) → Type 0
-Numbered [] = Unit {0}
-Numbered (check ∷ rest) = (1 ≤ check .0) × Numbered rest
-
-abbrev pub NoneApplies : List (ℕ × Bool) → Type 0
-NoneApplies [] = Unit {0}
-NoneApplies (check ∷ rest) = (check .1 ≡ false) × NoneApplies rest
-
-pub none-applies : (checks : List (ℕ × Bool)) → Numbered checks → first checks ≡ 0 → NoneApplies checks
-none-applies [] n e = tt
-none-applies (check ∷ rest) n e = go (check .1) refl (none-applies rest (n .1))
-  where
-    go : (t : Bool) → check .1 ≡ t → (first rest ≡ 0 → NoneApplies rest) → NoneApplies (check ∷ rest)
-    go true p later = absurd (omega (arith, n .0, simp p at e))
-    go false p later = (p, later (simp p at e))
 
 -- the members of an order that was read are 1 to 64 where its form uses them, and a type is 0 where its form does not use it
 
@@ -208,18 +191,13 @@ pub read-tests : (bytes : List ℕ) (o : Order) → readOf bytes ≡ Read.Order 
 unfolding readRefusal
 read-tests bytes o e =
     let fields = fieldsIn bytes in
-    let n = none-applies ((2, length bytes isNot 40) ∷ (3, noForm fields) ∷ (4, unusedNotZero fields) ∷ (5, usedOutOfRange fields) ∷ []) (omega arith) (read-passes bytes o e) in
-    (eqb-true (length bytes) 40 (not-false _ (n .0)), record { form = n .1 .0; unused = n .1 .1 .0; ranges = n .1 .1 .1 .0 })
+    let n = none-applies ((2, length bytes isNot 40) ∷ fieldTests fields) (omega arith) (read-passes bytes o e) in
+    (eqb-true (length bytes) 40 (not-false _ (n 2)), record { form = n 3; unused = n 4; ranges = n 5 })
 
 pub read-ranges : (bytes : List ℕ) (o : Order) → readOf bytes ≡ Read.Order o → Ranges o
 read-ranges bytes o e = let p = read-tests bytes o e .1 in subst Ranges (read-is bytes o e) (fields-range (fieldsIn bytes) (p .form) (p .unused) (p .ranges))
 
 -- ---- an order that no test refuses
-
--- an accepted order passes each of the tests 6 to 18
-passed : (b : Ledger) (o : Order) → first (refusals b o) ≡ 0 → NoneApplies (refusals b o)
-unfolding refusals
-passed b o e = none-applies (refusals b o) (omega arith) e
 
 -- what is known of an order that was read and accepted
 pub record Accepted (b : Ledger) (o : Order) : Type 0 where
@@ -240,25 +218,25 @@ pub record Accepted (b : Ledger) (o : Order) : Type 0 where
   pub space : noSpace b o ≡ false
 
 pub accepted : (b : Ledger) (o : Order) (bytes : List ℕ) → readOf bytes ≡ Read.Order o → first (refusals b o) ≡ 0 → Accepted b o
-unfolding refusals
+unfolding refusals dayTests orderTests itemTests roomTests
 accepted b o bytes e z =
-    let p = passed b o z in
+    let passed = none-applies (refusals b o) (omega arith) z in
     record {
       fits = read-fits bytes o e;
       ranges = read-ranges bytes o e;
-      right-day = p .0;
-      cycle = p .1 .0;
-      back = p .1 .1 .0;
-      window = p .1 .1 .1 .0;
-      security = p .1 .1 .1 .1 .0;
-      types = p .1 .1 .1 .1 .1 .0;
-      parties = p .1 .1 .1 .1 .1 .1 .0;
-      days = p .1 .1 .1 .1 .1 .1 .1 .0;
-      reference = p .1 .1 .1 .1 .1 .1 .1 .1 .0;
-      cancel = p .1 .1 .1 .1 .1 .1 .1 .1 .1 .0;
-      little = p .1 .1 .1 .1 .1 .1 .1 .1 .1 .1 .0;
-      ceiling = p .1 .1 .1 .1 .1 .1 .1 .1 .1 .1 .1 .0;
-      space = p .1 .1 .1 .1 .1 .1 .1 .1 .1 .1 .1 .1 .0;
+      right-day = passed 6;
+      cycle = passed 7;
+      back = passed 8;
+      window = passed 9;
+      security = passed 10;
+      types = passed 11;
+      parties = passed 12;
+      days = passed 13;
+      reference = passed 14;
+      cancel = passed 15;
+      little = passed 16;
+      ceiling = passed 17;
+      space = passed 18;
     }
 
 -- the fields that a form uses

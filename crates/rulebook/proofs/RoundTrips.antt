@@ -18,10 +18,11 @@ use Rattle.rulebook.specs.Lists.{if_then_else_, _is_, _isNot_, _below_, 
 use Rattle.rulebook.specs.Field as Field
 use Rattle.rulebook.specs.Field.{places, widths, ceiling, always}
 use Rattle.rulebook.specs.Forms.{Form, forms, used, least, most}
-use Rattle.rulebook.specs.Record.{fieldsOf, orderOf, noForm, unusedNotZero, usedOutOfRange, fieldsIn, readRefusal, readOf, recordOf, writeRefusal}
+use Rattle.rulebook.specs.Record.{fieldsOf, orderOf, noForm, unusedNotZero, usedOutOfRange, fieldTests, fieldsIn, readRefusal, readOf, recordOf, writeRefusal}
 use Rattle.rulebook.proofs.Lists.{_and_}
 use Rattle.rulebook.proofs.ByCall.{by-test}
-use Rattle.rulebook.proofs.Orders.{none-applies, none-at, most-ceiling, in-range, is-zero, read-is, Passed, read-tests}
+use Rattle.rulebook.proofs.Checking.{none-applies}
+use Rattle.rulebook.proofs.Orders.{none-at, most-ceiling, in-range, is-zero, read-is, Passed, read-tests}
 
 -- a field that is used is in its range, and another is 0
 in-width : (u : Bool) (a b w n : ℕ) → (u && not (within a b n)) ≡ false → (not u && n isNot 0) ≡ false → b < 2 ^ w → n < 2 ^ w
@@ -73,8 +74,8 @@ write-tests : (o : Order) (area : List ℕ) → writeRefusal o area ≡ 0 → Pa
 unfolding writeRefusal
 write-tests o area e =
     let fields = fieldsOf o in
-    let n = none-applies ((1, length area below 40) ∷ (3, noForm fields) ∷ (4, unusedNotZero fields) ∷ (5, usedOutOfRange fields) ∷ []) (omega arith) e in
-    record { form = n .1 .0; unused = n .1 .1 .0; ranges = n .1 .1 .1 .0 }
+    let n = none-applies ((1, length area below 40) ∷ fieldTests fields) (omega arith) e in
+    record { form = n 3; unused = n 4; ranges = n 5 }
 
 -- the fields of the 40 bytes that the writer makes are the order's
 fields-back : (o : Order) → Passed (fieldsOf o) → fieldsIn (recordOf o) ≡ fieldsOf o

@@ -21,6 +21,7 @@ use Rattle.rulebook.specs.declared.Read.{Read}
 use Rattle.rulebook.specs.declared.Written.{Written}
 use Rattle.rulebook.proofs.RoundTrips.{write-read, read-write, read-writable, first-bytes}
 use Rattle.rulebook.proofs.Rounds.{settling-done, enough-shares, enough-cash}
+use Rattle.rulebook.proofs.CheckingOrder.{checking-order}
 use Rattle.rulebook.proofs.Sizes.{cycle-space}
 use Rattle.rulebook.proofs.EveryCall.{fresh-premise, call-premise}
 use Rattle.rulebook.proofs.Demand3.{demand3}
@@ -64,6 +65,7 @@ theorems = record {
   writeRead = λ o area w. let e = wrote o area w in ap readOf (bytes-there o area e) ∙ write-read o area e;
   readWrite = λ octets o area fine r room. let e = read-writable octets o area r room in (writes o area e, bytes-there o area e ∙ read-write octets o fine r);
   firstBytes = first-bytes-of;
+  checkingOrder = checking-order;
   shortFound = short-found;
   nothingShort = λ book. unfold settling in short-found book.holdings (settling book) (settling-done book.day.number book.holdings book.waiting);
   cycleHasRoom = λ book o form p. cycle-space book o form (p .sizes);

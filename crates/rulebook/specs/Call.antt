@@ -56,6 +56,9 @@ unfoldable pub readCall : Ledger → Read → List ℕ → Result
 readCall book (Read.Order order) area = orderCall book order area
 readCall book (Read.Refused number) area = refused number book area
 
--- The lent area is shorter than 4,096 bytes.
+-- 1. The lent area is shorter than 4,096 bytes.
+abbrev pub shortArea : List ℕ → Bool
+shortArea area = length area below 4_096
+
 unfoldable pub callOf : Ledger → List ℕ → List ℕ → Result
-callOf book bytes area = if length area below 4_096 then refused 1 book area else readCall book (readOf bytes) area
+callOf book bytes area = if shortArea area then refused 1 book area else readCall book (readOf bytes) area

@@ -14,6 +14,7 @@ pub mod Forms
 pub mod Record
 pub mod Refusals
 pub mod Call
+pub mod Checks
 pub mod Calls
 pub mod Premise
 pub mod Desk

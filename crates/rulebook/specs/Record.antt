@@ -61,9 +61,13 @@ fieldTests fields = (3, noForm fields) ∷ (4, unusedNotZero fields) ∷ (5, use
 unfoldable pub fieldsIn : List ℕ → List ℕ
 fieldsIn octets = cut octets 0 widths
 
--- The reader gives 2 to 5. 2: The record is not 40 bytes. 0 where it reads
+-- The reader's tests, 2 to 5. 2: The record is not 40 bytes.
+abbrev pub readTests : List ℕ → List (ℕ × Bool)
+readTests octets = (2, length octets isNot 40) ∷ fieldTests (fieldsIn octets)
+
+-- the first of them that applies; 0 where it reads
 unfoldable pub readRefusal : List ℕ → ℕ
-readRefusal octets = first ((2, length octets isNot 40) ∷ fieldTests (fieldsIn octets))
+readRefusal octets = first (readTests octets)
 
 -- what the reader answers
 unfoldable pub readOf : List ℕ → Read

@@ -1,7 +1,7 @@
 -- Refusals 6 to 18, in checking order.
 use Prim.Native.Nat.{ℕ, _+_}
 use mathlib.Core.Bool.{Bool, true, false, not, _||_, _&&_}
-use mathlib.Core.List.{List, [], _∷_}
+use mathlib.Core.List.{List, [], _∷_, _++_}
 use lib.ListN.{length}
 use Rattle.rulebook.specs.Lists.{if_then_else_, _is_, _isNot_, _below_, _atMost_, _oneOf_, within, some, total}
 use Rattle.rulebook.specs.AccountTypes.{wrongTypes}
@@ -91,20 +91,40 @@ noSpace book order =
     let after : Ledger = effect book order .after in
     32 below length after.holdings.securities || 64 below length after.waiting || 256 below (after.holdings.accounts + length after.waiting)
 
--- Refusals, in checking order
-unfoldable pub refusals : Ledger → Order → List (ℕ × Bool)
-refusals book order =
-    (6, wrongDay book.day order)
-    ∷ (7, wrongCycle book.day order)
-    ∷ (8, goesBack book.day order)
-    ∷ (9, outsideWindow book.day order)
-    ∷ (10, wrongSecurity book.holdings order)
+-- What the day and the order settle
+unfoldable pub dayTests : Day → Order → List (ℕ × Bool)
+dayTests day order =
+    (6, wrongDay day order)
+    ∷ (7, wrongCycle day order)
+    ∷ (8, goesBack day order)
+    ∷ (9, outsideWindow day order)
+    ∷ []
+
+-- what the order says of its security, types, parties and days
+unfoldable pub orderTests : Holdings → (today : ℕ) → Order → List (ℕ × Bool)
+orderTests holdings today order =
+    (10, wrongSecurity holdings order)
     ∷ (11, wrongPair order)
     ∷ (12, wrongParties order)
-    ∷ (13, wrongDays book.day.number order)
-    ∷ (14, wrongReference book.waiting order)
-    ∷ (15, wrongCancel book.waiting order)
-    ∷ (16, tooLittle book.holdings order)
+    ∷ (13, wrongDays today order)
+    ∷ []
+
+-- what it says of an item that waits
+unfoldable pub itemTests : List Item → Order → List (ℕ × Bool)
+itemTests waiting order =
+    (14, wrongReference waiting order)
+    ∷ (15, wrongCancel waiting order)
+    ∷ []
+
+-- whether the book has enough, and room
+unfoldable pub roomTests : Ledger → Order → List (ℕ × Bool)
+roomTests book order =
+    (16, tooLittle book.holdings order)
     ∷ (17, overCeiling book.holdings order)
     ∷ (18, noSpace book order)
     ∷ []
+
+-- Refusals 6 to 18, in checking order: four stages, one behind the other
+unfoldable pub refusals : Ledger → Order → List (ℕ × Bool)
+refusals book order =
+    dayTests book.day order ++ (orderTests book.holdings book.day.number order ++ (itemTests book.waiting order ++ roomTests book order))

@@ -9,6 +9,7 @@ use Rattle.rulebook.specs.Ledger.{Holdings, Ledger, fresh}
 use Rattle.rulebook.specs.Record.{readOf, recordOf, writtenOf, areaWritten}
 use Rattle.rulebook.specs.Cycle.{Marked, NothingShort, anyShort, settling}
 use Rattle.rulebook.specs.Refusals.{noSpace}
+use Rattle.rulebook.specs.Checks.{CheckingOrder}
 use Rattle.rulebook.specs.Calls.{Call, resultOf, Demand3}
 use Rattle.rulebook.specs.Premise.{Premise}
 use Rattle.rulebook.specs.Desk.{Desk}
@@ -25,6 +26,8 @@ pub record Theorems : Type 0 where
   -- RULES A.1, of every such order
   pub firstBytes :
       (o : Order) (area : List ℕ) → o.form ≡ 3 → o.minute ≡ 540 → writtenOf o area ≡ Written.Record → take 2 (areaWritten o area) ≡ 0x1A ∷ 0x1C ∷ []
+  -- RULES 7.0: a call answers with the first of its checks that applies
+  pub checkingOrder : CheckingOrder
   -- RULES 9.4, 9.7: the test on the trades that are taken finds whatever is short, and nothing is short when a cycle settles
   pub shortFound : (h : Holdings) (marked : List Marked) → anyShort h marked ≡ false → NothingShort h marked
   pub nothingShort : (book : Ledger) → NothingShort book.holdings (settling book)

@@ -8,9 +8,10 @@ use native.Mathlib.Omega.{arith}
 use lib.ListN.{length, getD, drop, drop-of-length-le}
 use lib.Seq.{drop-cons}
 use Rattle.rulebook.specs.Lists.{if_then_else_, some}
+use Rattle.words.specs.Places.{isFound}
 use Rattle.words.specs.declared.Found.{Found}
 use Rattle.words.specs.declared.Found.the-variants.{At, Nothing}
-use Rattle.search.specs.Place.{placeFrom, placeIn, isFound}
+use Rattle.search.specs.Place.{placeFrom, placeIn}
 
 -- ---- the loop: what is left of the list decides
 

@@ -1,6 +1,6 @@
 -- Where the first element of a list stands that passes a test.
 use Prim.Native.Nat.{ℕ, suc}
-use mathlib.Core.Bool.{Bool, true, false}
+use mathlib.Core.Bool.{Bool}
 use mathlib.Core.List.{List, [], _∷_}
 use Rattle.rulebook.specs.Lists.{if_then_else_}
 use Rattle.words.specs.declared.Found.{Found}
@@ -13,7 +13,3 @@ placeFrom test i (x ∷ rest) = let later = placeFrom test (suc i) rest in if te
 
 abbrev pub placeIn : {A : Type 0} → (A → Bool) → List A → Found
 placeIn test l = placeFrom test 0 l
-
-abbrev pub isFound : Found → Bool
-isFound (At i) = true
-isFound Nothing = false

@@ -6,7 +6,7 @@ ghost use Rattle.rulebook.specs.Waiting.{sentBy};
 ghost use Rattle.rulebook.specs.Matching.{pairsWith};
 ghost use Rattle.book.specs.Meaning.{ledgerOf};
 ghost use Rattle.book.specs.Stored.{Stored};
-ghost use Rattle.search.specs.Place.{placeIn, isFound};
+ghost use Rattle.search.specs.Place.{placeIn};
 use rulebook::Item;
 use words::Found;
 
@@ -62,14 +62,4 @@ pub fn first_pairing(book: &[u64], limit: u64, arriving: Item) -> Found
         i += 1;
     }
     Found::Nothing
-}
-
-// Whether a search found something.
-pub fn is_found(found: Found) -> bool
-    ensures { λ r. ⌜ r ≡ isFound found ⌝ }
-{
-    match found {
-        Found::At(_) => true,
-        Found::Nothing => false,
-    }
 }

@@ -15,11 +15,11 @@ use Rattle.rulebook.specs.Ledger.{Holdings, fresh, admitted, issuedOf, outsideO
 use Rattle.rulebook.specs.Movements.{credit, debit, type91}
 use Rattle.rulebook.specs.Premise.{withCode}
 use Rattle.rulebook.specs.declared.Security.{Security}
-use Rattle.words.specs.Places.{listFrom}
+use Rattle.words.specs.Places.{isFound, listFrom}
 use Rattle.words.specs.Tables.{rows, keyAt, placeOf, sumOf, valueOf, KeysOnce}
 use Rattle.words.specs.declared.Found.{Found}
 use Rattle.words.specs.declared.Found.the-variants.{At, Nothing}
-use Rattle.words.proofs.Places.{isFound, length-from, from-get, from-same, from-push, from-map, from-some, from-total}
+use Rattle.words.proofs.Places.{length-from, from-get, from-same, from-push, from-map, from-some, from-total}
 use Rattle.rulebook.proofs.Held.{sum-same}
 use Rattle.words.proofs.Sums.{sum-none, sum-last}
 use Rattle.words.proofs.Tables.{place-at, place-none, value-at, key-once}

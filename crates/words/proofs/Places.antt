@@ -11,13 +11,9 @@ use borrow.Author.Tests.{eqb-true, eqb-false}
 use Rattle.rulebook.specs.Lists.{if_then_else_, some, total}
 use Rattle.rulebook.specs.Ledger.{sumBelow}
 use Rattle.rulebook.proofs.Lists.{total-append}
-use Rattle.words.specs.Places.{firstFrom, listFrom, removeAt}
+use Rattle.words.specs.Places.{isFound, firstFrom, listFrom, removeAt}
 use Rattle.words.specs.declared.Found.{Found}
 use Rattle.words.specs.declared.Found.the-variants.{At, Nothing}
-
-abbrev pub isFound : Found → Bool
-isFound (At i) = true
-isFound Nothing = false
 
 -- ---- a search that has come to place i
 

@@ -1,4 +1,4 @@
--- A flag as a word; places counted from 0: the first that passes a test, and the list of what stands at them.
+-- What a search finds; a flag as a word; places counted from 0: the first that passes a test, and the list of what stands at them.
 use Prim.Native.Nat.{ℕ, zero, suc}
 use mathlib.Core.Bool.{Bool, true, false}
 use mathlib.Core.List.{List, [], _∷_, _++_}
@@ -6,6 +6,11 @@ use lib.ListN.{take, drop}
 use Rattle.rulebook.specs.Lists.{if_then_else_}
 use Rattle.words.specs.declared.Found.{Found}
 use Rattle.words.specs.declared.Found.the-variants.{At, Nothing}
+
+-- a search found something
+abbrev pub isFound : Found → Bool
+isFound (At i) = true
+isFound Nothing = false
 
 abbrev pub bit : Bool → ℕ
 bit true = 1

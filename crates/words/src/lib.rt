@@ -3,7 +3,7 @@ ghost use mathlib.Core.Path.{_≡_};
 ghost use Prim.Native.Nat.{_+_, _-_, _≤_, _<_};
 ghost use lib.ListN.{length, take, drop};
 ghost use borrow.Rule.Slice.PartMut.{putMid};
-ghost use Rattle.words.specs.Places.{bit, firstFrom};
+ghost use Rattle.words.specs.Places.{bit, isFound, firstFrom};
 ghost use Rattle.words.specs.Tables as Tables;
 ghost use Rattle.words.specs.Tables.{rows, isKey, placeOf, valueOf, KeysOnce};
 
@@ -11,6 +11,16 @@ ghost use Rattle.words.specs.Tables.{rows, isKey, placeOf, valueOf, Keys
 pub enum Found {
     At(usize),
     Nothing,
+}
+
+// Whether a search found something.
+pub fn is_found(found: Found) -> bool
+    ensures { λ r. ⌜ r ≡ isFound found ⌝ }
+{
+    match found {
+        Found::At(_) => true,
+        Found::Nothing => false,
+    }
 }
 
 // A flag as a word.

@@ -3,9 +3,6 @@ use Rattle.rulebook.specs.Waiting.{itemOf}
 use Rattle.item.proofs.item_of.Statement.{statement}
 use Rattle.item.proofs.item_of.Tie as tie
 
-returns : tie.Need-returns
-unfolding itemOf
-returns c = cc
-
 pub item-of-spec : {M : Type 1} → statement M
-item-of-spec = tie.close (tie.spec returns)
+unfolding itemOf
+item-of-spec = tie.close (tie.spec (λ c. cc))

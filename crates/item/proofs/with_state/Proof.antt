@@ -3,9 +3,6 @@ use Rattle.rulebook.specs.Waiting.{withState}
 use Rattle.item.proofs.with_state.Statement.{statement}
 use Rattle.item.proofs.with_state.Tie as tie
 
-returns : tie.Need-returns
-unfolding withState
-returns c = cc
-
 pub with-state-spec : {M : Type 1} → statement M
-with-state-spec = tie.close (tie.spec returns)
+unfolding withState
+with-state-spec = tie.close (tie.spec (λ c. cc))

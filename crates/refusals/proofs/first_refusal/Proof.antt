@@ -1,154 +1,117 @@
--- `refusals::first_refusal` meets its contract: each test in its turn, and what is left of the list decides. Assumes nothing.
-use Prim.Native.Nat.{ℕ, _<_}
-use mathlib.Core.Path.{_≡_, refl, sym, ap, _∙_}
+-- `refusals::first_refusal` meets its contract: one stage behind the other. Assumes nothing.
+use Prim.Native.Nat.{ℕ}
+use mathlib.Core.Path.{_≡_, sym, ap, _∙_}
 use mathlib.Core.Bool.{Bool}
-use mathlib.Core.List.{List}
+use mathlib.Core.List.{List, _++_}
 use native.Mathlib.Omega.{arith}
-use lib.ListN.{drop}
 use borrow.Author.Needs.{needs}
 use Rattle.rulebook.specs.Lists.{first}
-use Rattle.rulebook.specs.Refusals.{refusals, wrongDay, wrongCycle, goesBack, outsideWindow, wrongDays}
+use Rattle.rulebook.specs.Ledger.{Ledger}
+use Rattle.rulebook.specs.Refusals.{refusals, dayTests, orderTests, itemTests, roomTests}
 use Rattle.rulebook.specs.declared.Day.{Day}
 use Rattle.rulebook.specs.declared.Order.{Order}
+use Rattle.rulebook.proofs.Checking.{first-stops, first-goes-on, day-numbered, order-numbered, items-numbered}
 use Rattle.book.specs.Meaning.{ledgerOf}
-use Rattle.refusals.proofs.Laws.{first-hit, first-skip}
-use Rattle.refusals.proofs.Orders.{fits, ranges}
+use Rattle.refusals.proofs.Orders.{ranges}
 use Rattle.refusals.proofs.first_refusal.Statement.{statement}
 use Rattle.refusals.proofs.first_refusal.Tie as tie
 
--- the tests behind the first k
-abbrev rest : List ℕ → Order → ℕ → List (ℕ × Bool)
-rest book order k = drop k (refusals (ledgerOf book) order)
+-- ---- places, back to where the day was read
 
--- the first k tests do not apply
-abbrev Left : List ℕ → Order → ℕ → Type 0
-Left book order k = first (refusals (ledgerOf book) order) ≡ first (rest book order k)
+abbrev at1 : tie.Else1 → tie.After-day
+at1 c = c .before .before
+
+abbrev at2 : tie.Else2 → tie.After-day
+at2 c = at1 (c .before .before)
+
+abbrev at3 : tie.Else3 → tie.After-day
+at3 c = at2 (c .before .before)
+
+abbrev start : tie.After-day → tie.Start
+start d = d .before .before
+
+abbrev book : tie.After-day → Ledger
+book d = ledgerOf (start d .args .book .now)
+
+abbrev order : tie.After-day → Order
+order d = start d .args .order
+
+-- ---- the tests of each stage, and those behind it
+
+abbrev day-tests : tie.After-day → List (ℕ × Bool)
+day-tests d = dayTests (book d .day) (order d)
+
+abbrev order-tests : tie.After-day → List (ℕ × Bool)
+order-tests d = orderTests (book d .holdings) (book d .day .number) (order d)
+
+abbrev item-tests : tie.After-day → List (ℕ × Bool)
+item-tests d = itemTests (book d .waiting) (order d)
+
+abbrev room-tests : tie.After-day → List (ℕ × Bool)
+room-tests d = roomTests (book d) (order d)
+
+-- ---- what each stage gives
+
+by-day : (c : tie.After-refusal) → c .refusal .result ≡ first (day-tests (c .before))
+by-day c = c .refusal .ensures ∙ ap (λ (x : Day). first (dayTests x (order (c .before)))) (c .before .day .ensures)
+
+by-order : (c : tie.After-refusal2) → c .refusal2 .result ≡ first (order-tests (at1 (c .before)))
+by-order c =
+    let d = at1 (c .before) in
+    c .refusal2 .ensures ∙ ap (λ (x : Day). first (orderTests (book d .holdings) (x .number) (order d))) (d .day .ensures)
+
+-- ---- where a stage gives none
+
+after-day : (c : tie.Else1) → first (refusals (book (at1 c)) (order (at1 c))) ≡ first (order-tests (at1 c) ++ (item-tests (at1 c) ++ room-tests (at1 c)))
+unfolding refusals
+after-day c = first-goes-on (day-tests (at1 c)) _ (day-numbered _ _) _ (by-day (c .before)) (c .if1 .left)
+
+after-order : (c : tie.Else2) → first (refusals (book (at2 c)) (order (at2 c))) ≡ first (item-tests (at2 c) ++ room-tests (at2 c))
+after-order c = after-day (c .before .before) ∙ first-goes-on (order-tests (at2 c)) _ (order-numbered _ _ _) _ (by-order (c .before)) (c .if2 .left)
+
+after-items : (c : tie.Else3) → first (refusals (book (at3 c)) (order (at3 c))) ≡ first (room-tests (at3 c))
+after-items c = after-order (c .before .before) ∙ first-goes-on (item-tests (at3 c)) _ (items-numbered _ _) _ (c .before .refusal3 .ensures) (c .if3 .left)
+
+-- ---- each stage in its turn
 
 returns : tie.Need-returns
 unfolding refusals
-returns c = sym (first-hit 6 _ (rest (c .before .before .before .before .args .book .now) (c .before .before .before .before .args .order) 1) (sym (c .before .wrong-day .ensures ∙ ap (λ (d : Day). wrongDay d (c .before .before .before .before .args .order)) (c .before .before .day .ensures)) ∙ c .if1 .taken))
-
-passed-1 : (c : tie.Else1) → Left (c .before .before .before .before .args .book .now) (c .before .before .before .before .args .order) 1
-unfolding refusals
-passed-1 c = first-skip 6 _ (rest (c .before .before .before .before .args .book .now) (c .before .before .before .before .args .order) 1) (sym (c .before .wrong-day .ensures ∙ ap (λ (d : Day). wrongDay d (c .before .before .before .before .args .order)) (c .before .before .day .ensures)) ∙ c .if1 .left)
+returns c = first-stops (day-tests (c .before .before)) _ (day-numbered _ _) _ (by-day (c .before)) (c .if1 .taken)
 
 returns-2 : tie.Need-returns-2
-unfolding refusals
-returns-2 c = sym (passed-1 (c .before .before) ∙ first-hit 7 _ (rest (c .before .before .before .before .before .before .args .book .now) (c .before .before .before .before .before .before .args .order) 2) (sym (c .before .wrong-cycle .ensures ∙ ap (λ (d : Day). wrongCycle d (c .before .before .before .before .before .before .args .order)) (c .before .before .before .before .day .ensures)) ∙ c .if2 .taken))
-
-passed-2 : (c : tie.Else2) → Left (c .before .before .before .before .before .before .args .book .now) (c .before .before .before .before .before .before .args .order) 2
-unfolding refusals
-passed-2 c = passed-1 (c .before .before) ∙ first-skip 7 _ (rest (c .before .before .before .before .before .before .args .book .now) (c .before .before .before .before .before .before .args .order) 2) (sym (c .before .wrong-cycle .ensures ∙ ap (λ (d : Day). wrongCycle d (c .before .before .before .before .before .before .args .order)) (c .before .before .before .before .day .ensures)) ∙ c .if2 .left)
+returns-2 c =
+    first-stops (order-tests (at1 (c .before .before))) _ (order-numbered _ _ _) _ (by-order (c .before)) (c .if2 .taken)
+    ∙ sym (after-day (c .before .before))
 
 returns-3 : tie.Need-returns-3
-unfolding refusals
-returns-3 c = sym (passed-2 (c .before .before) ∙ first-hit 8 _ (rest (c .before .before .before .before .before .before .before .before .args .book .now) (c .before .before .before .before .before .before .before .before .args .order) 3) (sym (c .before .goes-back .ensures ∙ ap (λ (d : Day). goesBack d (c .before .before .before .before .before .before .before .before .args .order)) (c .before .before .before .before .before .before .day .ensures)) ∙ c .if3 .taken))
-
-passed-3 : (c : tie.Else3) → Left (c .before .before .before .before .before .before .before .before .args .book .now) (c .before .before .before .before .before .before .before .before .args .order) 3
-unfolding refusals
-passed-3 c = passed-2 (c .before .before) ∙ first-skip 8 _ (rest (c .before .before .before .before .before .before .before .before .args .book .now) (c .before .before .before .before .before .before .before .before .args .order) 3) (sym (c .before .goes-back .ensures ∙ ap (λ (d : Day). goesBack d (c .before .before .before .before .before .before .before .before .args .order)) (c .before .before .before .before .before .before .day .ensures)) ∙ c .if3 .left)
+returns-3 c =
+    first-stops (item-tests (at2 (c .before .before))) _ (items-numbered _ _) _ (c .before .refusal3 .ensures) (c .if3 .taken)
+    ∙ sym (after-order (c .before .before))
 
 returns-4 : tie.Need-returns-4
-unfolding refusals
-returns-4 c = sym (passed-3 (c .before .before) ∙ first-hit 9 _ (rest (c .before .before .before .before .before .before .before .before .before .before .args .book .now) (c .before .before .before .before .before .before .before .before .before .before .args .order) 4) (sym (c .before .outside-window .ensures ∙ ap (λ (d : Day). outsideWindow d (c .before .before .before .before .before .before .before .before .before .before .args .order)) (c .before .before .before .before .before .before .before .before .day .ensures)) ∙ c .if4 .taken))
+returns-4 c = c .refusal4 .ensures ∙ sym (after-items (c .before))
 
-passed-4 : (c : tie.Else4) → Left (c .before .before .before .before .before .before .before .before .before .before .args .book .now) (c .before .before .before .before .before .before .before .before .before .before .args .order) 4
-unfolding refusals
-passed-4 c = passed-3 (c .before .before) ∙ first-skip 9 _ (rest (c .before .before .before .before .before .before .before .before .before .before .args .book .now) (c .before .before .before .before .before .before .before .before .before .before .args .order) 4) (sym (c .before .outside-window .ensures ∙ ap (λ (d : Day). outsideWindow d (c .before .before .before .before .before .before .before .before .before .before .args .order)) (c .before .before .before .before .before .before .before .before .day .ensures)) ∙ c .if4 .left)
+-- ---- what the stages need
 
-returns-5 : tie.Need-returns-5
-unfolding refusals
-returns-5 c = sym (passed-4 (c .before .before) ∙ first-hit 10 _ (rest (c .before .before .before .before .before .before .before .before .before .before .before .before .args .book .now) (c .before .before .before .before .before .before .before .before .before .before .before .before .args .order) 5) (sym (c .before .wrong-security .ensures) ∙ c .if5 .taken))
+-- today is at most 60,000
+refusal-requires-2 : tie.Need-refusal-requires-2
+refusal-requires-2 c κs =
+    let d = at1 c in
+    let s = start d in
+    (s .pre .0 .stored, s .pre .1, omega (arith, ap (λ (x : Day). x .number) (d .day .ensures), s .pre .0 .premise .day .number))
 
-passed-5 : (c : tie.Else5) → Left (c .before .before .before .before .before .before .before .before .before .before .before .before .args .book .now) (c .before .before .before .before .before .before .before .before .before .before .before .before .args .order) 5
-unfolding refusals
-passed-5 c = passed-4 (c .before .before) ∙ first-skip 10 _ (rest (c .before .before .before .before .before .before .before .before .before .before .before .before .args .book .now) (c .before .before .before .before .before .before .before .before .before .before .before .before .args .order) 5) (sym (c .before .wrong-security .ensures) ∙ c .if5 .left)
-
-returns-6 : tie.Need-returns-6
-unfolding refusals
-returns-6 c = sym (passed-5 (c .before .before) ∙ first-hit 11 _ (rest (c .before .before .before .before .before .before .before .before .before .before .before .before .before .before .args .book .now) (c .before .before .before .before .before .before .before .before .before .before .before .before .before .before .args .order) 6) (sym (c .before .wrong-pair .ensures) ∙ c .if6 .taken))
-
-passed-6 : (c : tie.Else6) → Left (c .before .before .before .before .before .before .before .before .before .before .before .before .before .before .args .book .now) (c .before .before .before .before .before .before .before .before .before .before .before .before .before .before .args .order) 6
-unfolding refusals
-passed-6 c = passed-5 (c .before .before) ∙ first-skip 11 _ (rest (c .before .before .before .before .before .before .before .before .before .before .before .before .before .before .args .book .now) (c .before .before .before .before .before .before .before .before .before .before .before .before .before .before .args .order) 6) (sym (c .before .wrong-pair .ensures) ∙ c .if6 .left)
-
-returns-7 : tie.Need-returns-7
-unfolding refusals
-returns-7 c = sym (passed-6 (c .before .before) ∙ first-hit 12 _ (rest (c .before .before .before .before .before .before .before .before .before .before .before .before .before .before .before .before .args .book .now) (c .before .before .before .before .before .before .before .before .before .before .before .before .before .before .before .before .args .order) 7) (sym (c .before .wrong-parties .ensures) ∙ c .if7 .taken))
-
-passed-7 : (c : tie.Else7) → Left (c .before .before .before .before .before .before .before .before .before .before .before .before .before .before .before .before .args .book .now) (c .before .before .before .before .before .before .before .before .before .before .before .before .before .before .before .before .args .order) 7
-unfolding refusals
-passed-7 c = passed-6 (c .before .before) ∙ first-skip 12 _ (rest (c .before .before .before .before .before .before .before .before .before .before .before .before .before .before .before .before .args .book .now) (c .before .before .before .before .before .before .before .before .before .before .before .before .before .before .before .before .args .order) 7) (sym (c .before .wrong-parties .ensures) ∙ c .if7 .left)
-
-returns-8 : tie.Need-returns-8
-unfolding refusals
-returns-8 c = sym (passed-7 (c .before .before) ∙ first-hit 13 _ (rest (c .before .before .before .before .before .before .before .before .before .before .before .before .before .before .before .before .before .before .args .book .now) (c .before .before .before .before .before .before .before .before .before .before .before .before .before .before .before .before .before .before .args .order) 8) (sym (c .before .wrong-days .ensures ∙ ap (λ (d : Day). wrongDays (d .number) (c .before .before .before .before .before .before .before .before .before .before .before .before .before .before .before .before .before .before .args .order)) (c .before .before .before .before .before .before .before .before .before .before .before .before .before .before .before .before .day .ensures)) ∙ c .if8 .taken))
-
-passed-8 : (c : tie.Else8) → Left (c .before .before .before .before .before .before .before .before .before .before .before .before .before .before .before .before .before .before .args .book .now) (c .before .before .before .before .before .before .before .before .before .before .before .before .before .before .before .before .before .before .args .order) 8
-unfolding refusals
-passed-8 c = passed-7 (c .before .before) ∙ first-skip 13 _ (rest (c .before .before .before .before .before .before .before .before .before .before .before .before .before .before .before .before .before .before .args .book .now) (c .before .before .before .before .before .before .before .before .before .before .before .before .before .before .before .before .before .before .args .order) 8) (sym (c .before .wrong-days .ensures ∙ ap (λ (d : Day). wrongDays (d .number) (c .before .before .before .before .before .before .before .before .before .before .before .before .before .before .before .before .before .before .args .order)) (c .before .before .before .before .before .before .before .before .before .before .before .before .before .before .before .before .day .ensures)) ∙ c .if8 .left)
-
-returns-9 : tie.Need-returns-9
-unfolding refusals
-returns-9 c = sym (passed-8 (c .before .before) ∙ first-hit 14 _ (rest (c .before .before .before .before .before .before .before .before .before .before .before .before .before .before .before .before .before .before .before .before .args .book .now) (c .before .before .before .before .before .before .before .before .before .before .before .before .before .before .before .before .before .before .before .before .args .order) 9) (sym (c .before .wrong-reference .ensures) ∙ c .if9 .taken))
-
-passed-9 : (c : tie.Else9) → Left (c .before .before .before .before .before .before .before .before .before .before .before .before .before .before .before .before .before .before .before .before .args .book .now) (c .before .before .before .before .before .before .before .before .before .before .before .before .before .before .before .before .before .before .before .before .args .order) 9
-unfolding refusals
-passed-9 c = passed-8 (c .before .before) ∙ first-skip 14 _ (rest (c .before .before .before .before .before .before .before .before .before .before .before .before .before .before .before .before .before .before .before .before .args .book .now) (c .before .before .before .before .before .before .before .before .before .before .before .before .before .before .before .before .before .before .before .before .args .order) 9) (sym (c .before .wrong-reference .ensures) ∙ c .if9 .left)
-
-returns-10 : tie.Need-returns-10
-unfolding refusals
-returns-10 c = sym (passed-9 (c .before .before) ∙ first-hit 15 _ (rest (c .before .before .before .before .before .before .before .before .before .before .before .before .before .before .before .before .before .before .before .before .before .before .args .book .now) (c .before .before .before .before .before .before .before .before .before .before .before .before .before .before .before .before .before .before .before .before .before .before .args .order) 10) (sym (c .before .wrong-cancel .ensures) ∙ c .if10 .taken))
-
-passed-10 : (c : tie.Else10) → Left (c .before .before .before .before .before .before .before .before .before .before .before .before .before .before .before .before .before .before .before .before .before .before .args .book .now) (c .before .before .before .before .before .before .before .before .before .before .before .before .before .before .before .before .before .before .before .before .before .before .args .order) 10
-unfolding refusals
-passed-10 c = passed-9 (c .before .before) ∙ first-skip 15 _ (rest (c .before .before .before .before .before .before .before .before .before .before .before .before .before .before .before .before .before .before .before .before .before .before .args .book .now) (c .before .before .before .before .before .before .before .before .before .before .before .before .before .before .before .before .before .before .before .before .before .before .args .order) 10) (sym (c .before .wrong-cancel .ensures) ∙ c .if10 .left)
-
-returns-11 : tie.Need-returns-11
-unfolding refusals
-returns-11 c = sym (passed-10 (c .before .before) ∙ first-hit 16 _ (rest (c .before .before .before .before .before .before .before .before .before .before .before .before .before .before .before .before .before .before .before .before .before .before .before .before .args .book .now) (c .before .before .before .before .before .before .before .before .before .before .before .before .before .before .before .before .before .before .before .before .before .before .before .before .args .order) 11) (sym (c .before .too-little .ensures) ∙ c .if11 .taken))
-
-passed-11 : (c : tie.Else11) → Left (c .before .before .before .before .before .before .before .before .before .before .before .before .before .before .before .before .before .before .before .before .before .before .before .before .args .book .now) (c .before .before .before .before .before .before .before .before .before .before .before .before .before .before .before .before .before .before .before .before .before .before .before .before .args .order) 11
-unfolding refusals
-passed-11 c = passed-10 (c .before .before) ∙ first-skip 16 _ (rest (c .before .before .before .before .before .before .before .before .before .before .before .before .before .before .before .before .before .before .before .before .before .before .before .before .args .book .now) (c .before .before .before .before .before .before .before .before .before .before .before .before .before .before .before .before .before .before .before .before .before .before .before .before .args .order) 11) (sym (c .before .too-little .ensures) ∙ c .if11 .left)
-
-returns-12 : tie.Need-returns-12
-unfolding refusals
-returns-12 c = sym (passed-11 (c .before .before) ∙ first-hit 17 _ (rest (c .before .before .before .before .before .before .before .before .before .before .before .before .before .before .before .before .before .before .before .before .before .before .before .before .before .before .args .book .now) (c .before .before .before .before .before .before .before .before .before .before .before .before .before .before .before .before .before .before .before .before .before .before .before .before .before .before .args .order) 12) (sym (c .before .over-ceiling .ensures) ∙ c .if12 .taken))
-
-passed-12 : (c : tie.Else12) → Left (c .before .before .before .before .before .before .before .before .before .before .before .before .before .before .before .before .before .before .before .before .before .before .before .before .before .before .args .book .now) (c .before .before .before .before .before .before .before .before .before .before .before .before .before .before .before .before .before .before .before .before .before .before .before .before .before .before .args .order) 12
-unfolding refusals
-passed-12 c = passed-11 (c .before .before) ∙ first-skip 17 _ (rest (c .before .before .before .before .before .before .before .before .before .before .before .before .before .before .before .before .before .before .before .before .before .before .before .before .before .before .args .book .now) (c .before .before .before .before .before .before .before .before .before .before .before .before .before .before .before .before .before .before .before .before .before .before .before .before .before .before .args .order) 12) (sym (c .before .over-ceiling .ensures) ∙ c .if12 .left)
-
-returns-13 : tie.Need-returns-13
-unfolding refusals
-returns-13 c = sym (passed-12 (c .before .before) ∙ first-hit 18 _ (rest (c .before .before .before .before .before .before .before .before .before .before .before .before .before .before .before .before .before .before .before .before .before .before .before .before .before .before .before .before .args .book .now) (c .before .before .before .before .before .before .before .before .before .before .before .before .before .before .before .before .before .before .before .before .before .before .before .before .before .before .before .before .args .order) 13) (sym (c .before .no-space .ensures) ∙ c .if13 .taken))
-
-passed-13 : (c : tie.Else13) → Left (c .before .before .before .before .before .before .before .before .before .before .before .before .before .before .before .before .before .before .before .before .before .before .before .before .before .before .before .before .args .book .now) (c .before .before .before .before .before .before .before .before .before .before .before .before .before .before .before .before .before .before .before .before .before .before .before .before .before .before .before .before .args .order) 13
-unfolding refusals
-passed-13 c = passed-12 (c .before .before) ∙ first-skip 18 _ (rest (c .before .before .before .before .before .before .before .before .before .before .before .before .before .before .before .before .before .before .before .before .before .before .before .before .before .before .before .before .args .book .now) (c .before .before .before .before .before .before .before .before .before .before .before .before .before .before .before .before .before .before .before .before .before .before .before .before .before .before .before .before .args .order) 13) (sym (c .before .no-space .ensures) ∙ c .if13 .left)
-
-returns-14 : tie.Need-returns-14
-unfolding refusals
-returns-14 c = sym (passed-13 c)
-
-outside-window-requires : tie.Need-outside-window-requires
-outside-window-requires c κs = ranges _ (c .before .before .before .before .before .before .before .before .pre .1) .form
-
--- today is at most 60,000, and a trade day fits 16 bits
-wrong-days-requires : tie.Need-wrong-days-requires
-wrong-days-requires c κs =
-    let s = c .before .before .before .before .before .before .before .before .before .before .before .before .before .before .before .before in
-    let day = ap (λ (d : Day). d .number) (c .before .before .before .before .before .before .before .before .before .before .before .before .before .before .day .ensures) in
-    (omega (arith, day, s .pre .0 .premise .day .number), omega (arith, fits _ (s .pre .1) .«trade_day»))
-
-no-space-requires : tie.Need-no-space-requires
-no-space-requires c κs =
-    let s = c .before .before .before .before .before .before .before .before .before .before .before .before .before .before .before .before .before .before .before .before .before .before .before .before .before .before in
-    let little = c .before .before in
-    let parties = little .before .before .before .before .before .before .before .before in
-    let pair = parties .before .before in
-    (s .pre .0, s .pre .1, sym (little .before .too-little .ensures) ∙ little .if11 .left, sym (pair .before .wrong-pair .ensures) ∙ pair .if6 .left, sym (parties .before .wrong-parties .ensures) ∙ parties .if7 .left)
+refusal-requires-4 : tie.Need-refusal-requires-4
+refusal-requires-4 c κs =
+    let s = start (at3 c) in
+    let passed = c .before .before in
+    (s .pre .0, s .pre .1, sym (by-order (passed .before)) ∙ passed .if2 .left)
 
 pub first-refusal-spec : {M : Type 1} → statement M
-first-refusal-spec = tie.close (tie.spec (λ c κs. c .before .pre .0 .stored) (λ c κs. search needs) returns (λ c κs. search needs) returns-2 (λ c κs. search needs) returns-3 outside-window-requires returns-4 (λ c κs. c .before .before .before .before .before .before .before .before .before .before .pre .0 .stored) returns-5 (λ c κs. search needs) returns-6 (λ c κs. search needs) returns-7 wrong-days-requires returns-8 (λ c κs. c .before .before .before .before .before .before .before .before .before .before .before .before .before .before .before .before .before .before .pre .0 .stored) returns-9 (λ c κs. c .before .before .before .before .before .before .before .before .before .before .before .before .before .before .before .before .before .before .before .before .pre .0) returns-10 (λ c κs. c .before .before .before .before .before .before .before .before .before .before .before .before .before .before .before .before .before .before .before .before .before .before .pre) returns-11 (λ c κs. c .before .before .before .before .before .before .before .before .before .before .before .before .before .before .before .before .before .before .before .before .before .before .before .before .pre) returns-12 no-space-requires returns-13 returns-14)
+first-refusal-spec =
+    tie.close
+    (tie.spec
+    (λ c κs. c .before .pre .0 .stored)
+    (λ c κs. ranges _ (start c .pre .1) .form) returns
+    refusal-requires-2 returns-2
+    (λ c κs. start (at2 c) .pre .0) returns-3
+    refusal-requires-4 returns-4)

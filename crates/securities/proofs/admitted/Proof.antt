@@ -1,7 +1,7 @@
 -- `securities::admitted` meets its contract. Assumes nothing.
 use mathlib.Core.Path.{sym, ap, _∙_}
 use borrow.Author.Needs.{needs}
-use Rattle.words.proofs.Places.{isFound}
+use Rattle.words.specs.Places.{isFound}
 use Rattle.securities.proofs.Laws.{admitted-found}
 use Rattle.securities.proofs.admitted.Statement.{statement}
 use Rattle.securities.proofs.admitted.Tie as tie

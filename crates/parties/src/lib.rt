@@ -1,0 +1,74 @@
+// What an order, an item and a party name: the accounts on both sides, and those that count a security.
+ghost use mathlib.Core.Path.{_≡_};
+ghost use Rattle.rulebook.specs.Lists.{within};
+ghost use Rattle.rulebook.specs.Ledger.{accountOf, sameAccount};
+ghost use Rattle.rulebook.specs.Cycle.{seller, buyer};
+ghost use Rattle.parties.specs.Counted.{outsideAccount};
+use rulebook::Account;
+use rulebook::Item;
+use rulebook::Party;
+
+// From `low` to `high`, both ends inside.
+pub fn is_within(low: u64, high: u64, n: u64) -> bool
+    ensures { λ r. ⌜ r ≡ within low high n ⌝ }
+{
+    (low <= n) & (n <= high)
+}
+
+pub fn account_of(security: u64, party: Party) -> Account
+    ensures { λ r. ⌜ r ≡ accountOf security party ⌝ }
+{
+    Account {
+        security,
+        member: party.member,
+        typ: party.typ,
+        shareholder: party.shareholder,
+    }
+}
+
+pub fn same_account(a: Account, b: Account) -> bool
+    ensures { λ r. ⌜ r ≡ sameAccount a b ⌝ }
+{
+    (a.security == b.security)
+        & (a.member == b.member)
+        & (a.typ == b.typ)
+        & (a.shareholder == b.shareholder)
+}
+
+// The account that a trade debits.
+pub fn seller_of(trade: Item) -> Account
+    ensures { λ r. ⌜ r ≡ seller trade ⌝ }
+{
+    account_of(trade.security, trade.debited)
+}
+
+// The account that a trade credits.
+pub fn buyer_of(trade: Item) -> Account
+    ensures { λ r. ⌜ r ≡ buyer trade ⌝ }
+{
+    account_of(trade.security, trade.credited)
+}
+
+// Type 91 of a security, its outside count, as a posting row names it.
+pub fn outside_account(security: u64) -> Account
+    ensures { λ r. ⌜ r ≡ outsideAccount 91 security ⌝ }
+{
+    Account {
+        security,
+        member: 0,
+        typ: 91,
+        shareholder: 0,
+    }
+}
+
+// Type 90 of a security, its issued count, as a posting row names it.
+pub fn issued_account(security: u64) -> Account
+    ensures { λ r. ⌜ r ≡ outsideAccount 90 security ⌝ }
+{
+    Account {
+        security,
+        member: 0,
+        typ: 90,
+        shareholder: 0,
+    }
+}

@@ -1,0 +1,14 @@
+-- Parts of a form's window.
+use Prim.Native.Nat.{ℕ}
+use lib.ListN.{length}
+use Rattle.rulebook.specs.Lists.{if_then_else_, _is_}
+use Rattle.rulebook.specs.Windows.{byKind, officeEnd, cycleMinutes}
+use Rattle.rulebook.specs.declared.Day.{Day}
+
+-- Forms 12, 13: until 960 / 900, but until 825 / 705 when the settlement day is today
+abbrev pub paymentEnd : Day → ℕ → ℕ
+paymentEnd day settlementDay = if settlementDay is day.number then byKind day.kind 825 705 else officeEnd day.kind
+
+-- how many cycles a day of that kind has
+abbrev pub cyclesOf : ℕ → ℕ
+cyclesOf kind = length (cycleMinutes kind)

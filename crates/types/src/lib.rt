@@ -1,0 +1,45 @@
+// Account types, and the pairs of types between which shares may move.
+ghost use mathlib.Core.Path.{_≡_};
+ghost use Rattle.rulebook.specs.Lists.{_oneOf_};
+ghost use Rattle.rulebook.specs.AccountTypes.{bookEntry, physical, free, alike, listed, pledgePairs, blockPairs};
+
+fn is_book_entry(typ: u64) -> bool
+    ensures { λ r. ⌜ r ≡ (typ oneOf bookEntry) ⌝ }
+{
+    (typ == 10) | (typ == 20)
+}
+
+fn is_physical(typ: u64) -> bool
+    ensures { λ r. ⌜ r ≡ (typ oneOf physical) ⌝ }
+{
+    (typ == 110) | (typ == 120)
+}
+
+pub fn is_free(typ: u64) -> bool
+    ensures { λ r. ⌜ r ≡ free typ ⌝ }
+{
+    is_book_entry(typ) | is_physical(typ)
+}
+
+// Both book entry or both physical.
+pub fn are_alike(a: u64, b: u64) -> bool
+    ensures { λ r. ⌜ r ≡ alike a b ⌝ }
+{
+    (is_book_entry(a) & is_book_entry(b)) | (is_physical(a) & is_physical(b))
+}
+
+// A pledge takes shares from one type to the other; a release takes them back.
+pub fn is_pledge(from: u64, to: u64) -> bool
+    ensures { λ r. ⌜ r ≡ listed pledgePairs from to ⌝ }
+{
+    ((from == 10) & (to == 11)) | (((from == 20) & (to == 21)) | ((from == 120) & (to == 121)))
+}
+
+// A block takes shares from one type to the other; an unblock takes them back.
+pub fn is_block(from: u64, to: u64) -> bool
+    ensures { λ r. ⌜ r ≡ listed blockPairs from to ⌝ }
+{
+    ((from == 10) & (to == 12))
+        | (((from == 20) & (to == 22))
+            | (((from == 110) & (to == 112)) | ((from == 120) & (to == 122))))
+}
