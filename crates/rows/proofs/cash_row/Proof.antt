@@ -4,9 +4,6 @@ use Rattle.rulebook.specs.Rows.{postingOf}
 use Rattle.rows.proofs.cash_row.Statement.{statement}
 use Rattle.rows.proofs.cash_row.Tie as tie
 
-returns : tie.Need-returns
-unfolding postingOf
-returns c = search needs
-
 pub cash-row-spec : {M : Type 1} → statement M
-cash-row-spec = tie.close (tie.spec returns)
+unfolding postingOf
+cash-row-spec = tie.close (tie.spec (λ c. search needs))

@@ -4,9 +4,8 @@ use Rattle.rulebook.specs.Rows.{noticeOf}
 use Rattle.rows.proofs.notice_of.Statement.{statement}
 use Rattle.rows.proofs.notice_of.Tie as tie
 
-returns : tie.Need-returns
-unfolding noticeOf
-returns c = rw (c .before .deliver-reference .ensures, c .receive-reference .ensures)
-
 pub notice-of-spec : {M : Type 1} → statement M
-notice-of-spec = tie.close (tie.spec (λ c κs. search needs) (λ c κs. search needs) returns)
+unfolding noticeOf
+notice-of-spec =
+    tie.close
+    (tie.spec (λ c κs. search needs) (λ c κs. search needs) (λ c. rw (c .before .deliver-reference .ensures, c .receive-reference .ensures)))
