@@ -40,15 +40,3 @@ puts ds at [] [] = ds
 puts ds at [] (v ∷ vs) = ds
 puts ds at (w ∷ ws) [] = ds
 puts ds at (w ∷ ws) (v ∷ vs) = puts (put ds at w v) (at + w) ws vs
-
--- each width is that of a word's part
-abbrev pub Words : List ℕ → Type 0
-Words [] = Unit
-Words (w ∷ ws) = (1 ≤ w) × (w ≤ 64) × Words ws
-
--- `Fit`, as a test
-abbrev pub fitting : List ℕ → List ℕ → Bool
-fitting [] [] = true
-fitting [] (v ∷ vs) = false
-fitting (w ∷ ws) [] = false
-fitting (w ∷ ws) (v ∷ vs) = ltb v (2 ^ w) && fitting ws vs

@@ -10,7 +10,6 @@ use Rattle.rulebook.specs.declared.Answer.{Answer}
 use Rattle.rulebook.proofs.Demand3.{demand3}
 use Rattle.book.specs.Meaning.{ledgerOf}
 use Rattle.book.specs.Stored.{Kept}
-use Rattle.book.proofs.Zeros.{zeros-mean, zeros-kept}
 use Rattle.ledger.specs.Called.{Called}
 use Rattle.ledger.specs.Reached.{Reached, made, called}
 
@@ -34,9 +33,7 @@ pub record Follows (book : List ℕ) (history : List Made) : Type 0 where
 
 pub follows : {book : List ℕ} {history : List Made} → Reached book history → Follows book history
 unfolding bookAfter callsOn resultOf
-follows (made {book = book} f) =
-    let e = f .fresh refl in
-    record { calls = []; kept = subst Kept (sym e) zeros-kept; ledger = ap ledgerOf e ∙ zeros-mean .ledger; made = refl }
+follows (made f) = record { calls = []; kept = f .kept refl; ledger = f .ledger refl; made = refl }
 follows (called {book} {book′} {history} octets area {answer} {area′} r c) =
     let before = follows r in
     let at : Ledger → Result = λ (b : Ledger). callOf b octets area in

@@ -1,11 +1,10 @@
 -- `desk::main` is safe: the book that it lends is a fresh one. Assumes nothing.
 use borrow.Author.Needs.{needs}
-use Rattle.book.proofs.Zeros.{zeros-kept}
 use Rattle.desk.proofs.main.Statement.{statement}
 use Rattle.desk.proofs.main.Tie as tie
 
 run-requires : tie.Need-run-requires
-run-requires c κs = (rw (c .before .before .before .before .before .before .fresh .ensures .fresh (search needs)) zeros-kept, search needs, search needs)
+run-requires c κs = (c .before .before .before .before .before .before .fresh .ensures .kept (search needs), search needs, search needs)
 
 pub main-spec : {M : Type 1} → statement M
 main-spec =
