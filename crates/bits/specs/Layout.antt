@@ -1,8 +1,6 @@
 -- Values packed without gaps by a list of widths, and cut again.
 use Prim.Native.Nat.{ℕ, _+_, _*_, _/_, _^_, _≤_, _<_}
 use mathlib.Core.List.{List, [], _∷_}
-use mathlib.Core.Bool.{Bool, true, false, _&&_}
-use lib.Dec.{ltb}
 use Rattle.bits.specs.Bits.{field, put, wholeBytes}
 
 -- n with the values behind it, each in its width

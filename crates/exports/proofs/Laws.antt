@@ -1,6 +1,6 @@
 -- Lengths and answers as numbers, and what is left in the lent words. Assumes nothing.
 use Prim.Native.Nat.{ℕ, _+_, _≤_, _<_}
-use mathlib.Core.Path.{_≡_, refl, sym, ap, subst, _∙_}
+use mathlib.Core.Path.{_≡_, refl, sym, ap, _∙_}
 use mathlib.Core.Bool.{Bool, true, false, true≢false, not}
 use mathlib.Core.List.{List, [], _∷_, _++_, append-nil}
 use native.Mathlib.Omega.{arith}
@@ -8,16 +8,16 @@ use lib.Dec.{eqb}
 use lib.ListN.{length, getD, set, drop, drop-of-length-le}
 use borrow.Author.Tests.{eq-eqb, ne-eqb, eqb-true, lt-ltb, le-ltb}
 use borrow.Rule.Slice.PartMut.{putMid}
-use Rattle.rulebook.specs.Lists.{if_then_else_, _is_, _isNot_, _below_}
-use Rattle.rulebook.specs.Record.{readOf, readNumber, orderOf, recordOf, writeRefusal, writtenOf, writtenNumber, areaWritten}
-use Rattle.rulebook.specs.Call.{callOf, answerNumber}
+use Rattle.rulebook.specs.Lists.{if_then_else_, _is_}
+use Rattle.rulebook.specs.Record.{readNumber, orderOf, recordOf, writeRefusal, writtenOf, writtenNumber, areaWritten}
+use Rattle.rulebook.specs.Call.{answerNumber}
 use Rattle.rulebook.specs.declared.Answer.{Answer}
 use Rattle.rulebook.specs.declared.Counts.{Counts}
 use Rattle.rulebook.specs.declared.Order.{Order}
 use Rattle.rulebook.specs.declared.Read.{Read}
 use Rattle.rulebook.specs.declared.Written.{Written}
 use Rattle.record.specs.Answers.{ReadAs, WrittenAs}
-use Rattle.book.specs.Meaning.{bookLength, ledgerOf}
+use Rattle.book.specs.Meaning.{bookLength}
 use Rattle.book.specs.Fresh.{Freshened}
 use Rattle.ledger.specs.Called.{Called}
 use Rattle.exports.specs.Lent.{wrongBook, wrongCounts, wrongFields, wrongValues, noSuchPlace, countWords, fieldWords, Lent, freshNumber, FreshIn}

@@ -9,7 +9,7 @@ use Rattle.rulebook.specs.Lists.{first}
 use Rattle.rulebook.specs.Ledger.{Ledger}
 use Rattle.rulebook.specs.Premise.{Premise}
 use Rattle.rulebook.specs.Record.{readOf, readNumber}
-use Rattle.rulebook.specs.Forms.{Outcome, effect}
+use Rattle.rulebook.specs.Forms.{effect}
 use Rattle.rulebook.specs.Refusals.{refusals}
 use Rattle.rulebook.specs.Call.{Result, answerNumber, refused, accepted, orderCall, readCall, callOf, putMinute}
 use Rattle.rulebook.specs.Calls.{call, resultOf}

@@ -1,16 +1,13 @@
 -- Demand 3 of the code's own books: from the rulebook's theorem, and from what `fresh` and `call` promise. Assumes nothing.
 use Prim.Native.Nat.{ℕ}
 use mathlib.Core.Path.{_≡_, refl, sym, ap, subst, _∙_}
-use mathlib.Core.Bool.{true}
 use mathlib.Core.List.{List, [], _∷_, _++_}
 use Rattle.rulebook.specs.Ledger.{Ledger, fresh}
 use Rattle.rulebook.specs.Call.{Result, callOf}
 use Rattle.rulebook.specs.Calls.{Call, call, Made, resultOf, callsOn, bookAfter, Balanced, Demand3}
-use Rattle.rulebook.specs.declared.Answer.{Answer}
 use Rattle.rulebook.proofs.Demand3.{demand3}
 use Rattle.book.specs.Meaning.{ledgerOf}
 use Rattle.book.specs.Stored.{Kept}
-use Rattle.ledger.specs.Called.{Called}
 use Rattle.ledger.specs.Reached.{Reached, made, called}
 
 -- a list of calls with one more

@@ -2,7 +2,7 @@
 use Prim.Native.Nat.{ℕ}
 use mathlib.Core.List.{List}
 use mathlib.Core.Path.{_≡_}
-use Rattle.rulebook.specs.Call.{Result, callOf, answerNumber}
+use Rattle.rulebook.specs.Call.{callOf, answerNumber}
 use Rattle.rulebook.specs.declared.Answer.{Answer}
 use Rattle.book.specs.Meaning.{ledgerOf}
 use Rattle.book.specs.Stored.{Kept}

@@ -2,8 +2,7 @@
 use Prim.Native.Nat.{ℕ}
 use mathlib.Core.Bool.{true}
 use mathlib.Core.List.{List, [], _∷_, _++_}
-use mathlib.Core.Path.{_≡_}
-use Rattle.rulebook.specs.Calls.{Call, call, Made}
+use Rattle.rulebook.specs.Calls.{call, Made}
 use Rattle.rulebook.specs.declared.Answer.{Answer}
 use Rattle.book.specs.Fresh.{Freshened}
 use Rattle.ledger.specs.Called.{Called}

@@ -19,7 +19,12 @@ abbrev μ-loop : tie.MeasureT-loop
 μ-loop book₀ i₀ book i = bookLength - i
 
 returns : tie.Need-returns Inv-loop μ-loop
-returns c = record { answers = sym (ne-eqb _ bookLength (c .if1 .taken)); ledger = λ e. absurd (false≢true e); kept = λ e. absurd (false≢true e); untouched = λ e. refl }
+returns c = record {
+  answers = sym (ne-eqb _ bookLength (c .if1 .taken));
+  ledger = λ e. absurd (false≢true e);
+  kept = λ e. absurd (false≢true e);
+  untouched = λ e. refl;
+}
 
 loop-again : tie.Need-loop-again Inv-loop μ-loop
 loop-again c =
@@ -44,4 +49,5 @@ returns-2 c =
 pub fresh-spec : {M : Type 1} → statement M
 fresh-spec =
     tie.close
-    (tie.spec Inv-loop μ-loop returns (λ c. (omega arith, c .if1 .left, refl)) (λ c. omega arith) (λ c. omega arith) (λ c. omega arith) (λ c. omega arith) loop-again (λ c. omega (arith, c .before .before .if1 .left)) returns-2)
+    (tie.spec Inv-loop μ-loop returns (λ c. (omega arith, c .if1 .left, refl)) (λ c. omega arith) (λ c. omega arith) (λ c. omega arith) (λ c. omega arith)
+    loop-again (λ c. omega (arith, c .before .before .if1 .left)) returns-2)

@@ -2,7 +2,6 @@
 use mathlib.Core.Path.{_≡_, sym, ap, _∙_}
 use borrow.Author.Needs.{needs}
 use lib.ListN.{length}
-use Rattle.rulebook.specs.declared.Day.{Day}
 use Rattle.book.specs.Meaning.{bookLength}
 use Rattle.exports.specs.Figures.{dayFigures}
 use Rattle.exports.proofs.Laws.{lengths-right, tells-wrong, tells}
