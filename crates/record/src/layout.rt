@@ -11,7 +11,25 @@ use rulebook::Shares;
 
 // The fields' widths in bits.
 pub const WIDTHS: [usize; 19] = [
-    5, 11, 14, 2, 10, 8, 10, 8, 30, 30, 40, 40, 16, 16, 32, 3, 32, 1, 12,
+    5,
+    11,
+    14,
+    2,
+    10,
+    8,
+    10,
+    8,
+    30,
+    30,
+    40,
+    40,
+    16,
+    16,
+    32,
+    3,
+    32,
+    1,
+    12,
 ];
 
 // The fields that a record's bytes hold.

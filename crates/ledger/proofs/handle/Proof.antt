@@ -2,7 +2,6 @@
 use Prim.Native.Nat.{ℕ, _+_, _≤_, _<_}
 use mathlib.Core.Path.{_≡_}
 use mathlib.Core.Logic.{_⊎_, inl, inr}
-use lib.ListN.{length}
 use native.Mathlib.Omega.{arith}
 use borrow.Author.Tests.{le-leb}
 use borrow.Author.Needs.{needs}
@@ -51,20 +50,20 @@ closes c =
     (c .if1 .came)
 
 transfer-requires : tie.Need-transfer-requires
-transfer-requires c κs = 
+transfer-requires c κs =
     let here = c .before .before in
     let f = transfers here in
     (start (here .before .before .before) .pre, f .0, omega (arith, f .1))
 
 instruct-requires : tie.Need-instruct-requires
-instruct-requires c κs = 
+instruct-requires c κs =
     let here = c .before in
     let s = start (here .before .before .before .before) in
     let f = instructs here in
     (record { kept = s .pre .kept; read = s .pre .read; passes = s .pre .passes }, instruction (s .args .order .form) (rw (le-leb _ _ (f .0), le-leb (s .args .order .form) 13 (omega (arith, f .1)))))
 
 close-requires : tie.Need-close-requires
-close-requires c κs = 
+close-requires c κs =
     let here = c .before .before in
     (start (here .before .before) .pre, closes here)
 

@@ -9,7 +9,7 @@ use lib.ListN.{length, drop}
 use Rattle.rulebook.specs.declared.Order.{Order}
 use Rattle.rulebook.specs.declared.Read.{Read}
 use Rattle.rulebook.specs.declared.Answer.{Answer}
-use Rattle.rulebook.specs.Lists.{if_then_else_, _is_, _below_, _oneOf_, total, first}
+use Rattle.rulebook.specs.Lists.{if_then_else_, _is_, _below_, total, first}
 use Rattle.rulebook.specs.Record.{readOf}
 use Rattle.rulebook.specs.Ledger.{Ledger, fresh, outsideOf, putDay}
 use Rattle.rulebook.specs.Movements.{Place, account, type91, type90, cashOf, member0}

@@ -39,8 +39,7 @@ loop-again c =
     ap (λ (m : List ℕ). getD m place 0) (here .before .most-of .ensures) ∙ at-place (most _) place l
     in
     let low = c .before .before .before .least-of .ensures ∙ rule .optional place l in
-    let bit = c .before .before .before .before .is-in .ensures ∙ rule .used place l in
-    (
+    let bit = c .before .before .before .before .is-in .ensures ∙ rule .used place l in (
       search needs,
       sym (c .if2 .left) ∙ below-more _ fields _ 0 _ (here .loop .inv .1) (c .before .field-refusal .ensures ∙ field-is _ fields place _ _ _ bit low top),
     )
