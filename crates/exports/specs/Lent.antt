@@ -29,7 +29,7 @@ abbrev pub countWords : ℕ
 countWords = 6
 
 abbrev pub fieldWords : ℕ
-fieldWords = 15
+fieldWords = 18
 
 -- the one premise: a buffer of a book's length holds what `depository_fresh` and `depository_call` left there. Nothing is asked of another
 abbrev pub Lent : List ℕ → Type 0

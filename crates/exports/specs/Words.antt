@@ -37,7 +37,7 @@ pub record CalledWith (book octets area counts : List ℕ) (number : ℕ) (book�
 
 -- ---- the record reader
 
--- the fields of an order that was read, in the record's order, without the 48 zero bits; a refusal leaves what was there
+-- the fields of an order that was read, in the record's order, without the zero bits behind them; a refusal leaves what was there
 unfoldable pub fieldsRead : Read → List ℕ → List ℕ
 fieldsRead (Read.Order order) before = take fieldWords (fieldsOf order)
 fieldsRead (Read.Refused number) before = before

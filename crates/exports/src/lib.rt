@@ -1,5 +1,4 @@
 // What C and Rust programs call: numbers, and slices as a pointer and a length. include/depository.h declares these functions.
-mod fields;
 mod figures;
 
 ghost use mathlib.Core.Path.{_≡_};
@@ -7,12 +6,13 @@ ghost use mathlib.Core.List.{_∷_, []};
 ghost use lib.ListN.{length};
 ghost use Rattle.rulebook.specs.Ledger as Ledger;
 ghost use Rattle.book.specs.Meaning.{ledgerOf};
-ghost use Rattle.exports.specs.Lent.{Lent, FreshIn};
-ghost use Rattle.exports.specs.Words.{countsOf, CalledWith, ReadInto, WrittenFrom};
+ghost use Rattle.exports.specs.Lent.{fieldWords, Lent, FreshIn};
+ghost use Rattle.exports.specs.Words.{countsOf, fieldsRead, CalledWith, ReadInto, WrittenFrom};
 ghost use Rattle.exports.specs.Figures.{lengthsNumber, Tells, TellsAt, dayFigures, sizeFigures, securityFigures, itemFigures};
 use rulebook::Account;
 use rulebook::Answer;
 use rulebook::Counts;
+use rulebook::Order;
 use rulebook::Read;
 use rulebook::Written;
 
@@ -28,6 +28,8 @@ const WRONG_VALUES: u64 = 1004;
 const NO_SUCH_PLACE: u64 = 1005;
 
 const COUNT_WORDS: usize = 6;
+
+const FIELD_WORDS: usize = 18;
 
 // ---- the ledger's calls
 
@@ -90,18 +92,27 @@ pub extern "C" fn depository_call(
 
 // ---- records alone
 
+// An order's fields as words, in the record's order.
+fn put_fields(words: &mut [u64], order: Order)
+    requires { ⌜ length (now words) ≡ fieldWords ⌝ }
+    ensures { λ u. ⌜ now (words .exit) ≡ fieldsRead (Read.Order order) (now (words .entry)) ⌝ }
+{
+    let fields = record::layout::fields_of(order);
+    words::write(words, 0, &fields[..FIELD_WORDS]);
+}
+
 // 0 and the record's fields; else the number, and the fields are as they were.
 #[no_mangle]
 pub extern "C" fn depository_read(record: &[u8], fields: &mut [u64]) -> u64
     ensures { λ r. ⌜ ReadInto (now («record» .entry)) (now (fields .entry)) r (now (fields .exit)) ⌝ }
 {
-    if fields.len() != fields::WORDS {
+    if fields.len() != FIELD_WORDS {
         return WRONG_FIELDS;
     }
     let read = record::read(record);
     match read {
         Read::Order(order) => {
-            fields::put(fields, order);
+            put_fields(fields, order);
             0
         }
         Read::Refused(number) => number,
@@ -113,10 +124,10 @@ pub extern "C" fn depository_read(record: &[u8], fields: &mut [u64]) -> u64
 pub extern "C" fn depository_write(fields: &[u64], area: &mut [u8]) -> u64
     ensures { λ r. ⌜ WrittenFrom (now (fields .entry)) (now (area .entry)) r (now (area .exit)) ⌝ }
 {
-    if fields.len() != fields::WORDS {
+    if fields.len() != FIELD_WORDS {
         return WRONG_FIELDS;
     }
-    let written = record::write(fields::order_in(fields), area);
+    let written = record::write(record::layout::order_of(fields), area);
     match written {
         Written::Record => 0,
         Written::Refused(number) => number,

@@ -12,7 +12,7 @@ returns-2 c =
     let put = c .before .before in
     let told = put .before .before .before in
     let read = told .before .before in
-    read-order _ _ (read .before .if1 .left) _ (read .read .ensures) _ _ (told .read2 .given .1) (put .put .ensures)
+    read-order _ _ (read .before .if1 .left) _ (read .read .ensures) _ _ (told .read2 .given .1) (put .put-fields .ensures)
 
 returns-3 : tie.Need-returns-3
 returns-3 c =

@@ -14,14 +14,14 @@ unfolding writtenNumber
 returns-2 c =
     let written = c .before .before .before .before in
     let order = written .before .before in
-    write-answered _ _ (order .before .if1 .left) _ _ _ _ (order .order-in .ensures) (written .write .ensures) (ap writtenNumber (c .enum-told .given .1))
+    write-answered _ _ (order .before .if1 .left) _ _ _ _ (order .order-of .ensures) (written .write .ensures) (ap writtenNumber (c .enum-told .given .1))
 
 returns-3 : tie.Need-returns-3
 unfolding writtenNumber
 returns-3 c =
     let written = c .before .before .before .before .before in
     let order = written .before .before in
-    write-answered _ _ (order .before .if1 .left) _ _ _ _ (order .order-in .ensures) (written .write .ensures)
+    write-answered _ _ (order .before .if1 .left) _ _ _ _ (order .order-of .ensures) (written .write .ensures)
     (ap writtenNumber (c .before .written .given .1))
 
 pub depository-write-spec : {M : Type 1} → statement M
