@@ -11,7 +11,7 @@ use Rattle.rulebook.specs.Field.{places}
 use Rattle.rulebook.specs.Forms.{forms, rowOf, used, least}
 use Rattle.record.specs.declared.refusals.Rule.{Rule}
 use Rattle.record.specs.Fields.{has, leastIn, RuleOf}
-use Rattle.record.proofs.Below.{any, none-passes, differ, same}
+use Rattle.rulebook.proofs.Below.{any, none-passes, differ, same}
 use Rattle.record.proofs.refusals.rule_of.Statement.{statement}
 use Rattle.record.proofs.refusals.rule_of.Tie as tie
 
