@@ -1,4 +1,4 @@
-// A reader walks a record file 40 bytes at a time. A short tail is one record.
+// A record file, walked record by record (RULES 13.2).
 ghost use mathlib.Core.Path.{_≡_};
 ghost use Prim.Native.Nat.{_<_};
 ghost use lib.ListN.{length};

@@ -12,11 +12,11 @@ use Rattle.lines.specs.Text.{text, decimal}
 abbrev pub figure : String → ℕ → List ℕ
 figure words n = text words ++ decimal n
 
--- per record: its number from 1, the answer (0 accepted), rows
+-- RULES 13.3
 unfoldable pub answerLine : ℕ → Answer → List ℕ
 answerLine number answer = decimal number ++ figure " " (answerNumber answer) ++ figure " " (answerRows answer) ++ text "\n"
 
--- per security: the words CUSTODY, ISSUED, HELD and OUTSIDE, the first before the security's code, the others before those counts
+-- RULES 13.4
 unfoldable pub custodyLine : Security → Shares → List ℕ
 custodyLine security held =
     figure "CUSTODY " (security .code) ++ figure " ISSUED " (security .issued .0) ++ figure " HELD " (held .0) ++ figure " OUTSIDE " (security .outside .0) ++ text "\n"

@@ -10,7 +10,7 @@ ghost use Rattle.refusals.specs.Window.{paymentEnd, cyclesOf};
 use rulebook::Day;
 use rulebook::Order;
 
-// 6. Form 1 comes while a day is open or on day 60,000, or another form while none is open.
+// RULES 7.6: no day can open, or none is open.
 fn wrong_day(day: Day, order: Order) -> bool
     ensures { λ r. ⌜ r ≡ wrongDay day order ⌝ }
 {
@@ -39,7 +39,7 @@ fn cycles_of(kind: u64) -> u64
     2
 }
 
-// 7. Form 16 comes after the day's cycles have all run, or form 17 before.
+// RULES 7.7: a cycle too many, or a close too early.
 fn wrong_cycle(day: Day, order: Order) -> bool
     ensures { λ r. ⌜ r ≡ wrongCycle day order ⌝ }
 {
@@ -47,14 +47,14 @@ fn wrong_cycle(day: Day, order: Order) -> bool
     ((order.form == 16) & all_run) | ((order.form == 17) & !all_run)
 }
 
-// 8. The minute is below that of the day's last accepted call (not form 1).
+// RULES 7.8: the minute goes back.
 fn goes_back(day: Day, order: Order) -> bool
     ensures { λ r. ⌜ r ≡ goesBack day order ⌝ }
 {
     (order.form != 1) & (order.minute < day.minute)
 }
 
-// The next cycle's minute: 585, 705, 825 / 585, 705.
+// RULES 4.9: the next cycle's earliest minute.
 fn cycle_minute(kind: u64, cycles: u64) -> u64
     ensures { λ r. ⌜ r ≡ getD (cycleMinutes kind) cycles 0 ⌝ }
 {
@@ -82,7 +82,7 @@ fn between(first: u64, last: u64) -> Window
     Window { first, last }
 }
 
-// 960 / 900.
+// When the office ends.
 fn office_end(kind: u64) -> u64
     ensures { λ r. ⌜ r ≡ officeEnd kind ⌝ }
 {
@@ -123,7 +123,7 @@ fn window_of(day: Day, order: Order) -> Window
     between(480, office_end(kind))
 }
 
-// 9. The minute is outside the window.
+// RULES 7.9: outside the form's window.
 fn outside_window(day: Day, order: Order) -> bool
     requires { ⌜ (1 ≤ order .form) × (order .form ≤ length forms) ⌝ }
     ensures { λ r. ⌜ r ≡ outsideWindow day order ⌝ }

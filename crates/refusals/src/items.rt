@@ -7,7 +7,7 @@ ghost use Rattle.book.specs.Stored.{Stored, Kept};
 use rulebook::Order;
 use words::Found;
 
-// 14. The sender already has that reference waiting (12 to 14; exchange trades form one sender), or has none such (15).
+// RULES 7.14: a reference that already waits, or one to cancel that does not.
 fn wrong_reference(book: &[u64], order: Order) -> bool
     requires { ⌜ Stored (now book) ⌝ }
     ensures { λ r. ⌜ r ≡ wrongReference (ledgerOf (now (book .entry)) .waiting) order ⌝ }
@@ -20,7 +20,7 @@ fn wrong_reference(book: &[u64], order: Order) -> bool
     (parties::is_within(12, 14, form) & waits) | ((form == 15) & !waits)
 }
 
-// 15. The item to cancel is unmatched, or this sender has marked it.
+// RULES 7.15: what cannot be cancelled by this sender.
 fn wrong_cancel(book: &[u64], order: Order) -> bool
     requires { ⌜ Kept (now book) ⌝ }
     ensures { λ r. ⌜ r ≡ wrongCancel (ledgerOf (now (book .entry)) .waiting) order ⌝ }

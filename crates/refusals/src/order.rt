@@ -8,7 +8,7 @@ ghost use Rattle.book.specs.Stored.{Stored};
 ghost use Rattle.book.specs.Handled.{WasRead};
 use rulebook::Order;
 
-// 10. The security is not admitted (forms 3 to 9, 12 to 14) or already is (form 2).
+// RULES 7.10: an unknown security, or one that is admitted again.
 fn wrong_security(book: &[u64], order: Order) -> bool
     requires { ⌜ Stored (now book) ⌝ }
     ensures { λ r. ⌜ r ≡ wrongSecurity (ledgerOf (now (book .entry)) .holdings) order ⌝ }
@@ -19,7 +19,7 @@ fn wrong_security(book: &[u64], order: Order) -> bool
         | ((form == 2) & admitted)
 }
 
-// 11. A type or pair is not in the table; forms 12, 13 test their own side.
+// RULES 7.11: types that the form does not allow.
 fn wrong_pair(order: Order) -> bool
     ensures { λ r. ⌜ r ≡ wrongPair order ⌝ }
 {
@@ -38,7 +38,7 @@ fn wrong_pair(order: Order) -> bool
     }
 }
 
-// 12. The shareholders differ (forms 5 to 9, 12, 13), the members differ (6 to 9) or are equal (12, 13), or both sides are one account (5, 14).
+// RULES 7.12: parties that the form does not allow.
 fn wrong_parties(order: Order) -> bool
     ensures { λ r. ⌜ r ≡ wrongParties order ⌝ }
 {
@@ -56,8 +56,7 @@ fn wrong_parties(order: Order) -> bool
         | (((form == 5) | (form == 14)) & one_account)
 }
 
-// 13. The settlement day is not today (5 to 9), not within today to today + 20 (12, 13), or not trade day + 3 (14); or the trade day is after today
-// (12, 13) or not today (14).
+// RULES 7.13: days that the form does not allow.
 fn wrong_days(today: u64, order: Order) -> bool
     requires { ⌜ (today < 2 ^ 63) × (order .«trade_day» < 2 ^ 63) ⌝ }
     ensures { λ r. ⌜ r ≡ wrongDays today order ⌝ }

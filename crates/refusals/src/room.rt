@@ -9,7 +9,7 @@ ghost use Rattle.refusals.specs.Room.{isFull, isListFull, isMatched, Ord
 use rulebook::Order;
 use rulebook::State;
 
-// 16. The balance to be debited (outside count in a deposit) is less than asked (3 to 9, 11).
+// RULES 7.16: too little where the movement takes from.
 fn too_little(book: &[u64], order: Order) -> bool
     requires { ⌜ Kept (now book) × WasRead order ⌝ }
     ensures { λ r. ⌜ r ≡ tooLittle (ledgerOf (now (book .entry)) .holdings) order ⌝ }
@@ -30,7 +30,7 @@ fn too_little(book: &[u64], order: Order) -> bool
     false
 }
 
-// 17. A currency's total over all members would pass 1,000,000,000,000,000 (10).
+// RULES 7.17: above the ceiling of a currency's cash.
 fn over_ceiling(book: &[u64], order: Order) -> bool
     requires { ⌜ Kept (now book) × WasRead order ⌝ }
     ensures { λ r. ⌜ r ≡ overCeiling (ledgerOf (now (book .entry)) .holdings) order ⌝ }
@@ -72,7 +72,7 @@ fn is_matched(book: &[u64], order: Order) -> bool
     words::is_found(search::first_pairing(book, item::tolerance_of(order.currency), arriving))
 }
 
-// 18. The call would leave more than 32 securities, more than 64 items, or accounts plus items above 256.
+// RULES 7.18: no room in the book that the call would leave.
 fn no_space(book: &[u64], order: Order) -> bool
     requires { ⌜ Kept (now book) × WasRead order × SidesPassed (ledgerOf (now book)) order ⌝ }
     ensures { λ r. ⌜ r ≡ noSpace (ledgerOf (now (book .entry))) order ⌝ }

@@ -1,4 +1,4 @@
--- One call: a record and a lent area, on a book.
+-- One call: a record and a lent area, on a book (RULES 1.3 to 1.11).
 use Prim.Native.Nat.{ℕ, _*_}
 use mathlib.Core.Bool.{Bool, true, false}
 use mathlib.Core.List.{List, [], _∷_, _++_}
@@ -19,7 +19,7 @@ pub record Result : Type 0 where
   pub book : Ledger
   pub area : List ℕ
 
--- this paper's number for an answer: 0 accepted, else the refusal's
+-- RULES 1.7: an answer as a number
 unfoldable pub answerNumber : Answer → ℕ
 answerNumber (Answer.Accepted counts) = 0
 answerNumber (Answer.Refused number) = number
@@ -29,15 +29,15 @@ unfoldable pub answerRows : Answer → ℕ
 answerRows (Answer.Accepted counts) = counts.rows
 answerRows (Answer.Refused number) = 0
 
--- a refused one with its number, with the book and the area unchanged
+-- RULES 1.11: a refusal changes neither book nor area
 unfoldable pub refused : ℕ → Ledger → List ℕ → Result
 refused number book area = record { answer = Answer.Refused number; book = book; area = area }
 
--- Every accepted call sets the last minute.
+-- RULES 4.6
 unfoldable pub putMinute : ℕ → Ledger → Ledger
 putMinute minute book = putDay (withMinute minute book.day) book
 
--- An accepted call answers with its counts; bytes after the last row keep their contents.
+-- RULES 1.8, 11.1, 11.2: the counts, and the rows at the area's start
 unfoldable pub accepted : Outcome → ℕ → List ℕ → Result
 accepted outcome minute area = record {
   answer = Answer.Accepted outcome.counts;
@@ -45,18 +45,18 @@ accepted outcome minute area = record {
   area = rowsBytes outcome.rows ++ drop (16 * length outcome.rows) area;
 }
 
--- an order that was read
+-- RULES 1.9: an order that was read is put to the book
 unfoldable pub orderCall : Ledger → Order → List ℕ → Result
 orderCall book order area =
     let refusal = first (refusals book order) in
     if refusal is 0 then accepted (effect book order) order.minute area else refused refusal book area
 
--- A record that cannot be read ends the call there.
+-- RULES 1.10
 unfoldable pub readCall : Ledger → Read → List ℕ → Result
 readCall book (Read.Order order) area = orderCall book order area
 readCall book (Read.Refused number) area = refused number book area
 
--- 1. The lent area is shorter than 4,096 bytes.
+-- RULES 7.1
 abbrev pub shortArea : List ℕ → Bool
 shortArea area = length area below 4_096
 

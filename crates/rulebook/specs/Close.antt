@@ -1,4 +1,4 @@
--- Which items leave at the close of a day.
+-- Which items leave at the close of a day (RULES 4.12).
 use Prim.Native.Nat.{ℕ, _+_}
 use mathlib.Core.Bool.{Bool, true, false, _||_}
 use Rattle.rulebook.specs.Lists.{if_then_else_, _is_, _isNot_, _atMost_, _oneOf_}
@@ -8,16 +8,13 @@ use Rattle.rulebook.specs.declared.Item.{Item}
 use Rattle.rulebook.specs.declared.State.{State}
 use Rattle.rulebook.specs.declared.State.the-variants.{Single, Pair, Trade}
 
--- the notice with which an item leaves at the close of a day, and 0 where it stays: kind (1 single, 2 aged pair, 3 suspended)
+-- RULES 4.12: the kind of the notice with which an item leaves, and 0 where it stays
 unfoldable pub closeKind : ℕ → Item → ℕ
 closeKind day item = kind item.state
   where
     kind : State → ℕ
-    -- singles whose settlement day is today
     kind (Single delivers reference) = if item.«settlement_day» is day then 1 else 0
-    -- pairs at settlement day + 10
     kind (Pair d r dm rm) = if day is (item.«settlement_day» + 10) then 2 else 0
-    -- exchange trades whose day has come
     kind (Trade reference) = if item.«settlement_day» atMost day then 3 else 0
 
 unfoldable pub leaves : ℕ → Item → Bool

@@ -1,4 +1,4 @@
--- The netted cycle.
+-- The netted cycle (RULES 9).
 use Prim.Native.Nat.{ℕ, zero, suc, _+_, _-_}
 use mathlib.Core.Bool.{Bool, false, not, _||_, _&&_}
 use mathlib.Core.List.{List, [], _∷_, map}
@@ -22,7 +22,7 @@ seller trade = accountOf trade.security trade.debited
 unfoldable pub buyer : Item → Account
 buyer trade = accountOf trade.security trade.credited
 
--- Cycle: take all pairs and exchange trades whose settlement day has come.
+-- RULES 9.1: what a cycle takes
 unfoldable pub due : (day : ℕ) → Item → Bool
 due day item = isTrade item.state && item.«settlement_day» atMost day
 
@@ -60,28 +60,27 @@ cashBrought member currency = over (bringsCash member currency)
 unfoldable pub cashTaken : (member currency : ℕ) → List Marked → ℕ
 cashTaken member currency = over (takesCash member currency)
 
--- An account, or a member's cash, is short if balance plus what the taken trades bring less what they take is below zero: by what is missing there,
--- and short is what misses something.
+-- RULES 9.2 to 9.4: what is missing of an account, and of a member's cash; short is what misses something
 unfoldable pub sharesMissing : Holdings → List Marked → Account → ℕ
 sharesMissing h marked a = sharesTaken a marked - (h.balance a + sharesBrought a marked)
 
 unfoldable pub cashMissing : Holdings → List Marked → (member currency : ℕ) → ℕ
 cashMissing h marked member currency = cashTaken member currency marked - (h.cash member currency + cashBrought member currency marked)
 
--- nothing is short: no account and no member's cash, whatever they are, misses anything
+-- nothing is short: no account at all, and no member's cash, misses anything
 pub record NothingShort (h : Holdings) (marked : List Marked) : Type 0 where
   pub shares : (a : Account) → sharesMissing h marked a ≡ 0
   pub cash : (member currency : ℕ) → cashMissing h marked member currency ≡ 0
 
--- the trade debits a short one: its seller's account or its buyer's cash
+-- RULES 9.5: the trade draws on what is short, its seller's account or its buyer's cash
 unfoldable pub debitsShort : Holdings → List Marked → Item → Bool
 debitsShort h marked trade = sharesMissing h marked (seller trade) isNot 0 || cashMissing h marked trade.credited.member trade.currency isNot 0
 
--- any is short: then some taken trade debits it, for no balance is below zero
+-- something is short: then a taken trade draws on it, for no balance is below 0 (`shortFound` in `Theorems`)
 unfoldable pub anyShort : Holdings → List Marked → Bool
 anyShort h marked = some (λ m. m .0 && debitsShort h marked (m .1)) marked
 
--- drop the last taken trade in list order that passes a test
+-- without the last taken trade, in list order, that passes a test
 unfoldable pub dropLast : (Item → Bool) → List Marked → List Marked
 dropLast test [] = []
 dropLast test (m ∷ rest) =
@@ -90,7 +89,7 @@ dropLast test (m ∷ rest) =
     else if m .0 && test (m .1) then (false, m .1) ∷ rest
     else m ∷ rest
 
--- While any is short, drop the last taken trade in list order that debits a short one: each round drops one
+-- RULES 9.5, 9.6: each round drops one trade, while something is short
 unfoldable pub rounds : ℕ → Holdings → List Marked → List Marked
 rounds zero h marked = marked
 rounds (suc more) h marked =
@@ -111,7 +110,7 @@ withMark marked = map (λ m. m .1) (keep (λ m. m .0) marked)
 unfoldable pub withoutMark : List Marked → List Item
 withoutMark marked = map (λ m. m .1) (keep (λ m. not (m .0)) marked)
 
--- each settled trade's four rows: shares, then cash.
+-- RULES 9.11: each trade's movement of shares, then that of cash
 unfoldable pub legs : List Item → List Movement
 legs [] = []
 legs (trade ∷ rest) =
@@ -119,14 +118,14 @@ legs (trade ∷ rest) =
     ∷ move (cashOf trade.credited.member trade.currency) (cashOf trade.debited.member trade.currency) trade.amount.0
     ∷ legs rest
 
--- Settle the rest;
+-- RULES 9.7
 unfoldable pub settled : Ledger → List Item
 settled book = withMark (settling book)
 
--- Dropped trades are left waiting.
+-- RULES 9.10
 unfoldable pub notSettled : Ledger → List Item
 notSettled book = withoutMark (settling book)
 
--- trades left, one for each that a cycle drops
+-- RULES 9.12: how many trades a cycle drops
 unfoldable pub dropped : Ledger → ℕ
 dropped book = length (withMark (taken book.day.number book.waiting)) - length (settled book)

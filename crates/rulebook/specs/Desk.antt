@@ -105,37 +105,37 @@ cycled orders =
     (after.answer, map (λ item. item.quantity.0) after.book.waiting)
 
 pub record Desk : Type 0 where
-  -- P1 form 3, minute 540 starts 1A 1C (hexadecimal).
+  -- A.1
   pub p1 : take 2 (recordOf (deposits 540 7 400)) ≡ 0x1A ∷ 0x1C ∷ []
-  -- P2 the credit row above: 80 65 01 C5 00 00 00 05 00 00 00 00 00 00 01 90.
+  -- A.2
   pub p2 :
       take 16 (drop 16 (result started (deposits 540 7 400) .area))
       ≡ 0x80 ∷ 0x65 ∷ 0x01 ∷ 0xC5 ∷ 0x00 ∷ 0x00 ∷ 0x00 ∷ 0x05 ∷ 0x00 ∷ 0x00 ∷ 0x00 ∷ 0x00 ∷ 0x00 ∷ 0x00 ∷ 0x01 ∷ 0x90 ∷ []
-  -- P3 deliver 100,000 USD, receive 102,000: pair at 102,000.
+  -- A.3: at the tolerance
   pub p3 : waits (calls started (delivers 500 7 8 100 100_000 31 ∷ receives 501 7 8 100 102_000 32 ∷ [])) ≡ (Pair 31 32 false false, 102_000) ∷ []
-  -- P4 102,001: none.
+  -- A.4: one above it
   pub p4 :
       waits (calls started (delivers 500 7 8 100 100_000 31 ∷ receives 501 7 8 100 102_001 32 ∷ []))
       ≡ (Single true 31, 100_000) ∷ (Single false 32, 102_001) ∷ []
-  -- P5 99,999: none.
+  -- A.5: the receive offers less than is asked
   pub p5 :
       waits (calls started (delivers 500 7 8 100 100_000 31 ∷ receives 501 7 8 100 99_999 32 ∷ []))
       ≡ (Single true 31, 100_000) ∷ (Single false 32, 99_999) ∷ []
-  -- P6 same-day deliver at 825, kind 1: taken; P7 at 826: 9.
+  -- A.6, A.7: the last minute of the short window, and the one behind it
   pub p6 : result started (delivers 825 7 8 100 100_000 31) .answer ≡ Answer.Accepted (counts 0 0 0 0 0 0)
   pub p7 : result started (delivers 826 7 8 100 100_000 31) .answer ≡ Answer.Refused 9
-  -- P8 64 items, the arrival matches: taken; P9 it does not: 18.
+  -- A.8, A.9: a full list, with a match and without
   pub p8 : result full (receives 501 7 8 100 102_000 1) .answer ≡ Answer.Accepted (counts 0 0 0 0 0 0)
   pub p9 : result full (receives 501 7 8 100 102_001 1) .answer ≡ Answer.Refused 18
-  -- P10 A holds 100 and sells 60, 50, 30: only 60 settles, given cash.
+  -- A.10: the last trades are dropped first
   pub p10 :
       cycled (deposits 540 7 100 ∷ paysIn 550 8 1_000 ∷ sells 7 8 60 100 1 ++ sells 7 8 50 100 3 ++ sells 7 8 30 100 5)
       ≡ (Answer.Accepted (counts 4 2 0 0 0 2), 50 ∷ 30 ∷ [])
-  -- P11 A holds 100 and sells it to B, B the same 100 to C, each for 50; only C has cash, 50: both settle.
+  -- A.11: positions are net
   pub p11 :
       cycled (deposits 540 7 100 ∷ paysIn 550 9 50 ∷ sells 7 8 100 50 1 ++ sells 8 9 100 50 3)
       ≡ (Answer.Accepted (counts 8 4 0 0 0 0), [])
-  -- P12 C has none: neither.
+  -- A.12: and without cash neither settles
   pub p12 : cycled (deposits 540 7 100 ∷ sells 7 8 100 50 1 ++ sells 8 9 100 50 3) ≡ (Answer.Accepted (counts 0 0 0 0 0 2), 100 ∷ 100 ∷ [])
-  -- P13 pledge 110 to 121: 11.
+  -- A.13: there is no such pair
   pub p13 : result started (pledges 540 7 110 121 10) .answer ≡ Answer.Refused 11

@@ -1,10 +1,10 @@
--- The fields of a record: their places, their widths, and what a form may say of a field.
+-- The fields of a record: their places, their widths, and what a form may say of a field (RULES 2.1 to 2.4).
 use Prim.Native.Nat.{ℕ, _-_, _^_}
 use mathlib.Core.List.{List, [], _∷_, _++_}
 use lib.ListN.{getD}
 use Rattle.rulebook.specs.Lists.{if_then_else_, _is_, _isNot_, _oneOf_, keep}
 
--- The places of the fields, which are packed without gaps.
+-- RULES 2.1: the places of the fields, one behind the other
 abbrev pub form : ℕ
 form = 0
 

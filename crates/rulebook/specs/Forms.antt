@@ -26,7 +26,7 @@ pub record Outcome : Type 0 where
   pub rows : List Row
   pub counts : Counts
 
--- its counts (rows; sides settled, cancelled, deleted, suspended; trades left; 0 where a form has none)
+-- RULES 1.8
 unfoldable pub counts : (rows settled cancelled deleted suspended left : ℕ) → Counts
 counts rows settled cancelled deleted suspended left =
     record { rows = rows; settled = settled; cancelled = cancelled; deleted = deleted; suspended = suspended; left = left }
@@ -128,7 +128,7 @@ close book order =
     gone : List Item
     gone = keep (leaves book.day.number) book.waiting
 
--- Everything that the rules say of a form.
+-- Everything that the rules say of a form (RULES 2.2, 4.7, 6).
 pub record Form : Type 0 where
   pub name : String
   -- the fields that it uses, besides form and minute, each with its rule

@@ -1,4 +1,4 @@
--- The book.
+-- The book (RULES 3), and the day (RULES 4).
 use Prim.Native.Nat.{ℕ, zero, suc, _+_, _-_, _^_}
 use mathlib.Core.Bool.{Bool, true, false, _&&_}
 use mathlib.Core.List.{List, [], map}
@@ -10,23 +10,22 @@ use Rattle.rulebook.specs.declared.Security.{Security}
 use Rattle.rulebook.specs.declared.Item.{Item}
 
 pub record Holdings : Type 0 where
-  -- up to 32 securities with issued and outside counts, in order of admission
+  -- in the order in which they were admitted
   pub securities : List Security
-  -- Accounts are a map from those four to a balance: 0 where there is no account
+  -- RULES 3.4, 3.6: a map, so that their order is free; 0 where there is no account
   pub balance : Account → ℕ
-  -- how many accounts there are, each of non-zero balance
+  -- how many accounts have a balance (RULES 3.3)
   pub accounts : ℕ
-  -- cash per member 1 to 64 and currency (1 USD, 2 LBP) in hundredths
+  -- in hundredths; 0 where a member has none
   pub cash : (member currency : ℕ) → ℕ
 
 pub record Ledger : Type 0 where
-  -- day number, day kind, cycles run today, last minute
   pub day : Day
   pub holdings : Holdings
-  -- a waiting list in order of arrival
+  -- in the order in which they arrived
   pub waiting : List Item
 
--- A fresh book has day 0, closed, nothing else.
+-- RULES 3.2
 unfoldable pub fresh : Ledger
 fresh = record {
   day = record { opened = false; number = 0; kind = 0; cycles = 0; minute = 0 };
@@ -44,7 +43,7 @@ putHoldings holdings book = record { day = book.day; holdings = holdings; waitin
 unfoldable pub putWaiting : List Item → Ledger → Ledger
 putWaiting waiting book = record { day = book.day; holdings = book.holdings; waiting = waiting }
 
--- the day with its last minute replaced, with one more cycle run, when it opens as a day of a kind, and when it closes
+-- RULES 4.1 to 4.6, 4.14: the day with another last minute, with one more cycle run, when it opens as a day of a kind, and when it closes
 abbrev pub withMinute : ℕ → Day → Day
 withMinute minute day = record { opened = day.opened; number = day.number; kind = day.kind; cycles = day.cycles; minute = minute }
 
@@ -109,11 +108,11 @@ unfoldable pub sumBelow : ℕ → (ℕ → ℕ) → ℕ
 sumBelow zero figure = 0
 sumBelow (suc n) figure = sumBelow n figure + figure n
 
--- a currency's total over all members
+-- over all members
 unfoldable pub cashTotal : ℕ → Holdings → ℕ
 cashTotal currency h = sumBelow 64 (λ n. h.cash (n + 1) currency)
 
--- Held is the sum of a security's accounts: over the members, types and shareholders that a record's fields can name.
+-- RULES 1.17: all balances of a security, over the members, types and shareholders that a record's fields can name
 unfoldable pub held : ℕ → Holdings → ℕ
 held security h =
     sumBelow (2 ^ 10) λ member. sumBelow (2 ^ 8) λ typ. sumBelow (2 ^ 30) λ shareholder.

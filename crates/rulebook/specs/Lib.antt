@@ -1,4 +1,4 @@
--- The paper as definitions, in the order in which they are read.
+-- The rules (docs/RULES.md) as definitions, in the order in which they are read. `Theorems` states what is proved of them.
 pub mod Lists
 pub mod AccountTypes
 pub mod Field

@@ -1,4 +1,4 @@
--- Document 004, X: matching of deliver and receive instructions.
+-- Matching of deliver and receive instructions (RULES 8).
 use Prim.Native.Nat.{ℕ, _-_}
 use mathlib.Core.Bool.{Bool, true, false, _||_, _&&_}
 use mathlib.Core.List.{List, [], _∷_, _++_}
@@ -8,12 +8,11 @@ use Rattle.rulebook.specs.declared.State.the-variants.{Pair}
 use Rattle.rulebook.specs.AccountTypes.{alike}
 use Rattle.rulebook.specs.Waiting.{isDeliver, isReceive, ownReference}
 
--- 2,000 (USD) or 3,015,000 (LBP)
+-- RULES 8.4
 unfoldable pub tolerance : ℕ → ℕ
 tolerance currency = if currency is 1 then 2_000 else 3_015_000
 
--- equal in security, shareholder, days, quantity, currency, both members naming each other, both types book entry or both physical, and receive
--- amount less deliver amount between 0 and a limit
+-- RULES 8.3: what a deliver and a receive must have in common, and how far their amounts may differ
 unfoldable pub agree : ℕ → Item → Item → Bool
 agree limit deliver receive =
     deliver.security is receive.security
@@ -28,13 +27,13 @@ agree limit deliver receive =
     && deliver.amount.0 atMost receive.amount.0
     && receive.amount.0 - deliver.amount.0 atMost limit
 
--- an arriving 12 or 13 pairs with a waiting single of the other form
+-- RULES 8.2: one of the two delivers, the other receives
 unfoldable pub pairsWith : ℕ → Item → Item → Bool
 pairsWith limit arriving waits =
     (isDeliver waits.state && isReceive arriving.state && agree limit waits arriving)
     || (isReceive waits.state && isDeliver arriving.state && agree limit arriving waits)
 
--- The pair takes the receiver's amount
+-- RULES 8.6
 unfoldable pub pairOf : Item → Item → Item
 pairOf deliver receive = record {
   security = deliver.security;
@@ -48,7 +47,7 @@ pairOf deliver receive = record {
   state = Pair (ownReference deliver.state) (ownReference receive.state) false false;
 }
 
--- with the first waiting single; the earlier single is removed and the pair goes last. Otherwise the single goes last.
+-- RULES 8.2, 8.7, 8.8: the first that agrees leaves its place, and the pair goes last; where none does, the single goes last
 unfoldable pub arrive : ℕ → Item → List Item → List Item
 arrive limit arriving [] = arriving ∷ []
 arrive limit arriving (waits ∷ rest) =

@@ -1,10 +1,10 @@
--- Movements of shares and cash, which change the holdings and are written as posting rows.
+-- Movements of shares and cash, which change the holdings and are written as posting rows (RULES 6.0, 11.4).
 use Prim.Native.Nat.{ℕ, _+_, _-_}
 use mathlib.Core.List.{List, [], _∷_}
 use Rattle.rulebook.specs.Ledger.{Holdings, putBalance, putCash, putOutside, outsideOf}
 use Rattle.rulebook.specs.declared.Account.{Account}
 
--- between what shares and cash move
+-- RULES 11.5 to 11.7: between what shares and cash move
 pub data Place : Type 0 where
   -- a member's account
   account : Account → Place
@@ -53,6 +53,6 @@ unfoldable pub debits : List Movement → Holdings → Holdings
 debits [] h = h
 debits (m ∷ rest) h = debits rest (debit m.from m.number h)
 
--- movements booked together: all credits, then all debits, so that what one brings another may take
+-- RULES 9.9: movements booked together, all credits and then all debits, so that what one brings another may take
 unfoldable pub booked : List Movement → Holdings → Holdings
 booked movements h = debits movements (credits movements h)

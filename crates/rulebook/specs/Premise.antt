@@ -22,7 +22,7 @@ abbrev pub Each : {A : Type 0} → (A → Type 0) → List A → Type 0
 Each P [] = Unit {0}
 Each P (x ∷ rest) = P x × Each P rest
 
--- at most 32 securities, at most 64 items, accounts plus items at most 256
+-- RULES 3.1: the limits
 pub record Sizes (b : Ledger) : Type 0 where
   pub securities : length b.holdings.securities ≤ 32
   pub items : length b.waiting ≤ 64
@@ -44,7 +44,7 @@ pub record SecurityFits (s : Security) : Type 0 where
   pub issued-least : 1 ≤ s.issued.0
   pub issued : s.issued.0 < 2 ^ 40
 
--- 10, 20, 110, 120, or pledged or blocked: 11, 21, 121, 12, 22, 112, 122
+-- RULES 5.1: free, pledged or blocked
 unfoldable pub accountType : ℕ → Bool
 accountType typ = free typ || pledgedOrBlocked typ
 

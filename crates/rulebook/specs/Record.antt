@@ -1,4 +1,4 @@
--- The record of 40 bytes: what reading one gives, and what writing one gives.
+-- The record of 40 bytes: what reading one gives, and what writing one gives (RULES 2).
 use Prim.Native.Nat.{ℕ}
 use mathlib.Core.Bool.{Bool, not, _&&_}
 use mathlib.Core.List.{List, [], _∷_, _++_}
@@ -53,7 +53,7 @@ usedOutOfRange fields =
     let ofForm = getD fields Field.form 0 in
     some (λ place. used ofForm place && not (within (least ofForm place) (most ofForm place) (getD fields place 0))) places
 
--- 3 to 5, which reader and writer share, in checking order
+-- the tests that reader and writer share, in checking order
 abbrev pub fieldTests : List ℕ → List (ℕ × Bool)
 fieldTests fields = (3, noForm fields) ∷ (4, unusedNotZero fields) ∷ (5, usedOutOfRange fields) ∷ []
 
@@ -61,7 +61,7 @@ fieldTests fields = (3, noForm fields) ∷ (4, unusedNotZero fields) ∷ (5, use
 unfoldable pub fieldsIn : List ℕ → List ℕ
 fieldsIn octets = cut octets 0 widths
 
--- The reader's tests, 2 to 5. 2: The record is not 40 bytes.
+-- RULES 2.8, 7.2: the reader's tests
 abbrev pub readTests : List ℕ → List (ℕ × Bool)
 readTests octets = (2, length octets isNot 40) ∷ fieldTests (fieldsIn octets)
 
@@ -73,7 +73,7 @@ readRefusal octets = first (readTests octets)
 unfoldable pub readOf : List ℕ → Read
 readOf octets = if readRefusal octets is 0 then Read.Order (orderOf (fieldsIn octets)) else Read.Refused (readRefusal octets)
 
--- this paper's number for what the reader answers: 0 for an order, else the refusal's
+-- the reader's answer as a number: 0 for an order, else the refusal's
 unfoldable pub readNumber : Read → ℕ
 readNumber (Read.Order order) = 0
 readNumber (Read.Refused number) = number
@@ -82,7 +82,7 @@ readNumber (Read.Refused number) = number
 unfoldable pub recordOf : Order → List ℕ
 recordOf o = bytes 40 (pack 0 widths (fieldsOf o))
 
--- the writer gives 1, 3, 4, 5. 1: The lent area is shorter than 40 bytes for the record writer. 0 where it writes
+-- RULES 2.9, 7.1: the first of the writer's tests that applies; 0 where it writes
 unfoldable pub writeRefusal : Order → List ℕ → ℕ
 writeRefusal o area = first ((1, length area below 40) ∷ fieldTests (fieldsOf o))
 
@@ -90,11 +90,11 @@ writeRefusal o area = first ((1, length area below 40) ∷ fieldTests (fieldsOf 
 unfoldable pub writtenOf : Order → List ℕ → Written
 writtenOf o area = if writeRefusal o area is 0 then Written.Record else Written.Refused (writeRefusal o area)
 
--- this paper's number for what the writer answers: 0 for a record, else the refusal's
+-- the writer's answer as a number: 0 for a record, else the refusal's
 unfoldable pub writtenNumber : Written → ℕ
 writtenNumber Written.Record = 0
 writtenNumber (Written.Refused number) = number
 
--- and keeps the bytes after its 40; a refusal leaves the area
+-- RULES 2.9: the area after it
 unfoldable pub areaWritten : Order → List ℕ → List ℕ
 areaWritten o area = if writeRefusal o area is 0 then recordOf o ++ drop 40 area else area

@@ -1,4 +1,4 @@
--- Refusals 6 to 18, in checking order.
+-- Refusals 6 to 18, in checking order (RULES 7).
 use Prim.Native.Nat.{ℕ, _+_}
 use mathlib.Core.Bool.{Bool, true, false, not, _||_, _&&_}
 use mathlib.Core.List.{List, [], _∷_, _++_}
@@ -14,36 +14,36 @@ use Rattle.rulebook.specs.declared.Day.{Day}
 use Rattle.rulebook.specs.declared.Item.{Item}
 use Rattle.rulebook.specs.declared.Order.{Order}
 
--- 6. Form 1 comes while a day is open or on day 60,000, or another form while none is open.
+-- RULES 7.6: no day can open, or none is open
 unfoldable pub wrongDay : Day → Order → Bool
 wrongDay day order = if order.form is 1 then day.opened || day.number is 60_000 else not day.opened
 
--- 7. Form 16 comes after the day's cycles have all run, or form 17 before.
+-- RULES 7.7: a cycle too many, or a close too early
 unfoldable pub wrongCycle : Day → Order → Bool
 wrongCycle day order = (order.form is 16 && allRun) || (order.form is 17 && not allRun)
   where
     allRun : Bool
     allRun = length (cycleMinutes day.kind) atMost day.cycles
 
--- 8. The minute is below that of the day's last accepted call (not form 1).
+-- RULES 7.8: the minute goes back
 unfoldable pub goesBack : Day → Order → Bool
 goesBack day order = order.form isNot 1 && order.minute below day.minute
 
--- 9. The minute is outside the window.
+-- RULES 7.9: outside the form's window
 unfoldable pub outsideWindow : Day → Order → Bool
 outsideWindow day order = not (within (windowOf day order .0) (windowOf day order .1) order.minute)
 
--- 10. The security is not admitted (forms 3 to 9, 12 to 14) or already is (form 2).
+-- RULES 7.10: an unknown security, or one that is admitted again
 unfoldable pub wrongSecurity : Holdings → Order → Bool
 wrongSecurity holdings order =
     ((within 3 9 order.form || within 12 14 order.form) && not (admitted order.security holdings))
     || (order.form is 2 && admitted order.security holdings)
 
--- 11. A type or pair is not in the table; forms 12, 13 test their own side.
+-- RULES 7.11: types that the form does not allow
 unfoldable pub wrongPair : Order → Bool
 wrongPair order = wrongTypes order.form order.debited.typ order.credited.typ
 
--- 12. The shareholders differ (forms 5 to 9, 12, 13), the members differ (6 to 9) or are equal (12, 13), or both sides are one account (5, 14).
+-- RULES 7.12: parties that the form does not allow
 unfoldable pub wrongParties : Order → Bool
 wrongParties order =
     ((within 5 9 order.form || within 12 13 order.form) && order.debited.shareholder isNot order.credited.shareholder)
@@ -51,8 +51,7 @@ wrongParties order =
     || (within 12 13 order.form && order.debited.member is order.credited.member)
     || (order.form oneOf (5 ∷ 14 ∷ []) && sameAccount (accountOf order.security order.debited) (accountOf order.security order.credited))
 
--- 13. The settlement day is not today (5 to 9), not within today to today + 20 (12, 13), or not trade day + 3 (14); or the trade day is after today
--- (12, 13) or not today (14).
+-- RULES 7.13: days that the form does not allow
 unfoldable pub wrongDays : (today : ℕ) → Order → Bool
 wrongDays today order =
     (within 5 9 order.form && order.«settlement_day» isNot today)
@@ -61,37 +60,37 @@ wrongDays today order =
     || (within 12 13 order.form && today below order.«trade_day»)
     || (order.form is 14 && order.«trade_day» isNot today)
 
--- 14. The sender already has that reference waiting (12 to 14; exchange trades form one sender), or has none such (15).
+-- RULES 7.14: a reference that already waits, or one to cancel that does not
 unfoldable pub wrongReference : List Item → Order → Bool
 wrongReference waiting order = (within 12 14 order.form && waits) || (order.form is 15 && not waits)
   where
     waits : Bool
     waits = some (sentBy (senderOf order) order.reference) waiting
 
--- 15. The item to cancel is unmatched, or this sender has marked it.
+-- RULES 7.15: what cannot be cancelled by this sender
 unfoldable pub wrongCancel : List Item → Order → Bool
 wrongCancel waiting order =
     order.form is 15
     && some (λ item. sentBy (senderOf order) order.reference item && notCancellable (senderOf order) item) waiting
 
--- 16. The balance to be debited (outside count in a deposit) is less than asked (3 to 9, 11).
+-- RULES 7.16: too little where the movement takes from
 unfoldable pub tooLittle : Holdings → Order → Bool
 tooLittle holdings order =
     (order.form is 3 && outsideOf order.security holdings below order.quantity.0)
     || (within 4 9 order.form && holdings.balance (accountOf order.security order.debited) below order.quantity.0)
     || (order.form is 11 && holdings.cash order.debited.member order.currency below order.amount.0)
 
--- 17. A currency's total over all members would pass 1,000,000,000,000,000 (10).
+-- RULES 7.17: above the ceiling of a currency's cash
 unfoldable pub overCeiling : Holdings → Order → Bool
 overCeiling holdings order = order.form is 10 && 1_000_000_000_000_000 below (cashTotal order.currency holdings + order.amount.0)
 
--- 18. The call would leave more than 32 securities, more than 64 items, or accounts plus items above 256.
+-- RULES 7.18, 3.11: no room in the book that the call would leave
 unfoldable pub noSpace : Ledger → Order → Bool
 noSpace book order =
     let after : Ledger = effect book order .after in
     32 below length after.holdings.securities || 64 below length after.waiting || 256 below (after.holdings.accounts + length after.waiting)
 
--- What the day and the order settle
+-- what the day and the order settle
 unfoldable pub dayTests : Day → Order → List (ℕ × Bool)
 dayTests day order =
     (6, wrongDay day order)
@@ -124,7 +123,7 @@ roomTests book order =
     ∷ (18, noSpace book order)
     ∷ []
 
--- Refusals 6 to 18, in checking order: four stages, one behind the other
+-- RULES 7.0: four stages, one behind the other
 unfoldable pub refusals : Ledger → Order → List (ℕ × Bool)
 refusals book order =
     dayTests book.day order ++ (orderTests book.holdings book.day.number order ++ (itemTests book.waiting order ++ roomTests book order))

@@ -1,4 +1,4 @@
--- Posting rows and notice rows, as values and as their 16 bytes.
+-- Posting rows and notices, as values and as their 16 bytes (RULES 11).
 use Prim.Native.Nat.{ℕ}
 use mathlib.Core.List.{List, [], _∷_, _++_}
 use lib.ListN.{getD}
@@ -12,7 +12,7 @@ use Rattle.rulebook.specs.declared.Notice.{Notice}
 use Rattle.rulebook.specs.declared.State.{State}
 use Rattle.rulebook.specs.declared.State.the-variants.{Single, Pair, Trade}
 
--- Posting row: credit 1 bit, cash 1 bit, security or currency 14, member 10, type 8, shareholder 30, quantity or amount 64.
+-- RULES 11.4: credit, cash, what, member, type, shareholder, number
 unfoldable pub postingWidths : List ℕ
 postingWidths = 1 ∷ 1 ∷ 14 ∷ 10 ∷ 8 ∷ 30 ∷ 64 ∷ []
 
@@ -33,7 +33,7 @@ postingIn row =
       number = getD fields 6 0;
     }
 
--- Rows of 90 and 91 have member 0 and shareholder 0. Cash rows have type and shareholder 0.
+-- RULES 11.5 to 11.7
 unfoldable pub postingOf : ℕ → Place → ℕ → Posting
 postingOf credit (account a) number =
     record { credit = credit; cash = 0; what = a.security; member = a.member; typ = a.typ; shareholder = a.shareholder; number = number }
@@ -46,14 +46,14 @@ postingOf credit (cashOf member currency) number =
 postingOf credit (member0 currency) number =
     record { credit = credit; cash = 1; what = currency; member = 0; typ = 0; shareholder = 0; number = number }
 
--- Notice row: kind 4 bits (1 single, 2 aged pair, 3 suspended, 4 cancelled), deliverer 10, receiver 10, their references 32 and 32, 40 zero bits.
+-- RULES 11.9: kind, deliverer, receiver, the deliver's and the receive's reference, zeros
 unfoldable pub noticeWidths : List ℕ
 noticeWidths = 4 ∷ 10 ∷ 10 ∷ 32 ∷ 32 ∷ 40 ∷ []
 
 unfoldable pub noticeBytes : Notice → List ℕ
 noticeBytes n = bytes 16 (pack 0 noticeWidths (n.kind ∷ n.deliverer ∷ n.receiver ∷ n.«deliver_reference» ∷ n.«receive_reference» ∷ 0 ∷ []))
 
--- references (0 if absent; an exchange trade's own in both)
+-- RULES 11.10: the references that a notice tells
 unfoldable pub deliverReference : State → ℕ
 deliverReference (Single delivers reference) = if delivers then reference else 0
 deliverReference (Pair deliver receive dm rm) = deliver
@@ -77,7 +77,7 @@ pub data Row : Type 0 where
   posting : Posting → Row
   notice : Notice → Row
 
--- Each movement is a debit row, then a credit row.
+-- RULES 11.4: the debit row of each movement, and its credit row behind it
 unfoldable pub postingRows : List Movement → List Row
 postingRows [] = []
 postingRows (m ∷ rest) = posting (postingOf 0 m.from m.number) ∷ posting (postingOf 1 m.to m.number) ∷ postingRows rest
@@ -86,7 +86,7 @@ unfoldable pub rowBytes : Row → List ℕ
 rowBytes (posting p) = postingBytes p
 rowBytes (notice n) = noticeBytes n
 
--- Rows are 16 bytes, from the area's start
+-- RULES 11.1: one behind the other
 unfoldable pub rowsBytes : List Row → List ℕ
 rowsBytes [] = []
 rowsBytes (row ∷ rest) = rowBytes row ++ rowsBytes rest

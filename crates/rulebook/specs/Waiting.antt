@@ -1,4 +1,4 @@
--- A waiting item is a single instruction, a matched pair or an exchange trade.
+-- Waiting items: their states, sides, senders and marks (RULES 1.19 to 1.23, 10).
 use Prim.Native.Nat.{ℕ}
 use mathlib.Core.Bool.{Bool, true, false, not, _||_, _&&_}
 use mathlib.Core.List.{List, map}
@@ -31,7 +31,7 @@ isReceive (Single delivers reference) = not delivers
 isReceive (Pair d r dm rm) = false
 isReceive (Trade reference) = false
 
--- a pair or an exchange trade
+-- RULES 1.20
 unfoldable pub isTrade : State → Bool
 isTrade (Single delivers reference) = false
 isTrade (Pair d r dm rm) = true
@@ -43,7 +43,7 @@ ownReference (Single delivers reference) = reference
 ownReference (Pair d r dm rm) = 0
 ownReference (Trade reference) = reference
 
--- A single is one side; a pair or exchange trade two.
+-- RULES 1.21
 unfoldable pub sidesOf : State → ℕ
 sidesOf (Single delivers reference) = 1
 sidesOf (Pair d r dm rm) = 2
@@ -52,15 +52,15 @@ sidesOf (Trade reference) = 2
 unfoldable pub sides : List Item → ℕ
 sides items = total (λ item. sidesOf item.state) items
 
--- exchange trades form one sender, which no member is
+-- RULES 1.22: the sender of all exchange trades, a number that no member has
 abbrev pub exchange : ℕ
 exchange = 0
 
--- The sender of form 12 is its debited member, of form 13 its credited one; of form 15 its debited one.
+-- RULES 1.22, 2.6: who sends an order
 unfoldable pub senderOf : Order → ℕ
 senderOf order = if order.form is 13 then order.credited.member else if order.form is 14 then exchange else order.debited.member
 
--- the item waits under that sender's reference
+-- RULES 1.23: the item waits under that sender's reference
 unfoldable pub sentBy : ℕ → ℕ → Item → Bool
 sentBy sender reference item = sent item.state
   where
@@ -69,7 +69,7 @@ sentBy sender reference item = sent item.state
     sent (Pair deliver receive dm rm) = (sender is item.debited.member && reference is deliver) || (sender is item.credited.member && reference is receive)
     sent (Trade own) = sender is exchange && reference is own
 
--- The item to cancel is unmatched, or this sender has marked it.
+-- RULES 7.15: a single, or a pair with this sender's mark
 unfoldable pub notCancellable : ℕ → Item → Bool
 notCancellable sender item = blocked item.state
   where
@@ -91,7 +91,7 @@ withState state item = record {
   state = state;
 }
 
--- Cancel marks the sender's half
+-- RULES 10.2: with the sender's mark
 unfoldable pub marked : ℕ → Item → Item
 marked sender item = withState (mark item.state) item
   where
@@ -109,14 +109,14 @@ bothMarked (Trade reference) = false
 unfoldable pub marking : (sender reference : ℕ) → List Item → List Item
 marking sender reference = map (λ item. if sentBy sender reference item then marked sender item else item)
 
--- the second half removes the pair
+-- RULES 10.3: what leaves with its second mark, and what stays
 unfoldable pub cancelled : List Item → List Item
 cancelled = keep (λ item. bothMarked item.state)
 
 unfoldable pub staying : List Item → List Item
 staying = keep (λ item. not (bothMarked item.state))
 
--- marks are dropped
+-- RULES 4.13: without marks
 unfoldable pub unmarked : Item → Item
 unmarked item = withState (clear item.state) item
   where

@@ -1,4 +1,4 @@
--- Windows: minutes of the day, both ends inside.
+-- Windows: minutes of the day, both ends inside (RULES 4.7).
 use Prim.Native.Nat.{ℕ}
 use mathlib.Core.Bool.{Bool}
 use mathlib.Core.List.{List, [], _∷_}
@@ -7,15 +7,15 @@ use Rattle.rulebook.specs.Lists.{if_then_else_, _is_}
 use Rattle.rulebook.specs.declared.Day.{Day}
 use Rattle.rulebook.specs.declared.Order.{Order}
 
--- Kind 1 / kind 2.
+-- one of two figures, by the day's kind (RULES 4.2)
 unfoldable pub byKind : {A : Type 0} → ℕ → A → A → A
 byKind kind one two = if kind is 1 then one else two
 
--- the cycles' minutes (585, 705, 825 / 585, 705)
+-- RULES 4.9: the earliest minutes of a day's cycles
 unfoldable pub cycleMinutes : ℕ → List ℕ
 cycleMinutes kind = byKind kind (585 ∷ 705 ∷ 825 ∷ []) (585 ∷ 705 ∷ [])
 
--- 960 / 900
+-- when the office ends
 unfoldable pub officeEnd : ℕ → ℕ
 officeEnd kind = byKind kind 960 900
 

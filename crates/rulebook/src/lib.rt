@@ -53,7 +53,7 @@ pub enum Written {
     Refused(u64),
 }
 
-// What an accepted call answers with: rows; sides settled, cancelled, deleted, suspended; trades left.
+// What an accepted call answers with (RULES 1.8): rows, four counts of sides, and trades that a cycle dropped.
 pub struct Counts {
     pub rows: u64,
     pub settled: u64,
@@ -69,7 +69,7 @@ pub enum Answer {
     Refused(u64),
 }
 
-// The day: its number (a count of business days), whether it is open, its kind (1 Monday to Thursday, 2 Friday), cycles run today, last minute.
+// The day (RULES 4): its number, whether it is open, its kind, how many cycles have run, and the last minute.
 pub struct Day {
     pub number: u64,
     pub opened: bool,
@@ -85,7 +85,7 @@ pub struct Security {
     pub outside: Shares,
 }
 
-// The state of a waiting item: a single instruction (a deliver, or else a receive), a matched pair, or an exchange trade.
+// The state of a waiting item (RULES 1.19): a single is a deliver or else a receive.
 pub enum State {
     Single {
         delivers: bool,
