@@ -1,4 +1,4 @@
-//! Desk checks P1 to P13 of document 01.
+//! Desk checks P1 to P13 (RULES, appendix A).
 
 mod common;
 

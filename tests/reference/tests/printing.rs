@@ -1,4 +1,4 @@
-//! The printing example of document 01.
+//! The printing example of RULES 13.7.
 
 mod common;
 

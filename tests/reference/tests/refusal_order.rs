@@ -1,10 +1,11 @@
-//! Which refusal comes first, and the readings of document 01's sentences.
+//! Which refusal comes first, and the readings of the rules.
 
 mod common;
 
 use common::*;
 use reference::book::{Book, CASH_CEILING, State};
-use reference::forms::Answer;
+use reference::call::Answer;
+use reference::forms;
 use reference::record::{Order, pack, read, write};
 
 fn answer(book: &mut Book, bytes: &[u8], area: usize) -> u64 {
@@ -31,7 +32,9 @@ fn unused_fields_come_before_ranges() {
     assert_eq!(read(&record(&Order { credited_member: 1023, ..minute_2000 })), Err(4));
     assert_eq!(read(&record(&Order { currency: 3, ..form(16, 585) })), Err(4));
     assert_eq!(read(&pack(&minute_2000.fields(), 1)), Err(4));
-    assert_eq!(read(&pack(&form(18, 0).fields(), 1)), Err(3));
+    for unknown in (0..32).filter(|number| forms::form(*number).is_none()) {
+        assert_eq!(read(&pack(&form(unknown, 0).fields(), 1)), Err(3));
+    }
 }
 
 #[test]
