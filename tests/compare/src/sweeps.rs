@@ -5,6 +5,7 @@
 use reference::call::{AREA_BYTES, Answer};
 use reference::forms;
 use reference::record::{Field, Order, pack};
+use reference::refusals;
 use reference::windows::cycle_minutes;
 
 use crate::depository::Depository;
@@ -14,8 +15,8 @@ use crate::run::Sides;
 const CODE: u64 = 101;
 
 /// Forms that name types, and how many values or couples the paper allows.
-const TYPES_ALLOWED: [(u64, u64); 10] =
-    [(3, 4), (4, 4), (5, 8), (6, 3), (7, 3), (8, 4), (9, 4), (12, 4), (13, 4), (14, 8)];
+const TYPES_ALLOWED: &[(u64, u64)] =
+    &[(3, 4), (4, 4), (5, 8), (6, 3), (7, 3), (8, 4), (9, 4), (12, 4), (13, 4), (14, 8)];
 
 fn send<D: Depository>(sides: &mut Sides<D>, order: &Order) -> Result<Answer, String> {
     let call = Call { record: pack(&order.fields(), 0).to_vec(), area: vec![0x5A; AREA_BYTES] };
@@ -41,7 +42,7 @@ pub fn types<D: Depository>() -> Result<Vec<(u64, bool)>, String> {
     accepted(&mut sides, Order { quantity: 1, ..form(1, 0) })?;
     accepted(&mut sides, Order { security: CODE, quantity: 1, ..form(2, 540) })?;
     let mut checks = Vec::new();
-    for (number, allowed) in TYPES_ALLOWED {
+    for &(number, allowed) in TYPES_ALLOWED {
         let form = forms::form(number).expect("a form of the table");
         let mut count = 0;
         for debited in types_tried(form.uses(Field::DebitedType)) {
@@ -145,10 +146,14 @@ pub fn minutes_allowed() -> u64 {
     open_day + MONDAY.allowed() + FRIDAY.allowed()
 }
 
-/// The forms that `minutes` does not try.
+/// The forms that `minutes` does not try, and those of refusal 11 that `types`
+/// does not.
 pub fn forms_not_tried() -> Vec<u64> {
-    let tried: Vec<u64> = good_orders().iter().map(|(_, order)| order.form).collect();
-    forms::TABLE.iter().map(|form| form.number).filter(|form| !tried.contains(form)).collect()
+    let by_minutes: Vec<u64> = good_orders().iter().map(|(_, order)| order.form).collect();
+    let by_types: Vec<u64> = TYPES_ALLOWED.iter().map(|(form, _)| *form).collect();
+    let typed = |form: u64| refusals::TABLE.iter().any(|refusal| refusal.number == 11 && (refusal.forms)(form));
+    let tried = |form: u64| by_minutes.contains(&form) && (by_types.contains(&form) || !typed(form));
+    forms::TABLE.iter().map(|form| form.number).filter(|form| !tried(*form)).collect()
 }
 
 /// Every minute for each order, in each state of an open day of both kinds:

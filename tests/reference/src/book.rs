@@ -14,7 +14,7 @@ pub const CASH_CEILING: u64 = 1_000_000_000_000_000;
 pub struct Day {
     pub number: u64,
     pub open: bool,
-    /// 1 Monday to Thursday, 2 Friday; 0 before the first day.
+    /// 2 is a Friday, 1 another day; 0 before the first day.
     pub kind: u64,
     pub cycles_run: u64,
     pub last_minute: u64,

@@ -41,9 +41,8 @@ pub fn custody(day: &Day, _: &Order) -> Window {
     Some((510, if day.kind == 2 { 750 } else { 870 }))
 }
 
-/// An instruction that settles on the same day must come before the last
-/// cycle's minute; one with its day in the past has the long window too
-/// (RULES 4.8).
+/// An instruction that settles on the same day has less time; one whose day is
+/// over has not (RULES 4.8).
 pub fn instruction(day: &Day, order: &Order) -> Window {
     if order.settlement_day == day.number {
         return Some((480, if day.kind == 2 { 705 } else { 825 }));

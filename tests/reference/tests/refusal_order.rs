@@ -140,7 +140,7 @@ fn references_belong_to_senders() {
     accept(&mut book, &deliver(100, 2, 11, 500));
     assert_eq!(refuse(&mut book, &deliver(999, 2, 11, 500)), 14);
     let swapped = Order { debited_member: 8, credited_member: 7, ..receive(100, 2, 11, 500) };
-    assert_eq!(refuse(&mut book, &swapped), 14, "a member is one sender in both roles");
+    assert_eq!(refuse(&mut book, &swapped), 14, "one sender, delivering or receiving");
     assert_eq!(refuse(&mut book, &cancel(7, 11, 500)), 15, "unmatched");
     assert_eq!(refuse(&mut book, &cancel(8, 11, 500)), 14, "another sender's");
     accept(&mut book, &receive(100, 2, 11, 500));
@@ -219,7 +219,7 @@ fn thirty_three_securities_are_too_many() {
 }
 
 #[test]
-fn a_ring_with_nothing_anywhere_settles() {
+fn a_ring_of_empty_accounts_settles() {
     let mut book = first_day(1);
     let [a, b, c] = [1, 2, 3].map(|member| account(member, 110, 5));
     for (from, to, reference) in [(a, b, 1), (b, c, 2), (c, a, 3)] {

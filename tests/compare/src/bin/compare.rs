@@ -151,7 +151,7 @@ fn sweep_checks<D: Depository>(tally: &mut Tally) {
         Err(text) => tally.check(false, || text),
     }
     let not_tried = sweeps::forms_not_tried();
-    tally.check(not_tried.is_empty(), || format!("no minute is tried of forms {not_tried:?}"));
+    tally.check(not_tried.is_empty(), || format!("not every type or minute is tried of forms {not_tried:?}"));
     match sweeps::minutes::<D>() {
         Ok(count) => tally.check(count == sweeps::minutes_allowed(), || {
             format!("{count} minutes accepted, {} allowed by the paper's windows", sweeps::minutes_allowed())

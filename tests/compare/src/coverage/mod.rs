@@ -187,8 +187,8 @@ impl Coverage {
     }
 }
 
-/// All refusals that a call deserves, in checking order. Of a record that
-/// cannot be read only what can still be said of it.
+/// All refusals that a call deserves, in checking order. Of a record that does
+/// not read only what can still be said of it.
 fn faults(book: &Book, bytes: &[u8], area: usize) -> Vec<u64> {
     let mut faults: Vec<u64> = refusals::of_area(area, AREA_BYTES).err().into_iter().collect();
     let read = record::read(bytes);

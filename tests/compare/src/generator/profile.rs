@@ -14,8 +14,9 @@ pub struct Profile {
     pub shareholders: usize,
     /// Calls between opening and the evening, least and most.
     pub calls_a_day: (u64, u64),
-    /// The forms that are drawn in the day, each with how often.
-    pub weights: &'static [(u64, u64)],
+    /// How often a form is drawn in the day, by its number from 0 on; not at
+    /// all behind the last.
+    pub weights: &'static [u64],
     /// Orders that are spoilt on purpose, in percent.
     pub faults: u64,
     /// Records that are damaged, in percent.
@@ -34,24 +35,9 @@ pub struct Profile {
     pub fridays: u64,
 }
 
-/// All forms that come between opening and close.
-const BUSY: &[(u64, u64)] = &[
-    (2, 4),
-    (3, 12),
-    (4, 12),
-    (5, 10),
-    (6, 5),
-    (7, 5),
-    (8, 5),
-    (9, 5),
-    (10, 14),
-    (11, 4),
-    (12, 16),
-    (13, 16),
-    (14, 10),
-    (15, 5),
-    (16, 8),
-];
+/// All forms: 2 admit, 3 deposit, 4 withdrawal, 5 transfer, 6 to 9 pledge to
+/// unblock, 10 and 11 cash, 12 to 14 trades, 15 cancel, 16 cycle.
+const BUSY: &[u64] = &[0, 0, 4, 12, 12, 10, 5, 5, 5, 5, 14, 4, 16, 16, 10, 5, 8];
 
 const USUAL: Profile = Profile {
     name: "busy trading",
@@ -77,23 +63,7 @@ const FULL_ACCOUNTS: Profile = Profile {
     members: 64,
     shareholders: 60,
     calls_a_day: (60, 300),
-    weights: &[
-        (2, 2),
-        (3, 40),
-        (4, 3),
-        (5, 14),
-        (6, 8),
-        (7, 6),
-        (8, 8),
-        (9, 6),
-        (10, 4),
-        (11, 1),
-        (12, 5),
-        (13, 5),
-        (14, 3),
-        (15, 1),
-        (16, 2),
-    ],
+    weights: &[0, 0, 2, 40, 3, 14, 8, 6, 8, 6, 4, 1, 5, 5, 3, 1, 2],
     faults: 15,
     ..USUAL
 };
@@ -102,23 +72,7 @@ const FULL_ITEMS: Profile = Profile {
     name: "full items",
     members: 12,
     calls_a_day: (20, 120),
-    weights: &[
-        (2, 3),
-        (3, 8),
-        (4, 2),
-        (5, 3),
-        (6, 1),
-        (7, 1),
-        (8, 1),
-        (9, 1),
-        (10, 4),
-        (11, 1),
-        (12, 30),
-        (13, 30),
-        (14, 12),
-        (15, 4),
-        (16, 1),
-    ],
+    weights: &[0, 0, 3, 8, 2, 3, 1, 1, 1, 1, 4, 1, 30, 30, 12, 4, 1],
     faults: 12,
     scenarios: 40,
     days_ahead: 20,
@@ -128,23 +82,7 @@ const FULL_ITEMS: Profile = Profile {
 const FULL_SECURITIES: Profile = Profile {
     name: "full securities",
     securities: 40,
-    weights: &[
-        (2, 30),
-        (3, 14),
-        (4, 6),
-        (5, 10),
-        (6, 5),
-        (7, 4),
-        (8, 5),
-        (9, 4),
-        (10, 6),
-        (11, 4),
-        (12, 8),
-        (13, 8),
-        (14, 6),
-        (15, 3),
-        (16, 3),
-    ],
+    weights: &[0, 0, 30, 14, 6, 10, 5, 4, 5, 4, 6, 4, 8, 8, 6, 3, 3],
     faults: 12,
     ..USUAL
 };
@@ -157,23 +95,7 @@ const CASH: Profile = Profile {
     calls: 9_000,
     members: 64,
     calls_a_day: (20, 200),
-    weights: &[
-        (2, 1),
-        (3, 3),
-        (4, 1),
-        (5, 1),
-        (6, 1),
-        (7, 1),
-        (8, 1),
-        (9, 1),
-        (10, 70),
-        (11, 3),
-        (12, 4),
-        (13, 4),
-        (14, 3),
-        (15, 1),
-        (16, 1),
-    ],
+    weights: &[0, 0, 1, 3, 1, 1, 1, 1, 1, 1, 70, 3, 4, 4, 3, 1, 1],
     faults: 16,
     large_values: 85,
     ..USUAL
@@ -184,23 +106,7 @@ const CANCEL_AND_CLOSE: Profile = Profile {
     members: 4,
     shareholders: 2,
     calls_a_day: (4, 30),
-    weights: &[
-        (2, 2),
-        (3, 6),
-        (4, 2),
-        (5, 2),
-        (6, 1),
-        (7, 1),
-        (8, 1),
-        (9, 1),
-        (10, 4),
-        (11, 3),
-        (12, 20),
-        (13, 20),
-        (14, 8),
-        (15, 16),
-        (16, 5),
-    ],
+    weights: &[0, 0, 2, 6, 2, 2, 1, 1, 1, 1, 4, 3, 20, 20, 8, 16, 5],
     days_ahead: 3,
     ..USUAL
 };
@@ -209,23 +115,7 @@ const EDGES_OF_WINDOWS: Profile = Profile {
     name: "edges of windows",
     securities: 40,
     calls_a_day: (6, 40),
-    weights: &[
-        (2, 10),
-        (3, 12),
-        (4, 12),
-        (5, 10),
-        (6, 5),
-        (7, 5),
-        (8, 5),
-        (9, 5),
-        (10, 14),
-        (11, 4),
-        (12, 16),
-        (13, 16),
-        (14, 10),
-        (15, 5),
-        (16, 8),
-    ],
+    weights: &[0, 0, 10, 12, 12, 10, 5, 5, 5, 5, 14, 4, 16, 16, 10, 5, 8],
     faults: 2,
     edges: 70,
     scenarios: 5,
@@ -235,7 +125,7 @@ const EDGES_OF_WINDOWS: Profile = Profile {
 const FULL_CYCLES: Profile = Profile {
     name: "full cycles",
     calls_a_day: (2, 10),
-    weights: &[(2, 2), (3, 6), (4, 4), (5, 3), (6, 1), (7, 1), (8, 1), (9, 1), (10, 6), (11, 4), (16, 4)],
+    weights: &[0, 0, 2, 6, 4, 3, 1, 1, 1, 1, 6, 4, 0, 0, 0, 0, 4],
     faults: 2,
     scenarios: 300,
     ..USUAL
@@ -247,23 +137,7 @@ const NETTING: Profile = Profile {
     members: 5,
     shareholders: 1,
     calls_a_day: (10, 60),
-    weights: &[
-        (2, 2),
-        (3, 5),
-        (4, 2),
-        (5, 2),
-        (6, 1),
-        (7, 1),
-        (8, 1),
-        (9, 1),
-        (10, 6),
-        (11, 4),
-        (12, 12),
-        (13, 12),
-        (14, 20),
-        (15, 2),
-        (16, 6),
-    ],
+    weights: &[0, 0, 2, 5, 2, 2, 1, 1, 1, 1, 6, 4, 12, 12, 20, 2, 6],
     faults: 3,
     scenarios: 60,
     days_ahead: 2,
@@ -303,10 +177,10 @@ pub fn fast_days() -> Profile {
 impl Profile {
     /// A form of the day, by weight.
     pub fn draw_form(&self, random: &mut Random) -> u64 {
-        let mut rest = random.below(self.weights.iter().map(|(_, weight)| weight).sum());
-        for (form, weight) in self.weights {
+        let mut rest = random.below(self.weights.iter().sum());
+        for (form, weight) in self.weights.iter().enumerate() {
             if rest < *weight {
-                return *form;
+                return form as u64;
             }
             rest -= weight;
         }
