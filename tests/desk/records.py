@@ -14,14 +14,15 @@ WIDTHS = {
     "form": 5, "minute": 11, "security": 14, "currency": 2,
     "debited_member": 10, "debited_type": 8, "credited_member": 10, "credited_type": 8,
     "debited_shareholder": 30, "credited_shareholder": 30, "quantity": 40, "amount": 40,
-    "trade_day": 16, "settlement_day": 16, "reference": 32, "spare": 48,
+    "trade_day": 16, "settlement_day": 16, "reference": 32,
+    "operation": 3, "original": 32, "edition": 1, "zero": 12,
 }
 MOST = 2**40 - 1
 USD = 1
 
 
 def record(**fields):
-    """Fields packed without gaps, most significant bit first."""
+    """The 40 bytes of a record; a field that is not named is 0."""
     bits = 0
     for name, width in WIDTHS.items():
         bits = bits << width | fields.pop(name, 0)
@@ -115,7 +116,7 @@ def day_and_reading():
         (record(form=0, minute=480), 3, 0),
         (record(form=18, minute=480), 3, 0),
         (deposit(540, 101, 400, (7, 20, 5), reference=1), 4, 0),  # a deposit has no reference
-        (record(form=16, minute=540, spare=1), 4, 0),  # the last 48 bits are zero
+        (record(form=16, minute=540, zero=1), 4, 0),  # the last 12 bits are no field
         (deposit(540, 101, 0, (7, 20, 5)), 5, 0),
         (cycle(1440), 5, 0),  # the day has 1,440 minutes
         (close(500), 7, 0),  # no cycle has run
@@ -201,7 +202,7 @@ def last_days():
         (cycle(585), 0, 0),
         (cycle(705), 0, 0),
         (close(900), 0, 0),
-        (tail, 2, 0),  # a short tail is one record
+        (tail, 2, 0),  # 17 bytes are left
     ]
 
 

@@ -3,10 +3,8 @@
 use std::borrow::Cow;
 
 use reference::book::Book;
-use reference::forms::Answer;
-use reference::record::{self, FIELD_COUNT};
-
-pub type Fields = [u64; FIELD_COUNT];
+use reference::call::Answer;
+use reference::record::{self, Fields};
 
 /// An error is a fault at the boundary itself, such as a count changed by a
 /// refused call.

@@ -1,6 +1,6 @@
 //! The comparison of the library under test with the reference: drawn lists
-//! of calls, the totals of document 01's "Lists of calls", and a table of
-//! what was reached.
+//! of calls, the totals of such lists (RULES 12), and a table of what was
+//! reached. RULES is docs/RULES.md.
 
 pub mod coverage;
 pub mod depository;

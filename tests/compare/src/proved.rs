@@ -5,10 +5,10 @@ use std::borrow::Cow;
 
 use boundary::{BOOK_WORDS, COUNT_WORDS, WRONG_BOOK, decode};
 use reference::book::Book;
-use reference::forms::{Answer, Counts};
-use reference::record::FIELD_COUNT;
+use reference::call::{Answer, Counts};
+use reference::record::{FIELD_COUNT, Fields};
 
-use crate::depository::{Depository, Fields};
+use crate::depository::Depository;
 
 unsafe extern "C" {
     fn depository_fresh(book: *mut u64, words: usize) -> u64;

@@ -3,33 +3,82 @@
 
 use std::collections::BTreeMap;
 
-use reference::record::{self, FIELDS, Field, Order, WIDTHS, highest, lowest, uses};
+use reference::forms::{self, FORMS, Form};
+use reference::record::{self, FIELDS, Field, Fields, Order, WIDTHS, largest};
 
-use crate::depository::{Depository, Fields};
-use crate::generator::damage::damaged;
+use crate::coverage::damages::last_bit;
+use crate::depository::Depository;
+use crate::generator::damage::{LAST_BITS, damaged};
 use crate::random::Random;
 
-/// How often the reader and the writer gave each answer, by form (0 where
-/// the form is none of 1 to 17, or the record has not 40 bytes).
+/// How often something was reached, by its name.
 #[derive(Default)]
 pub struct Reached {
-    reader: BTreeMap<(u64, u64), u64>,
-    writer: BTreeMap<(u64, u64), u64>,
+    counts: BTreeMap<String, u64>,
+}
+
+/// An answer by form; 0 where the form is none, or the record has not 40
+/// bytes.
+fn answered(who: &str, form: u64, answer: u64) -> String {
+    format!("{who}, form {form}, answer {answer}")
+}
+
+/// A record that is refused with 4, of whose last bits this one alone is set.
+fn refused_bit(bit: usize) -> String {
+    format!("reader, bit {bit} of the last {LAST_BITS}, answer 4")
+}
+
+/// An order that is refused with 4, of whose unused fields this one alone is
+/// set; it may fit its width or not.
+fn refused_field(form: u64, field: Field, fits: bool) -> String {
+    format!("writer, form {form}, {field:?} set, fits {fits}, answer 4")
 }
 
 impl Reached {
     /// The cells that a run must fill, with their counts.
     pub fn cells(&self) -> Vec<(String, u64)> {
-        let reader = (1..=17).flat_map(|form| [(form, 0), (form, 4), (form, 5)]).chain([(0, 2), (0, 3)]);
-        // Form 14 uses every field, and the writer's order has no spare bits.
-        let writer = (1..=17).flat_map(|form| [(form, 0), (form, 1), (form, 4), (form, 5)]).chain([(0, 1), (0, 3)]);
-        let writer = writer.filter(|cell| *cell != (14, 4));
-        let count = |table: &BTreeMap<(u64, u64), u64>, cell| table.get(&cell).copied().unwrap_or(0);
-        let read =
-            reader.map(|cell| (format!("reader, form {}, answer {}", cell.0, cell.1), count(&self.reader, cell)));
-        let written =
-            writer.map(|cell| (format!("writer, form {}, answer {}", cell.0, cell.1), count(&self.writer, cell)));
-        read.chain(written).collect()
+        let mut cells = vec![
+            answered("reader", 0, 2),
+            answered("reader", 0, 3),
+            answered("writer", 0, 1),
+            answered("writer", 0, 3),
+        ];
+        for form in forms::TABLE {
+            cells.extend([0, 4, 5].map(|answer| answered("reader", form.number, answer)));
+            cells.extend([0, 1, 4, 5].map(|answer| answered("writer", form.number, answer)));
+            for field in FIELDS.into_iter().filter(|field| !form.uses(*field)) {
+                cells.extend([true, false].map(|fits| refused_field(form.number, field, fits)));
+            }
+        }
+        cells.extend((0..LAST_BITS).map(refused_bit));
+        let count = |name: &String| self.counts.get(name).copied().unwrap_or(0);
+        cells.into_iter().map(|name| (name.clone(), count(&name))).collect()
+    }
+
+    fn reach(&mut self, name: String) {
+        *self.counts.entry(name).or_insert(0) += 1;
+    }
+
+    fn read(&mut self, bytes: &[u8], answer: u64) {
+        let form = if matches!(answer, 2 | 3) { 0 } else { u64::from(bytes[0] >> 3) };
+        self.reach(answered("reader", form, answer));
+        if answer == 4 {
+            last_bit(bytes).into_iter().for_each(|bit| self.reach(refused_bit(bit)));
+        }
+    }
+
+    fn written(&mut self, fields: &Fields, answer: u64) {
+        let Some(form) = forms::form(fields[Field::Form as usize]) else {
+            return self.reach(answered("writer", 0, answer));
+        };
+        self.reach(answered("writer", form.number, answer));
+        let set = |field: &Field| !form.uses(*field) && fields[*field as usize] != 0;
+        let set: Vec<Field> = FIELDS.into_iter().filter(set).collect();
+        if let [field] = set[..]
+            && answer == 4
+        {
+            self.reach(refused_field(form.number, field, fields[field as usize] <= largest(field)));
+        }
     }
 }
 
@@ -38,31 +87,29 @@ pub fn run<D: Depository>(seed: u64, rounds: u64) -> Result<Reached, String> {
     let mut random = Random::new(seed);
     let mut reached = Reached::default();
     for round in 0..rounds {
-        let order = any_order(1 + round % 17, &mut random);
+        let order = any_order(forms::TABLE[round as usize % FORMS], &mut random);
         let bytes = any_record(&order, &mut random);
         let answer = read_once::<D>(&bytes, &mut random).map_err(|text| format!("reader, round {round}: {text}"))?;
-        let form = if matches!(answer, 2 | 3) { 0 } else { u64::from(bytes[0] >> 3) };
-        *reached.reader.entry((form, answer)).or_insert(0) += 1;
+        reached.read(&bytes, answer);
         let fields = any_fields(&order, &mut random);
         let answer = write_once::<D>(&fields, &mut random).map_err(|text| format!("writer, round {round}: {text}"))?;
-        let form = if (1..=17).contains(&fields[0]) { fields[0] } else { 0 };
-        *reached.writer.entry((form, answer)).or_insert(0) += 1;
+        reached.written(&fields, answer);
     }
     Ok(reached)
 }
 
 /// A good order of a form, its fields often at the ends of their ranges.
-pub fn any_order(form: u64, random: &mut Random) -> Order {
+pub fn any_order(form: Form, random: &mut Random) -> Order {
     let mut fields = [0; FIELDS.len()];
-    for field in FIELDS.into_iter().filter(|field| uses(form, *field)) {
-        let (low, high) = (lowest(field), highest(form, field));
+    for field in FIELDS.into_iter().filter(|field| form.uses(*field)) {
+        let (low, high) = form.range(field);
         fields[field as usize] = match random.below(6) {
             0 => low,
             1 => high,
             _ => random.between(low, high),
         };
     }
-    fields[Field::Form as usize] = form;
+    fields[Field::Form as usize] = form.number;
     Order::from_fields(fields)
 }
 

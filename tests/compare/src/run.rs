@@ -3,7 +3,7 @@
 use std::fmt;
 
 use reference::book::{Book, LAST_DAY};
-use reference::forms::Answer;
+use reference::call::Answer;
 
 use crate::coverage::Coverage;
 use crate::depository::Depository;
@@ -140,7 +140,7 @@ impl<D: Depository> Sides<D> {
     }
 }
 
-/// "bytes after the last row keep their contents"; after a refusal all do.
+/// What lies behind the rows is kept; after a refusal that is the whole area.
 fn kept_after_rows(call: &Call, answer: &Answer, area: &[u8]) -> Result<(), String> {
     let rows = match answer {
         Answer::Accepted(counts) => counts.rows as usize,

@@ -1,7 +1,7 @@
 //! The streams of calls that the benchmark times.
 
 use reference::book::Book;
-use reference::forms::{AREA_BYTES, Answer};
+use reference::call::{AREA_BYTES, Answer};
 use reference::record::{Order, RECORD_BYTES, pack};
 use reference::windows::next_cycle_minute;
 

@@ -2,8 +2,10 @@
 //! types for each form that names them, and every minute of the day for each
 //! form in each state of a day.
 
-use reference::forms::{AREA_BYTES, Answer};
-use reference::record::{Order, pack};
+use reference::call::{AREA_BYTES, Answer};
+use reference::forms;
+use reference::record::{Field, Order, pack};
+use reference::refusals;
 use reference::windows::cycle_minutes;
 
 use crate::depository::Depository;
@@ -13,8 +15,8 @@ use crate::run::Sides;
 const CODE: u64 = 101;
 
 /// Forms that name types, and how many values or couples the paper allows.
-const TYPES_ALLOWED: [(u64, u64); 10] =
-    [(3, 4), (4, 4), (5, 8), (6, 3), (7, 3), (8, 4), (9, 4), (12, 4), (13, 4), (14, 8)];
+const TYPES_ALLOWED: &[(u64, u64)] =
+    &[(3, 4), (4, 4), (5, 8), (6, 3), (7, 3), (8, 4), (9, 4), (12, 4), (13, 4), (14, 8)];
 
 fn send<D: Depository>(sides: &mut Sides<D>, order: &Order) -> Result<Answer, String> {
     let call = Call { record: pack(&order.fields(), 0).to_vec(), area: vec![0x5A; AREA_BYTES] };
@@ -40,10 +42,11 @@ pub fn types<D: Depository>() -> Result<Vec<(u64, bool)>, String> {
     accepted(&mut sides, Order { quantity: 1, ..form(1, 0) })?;
     accepted(&mut sides, Order { security: CODE, quantity: 1, ..form(2, 540) })?;
     let mut checks = Vec::new();
-    for (number, allowed) in TYPES_ALLOWED {
+    for &(number, allowed) in TYPES_ALLOWED {
+        let form = forms::form(number).expect("a form of the table");
         let mut count = 0;
-        for debited in types_tried(number != 3 && number != 13) {
-            for credited in types_tried(number != 4 && number != 12) {
+        for debited in types_tried(form.uses(Field::DebitedType)) {
+            for credited in types_tried(form.uses(Field::CreditedType)) {
                 let order = Order { debited_type: debited, credited_type: credited, ..refused_later(number) };
                 let answer = send(&mut sides, &order)?;
                 count += u64::from(answer != Answer::Refused(11));
@@ -84,33 +87,54 @@ fn order_between(number: u64, minute: u64) -> Order {
     }
 }
 
-/// A kind of day as the paper has it: how many of `good_orders` have each
-/// window (first and last minute), the earliest minutes of its cycles, and
-/// when it may close.
-struct Windows {
-    orders: [(u64, u64, u64); 3],
-    cycles: &'static [u64],
-    end: u64,
+/// Which window the paper gives to an order.
+#[derive(Clone, Copy, PartialEq, Eq)]
+enum Window {
+    /// None while a day is open.
+    Opening,
+    Working,
+    Custody,
+    /// Instructions that settle today.
+    SameDay,
+    Cycle,
+    Close,
 }
 
-const MONDAY: Windows =
-    Windows { orders: [(7, 480, 960), (7, 510, 870), (2, 480, 825)], cycles: &[585, 705, 825], end: 960 };
-const FRIDAY: Windows =
-    Windows { orders: [(7, 480, 900), (7, 510, 750), (2, 480, 705)], cycles: &[585, 705], end: 900 };
+/// The minutes of a kind of day, as the paper has them.
+struct Minutes {
+    /// The last minute of the working day, of custody and of same-day
+    /// instructions.
+    working: u64,
+    custody: u64,
+    same_day: u64,
+    /// The earliest minutes of the cycles.
+    cycles: &'static [u64],
+}
 
-impl Windows {
+const MONDAY: Minutes = Minutes { working: 960, custody: 870, same_day: 825, cycles: &[585, 705, 825] };
+const FRIDAY: Minutes = Minutes { working: 900, custody: 750, same_day: 705, cycles: &[585, 705] };
+
+impl Minutes {
+    /// First and last minute of a window after so many cycles.
+    fn of(&self, window: Window, cycles_run: usize) -> Option<(u64, u64)> {
+        match window {
+            Window::Opening => None,
+            Window::Working => Some((480, self.working)),
+            Window::Custody => Some((510, self.custody)),
+            Window::SameDay => Some((480, self.same_day)),
+            Window::Cycle => self.cycles.get(cycles_run).map(|minute| (*minute, self.working)),
+            Window::Close => (cycles_run == self.cycles.len()).then_some((self.working, 1439)),
+        }
+    }
+
     /// The minutes allowed to all orders, summed over the states of the day;
     /// each cycle runs in its first minute.
-    fn minutes(&self) -> u64 {
-        let from = |first: u64, last: u64, past: u64| (last + 1).saturating_sub(first.max(past));
-        let mut sum = 1440 - self.end;
-        let mut past = 0;
+    fn allowed(&self) -> u64 {
+        let mut sum = 0;
         for cycles_run in 0..=self.cycles.len() {
-            sum += self.orders.iter().map(|(count, first, last)| count * from(*first, *last, past)).sum::<u64>();
-            if let Some(minute) = self.cycles.get(cycles_run) {
-                sum += from(*minute, self.end, past);
-                past = *minute;
-            }
+            let past = if cycles_run == 0 { 0 } else { self.cycles[cycles_run - 1] };
+            let windows = good_orders().into_iter().filter_map(|(window, _)| self.of(window, cycles_run));
+            sum += windows.map(|(first, last)| (last + 1).saturating_sub(first.max(past))).sum::<u64>();
         }
         sum
     }
@@ -119,7 +143,17 @@ impl Windows {
 /// What the paper's windows allow, summed over all that `minutes` tries.
 pub fn minutes_allowed() -> u64 {
     let open_day = 481;
-    open_day + MONDAY.minutes() + FRIDAY.minutes()
+    open_day + MONDAY.allowed() + FRIDAY.allowed()
+}
+
+/// The forms that `minutes` does not try, and those of refusal 11 that `types`
+/// does not.
+pub fn forms_not_tried() -> Vec<u64> {
+    let by_minutes: Vec<u64> = good_orders().iter().map(|(_, order)| order.form).collect();
+    let by_types: Vec<u64> = TYPES_ALLOWED.iter().map(|(form, _)| *form).collect();
+    let typed = |form: u64| refusals::TABLE.iter().any(|refusal| refusal.number == 11 && (refusal.forms)(form));
+    let tried = |form: u64| by_minutes.contains(&form) && (by_types.contains(&form) || !typed(form));
+    forms::TABLE.iter().map(|form| form.number).filter(|form| !tried(*form)).collect()
 }
 
 /// Every minute for each order, in each state of an open day of both kinds:
@@ -131,7 +165,7 @@ pub fn minutes<D: Depository>() -> Result<u64, String> {
         let mut open = closed.clone();
         accepted(&mut open, Order { quantity: kind, ..form(1, 0) })?;
         for cycles_run in 0..=cycle_minutes(kind).len() {
-            for order in good_orders() {
+            for (_, order) in good_orders() {
                 count += every_minute(&open, &order)?;
             }
             if let Some(minute) = cycle_minutes(kind).get(cycles_run) {
@@ -178,7 +212,8 @@ fn prepared_day<D: Depository>() -> Result<Sides<D>, String> {
 }
 
 /// Orders of every form that day 2 accepts in their windows.
-fn good_orders() -> Vec<Order> {
+fn good_orders() -> Vec<(Window, Order)> {
+    use Window::*;
     let typed = |number, debited, credited| Order {
         debited_type: debited,
         credited_type: credited,
@@ -194,24 +229,24 @@ fn good_orders() -> Vec<Order> {
         ..typed(number, debited, credited)
     };
     vec![
-        Order { quantity: 1, ..form(1, 0) },
-        Order { security: 102, quantity: 1, ..form(2, 0) },
-        Order { debited_member: 0, debited_shareholder: 0, settlement_day: 0, ..typed(3, 0, 20) },
-        Order { credited_member: 0, credited_shareholder: 0, settlement_day: 0, ..typed(4, 20, 0) },
-        typed(5, 20, 10),
-        typed(6, 20, 21),
-        typed(7, 21, 20),
-        typed(8, 20, 22),
-        typed(9, 22, 20),
-        Order { currency: 2, credited_member: 7, amount: 1, ..form(10, 0) },
-        Order { currency: 1, debited_member: 7, amount: 1, ..form(11, 0) },
-        terms(12, 20, 0, 2),
-        terms(12, 20, 0, 3),
-        terms(13, 0, 20, 2),
-        terms(13, 0, 20, 22),
-        terms(14, 20, 10, 5),
-        Order { debited_member: 7, reference: 1, ..form(15, 0) },
-        form(16, 0),
-        form(17, 0),
+        (Opening, Order { quantity: 1, ..form(1, 0) }),
+        (Working, Order { security: 102, quantity: 1, ..form(2, 0) }),
+        (Custody, Order { debited_member: 0, debited_shareholder: 0, settlement_day: 0, ..typed(3, 0, 20) }),
+        (Custody, Order { credited_member: 0, credited_shareholder: 0, settlement_day: 0, ..typed(4, 20, 0) }),
+        (Custody, typed(5, 20, 10)),
+        (Custody, typed(6, 20, 21)),
+        (Custody, typed(7, 21, 20)),
+        (Custody, typed(8, 20, 22)),
+        (Custody, typed(9, 22, 20)),
+        (Working, Order { currency: 2, credited_member: 7, amount: 1, ..form(10, 0) }),
+        (Working, Order { currency: 1, debited_member: 7, amount: 1, ..form(11, 0) }),
+        (SameDay, terms(12, 20, 0, 2)),
+        (Working, terms(12, 20, 0, 3)),
+        (SameDay, terms(13, 0, 20, 2)),
+        (Working, terms(13, 0, 20, 22)),
+        (Working, terms(14, 20, 10, 5)),
+        (Working, Order { debited_member: 7, reference: 1, ..form(15, 0) }),
+        (Cycle, form(16, 0)),
+        (Close, form(17, 0)),
     ]
 }

@@ -1,14 +1,14 @@
-//! The totals of document 01's "Lists of calls", "taken over the accepted
-//! calls, from their records, answers and rows" alone, and what they say of
-//! the last book.
+//! The totals of a list of calls, from what its accepted calls were given and
+//! gave back alone, and what they say of the last book (RULES 12).
 
 use std::collections::{BTreeMap, BTreeSet};
 
 use reference::book::{Account, Book, Purse};
-use reference::forms::{Answer, Counts};
+use reference::call::{Answer, Counts};
+use reference::forms::{self, Written};
 use reference::record::{Order, unpack};
 
-/// "Pledged or blocked accounts have type 11, 21, 121, 12, 22, 112 or 122".
+/// RULES 5.4.
 const PLEDGED_OR_BLOCKED: [u64; 7] = [11, 21, 121, 12, 22, 112, 122];
 
 #[derive(Clone, Default)]
@@ -31,7 +31,7 @@ fn add<K: Ord>(totals: &mut BTreeMap<K, i128>, key: K, value: i128) {
     *totals.entry(key).or_insert(0) += value;
 }
 
-/// "What the book does not keep is 0", and so is what was never posted.
+/// What was never posted counts as 0, as does what the book does not have.
 fn at<K: Ord>(totals: &BTreeMap<K, i128>, key: &K) -> i128 {
     totals.get(key).copied().unwrap_or(0)
 }
@@ -43,10 +43,11 @@ impl Totals {
             return;
         };
         let order = Order::from_fields(unpack(record));
+        let form = forms::form(order.form).expect("an accepted record has a form");
         self.take_order(&order);
+        self.sides_taken_in += i128::from(form.takes_in);
         self.sides_gone += sides_gone(counts);
-        // "those of cancel and close are notices, the others posting rows"
-        if !matches!(order.form, 15 | 17) {
+        if form.rows == Written::Postings {
             area.chunks_exact(16).take(counts.rows as usize).for_each(|row| self.take_posting(row));
         }
     }
@@ -61,16 +62,12 @@ impl Totals {
             7 | 9 => add(&mut self.released, debited(order), quantity),
             10 => add(&mut self.pay_ins, order.currency, amount),
             11 => add(&mut self.pay_outs, order.currency, amount),
-            // "An accepted 12 or 13 takes in one, a 14 two".
-            12 | 13 => self.sides_taken_in += 1,
-            14 => self.sides_taken_in += 2,
             _ => {}
         }
     }
 
-    /// "A posting row counts for the account, outside count (type 91) or
-    /// member's cash that it names; rows of type 90 and cash rows of member 0
-    /// count for none."
+    /// A row counts for the place that it names; the issued count and the cash
+    /// of the world outside are none (RULES 12.4).
     fn take_posting(&mut self, row: &[u8]) {
         let row = u128::from_be_bytes(row.try_into().expect("16 bytes"));
         let bits = |from_right: u32, width: u32| (row >> from_right) as u64 & ((1 << width) - 1);
@@ -143,7 +140,7 @@ impl Totals {
     }
 }
 
-/// "sides gone are the sums over the answers"
+/// The sides that a call removed, in any way.
 fn sides_gone(counts: &Counts) -> i128 {
     let all = [counts.settled, counts.cancelled, counts.deleted, counts.suspended];
     all.into_iter().map(i128::from).sum()

@@ -1,10 +1,11 @@
 //! Account types and the pairs between which shares may move.
 
-/// "Free: 10, 20 (book entry), 110, 120 (physical)."
+/// The types without a restriction (RULES 5.2): two of book entry, two
+/// physical.
 pub const FREE: [u64; 4] = [10, 20, 110, 120];
-/// "Pledge: 10 to 11, 20 to 21, 120 to 121."
+/// A free type and its pledged one (RULES 5.1); 110 has none.
 pub const PLEDGE: [(u64, u64); 3] = [(10, 11), (20, 21), (120, 121)];
-/// "Block: 10 to 12, 20 to 22, 110 to 112, 120 to 122."
+/// A free type and its blocked one.
 pub const BLOCK: [(u64, u64); 4] = [(10, 12), (20, 22), (110, 112), (120, 122)];
 /// Postings of admission, deposit and withdrawal name these two.
 pub const TOTAL_ISSUED: u64 = 90;
@@ -19,29 +20,27 @@ pub fn is_physical(account_type: u64) -> bool {
     account_type >= 100
 }
 
-/// "both book entry or both physical"
+/// RULES 5.3.
 pub fn same_nature(one: u64, other: u64) -> bool {
     is_physical(one) == is_physical(other)
 }
 
-/// "Transfers, trades: free to free, both book entry or both physical."
+/// Between free types that are alike.
 fn is_transfer(debited: u64, credited: u64) -> bool {
     is_free(debited) && is_free(credited) && same_nature(debited, credited)
 }
 
-/// Whether a form's debited and credited types are in the table.
+/// Whether a form's debited and credited types are in the table of RULES 5.5.
 pub fn allows(form: u64, debited: u64, credited: u64) -> bool {
     match form {
-        // "Deposits and withdrawals touch free types."
         3 => is_free(credited),
         4 => is_free(debited),
         5 | 14 => is_transfer(debited, credited),
         6 => PLEDGE.contains(&(debited, credited)),
-        // "Release and unblock reverse these."
         7 => PLEDGE.contains(&(credited, debited)),
         8 => BLOCK.contains(&(debited, credited)),
         9 => BLOCK.contains(&(credited, debited)),
-        // "forms 12, 13 test their own side"
+        // The other side's type is not known yet (RULES 5.6).
         12 => is_free(debited),
         13 => is_free(credited),
         _ => true,

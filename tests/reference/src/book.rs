@@ -1,23 +1,20 @@
-//! What the book keeps.
+//! What the book keeps (RULES 3).
 
 use std::collections::BTreeMap;
 
-/// "up to 32 securities"
 pub const MOST_SECURITIES: usize = 32;
-/// "more than 64 items"
 pub const MOST_ITEMS: usize = 64;
-/// "accounts plus items above 256"
 pub const MOST_ACCOUNTS_AND_ITEMS: usize = 256;
-/// "on day 60,000"
+/// After this day none opens.
 pub const LAST_DAY: u64 = 60_000;
-/// "A currency's total over all members", in hundredths.
+/// The most cash of one currency in the whole book, in hundredths.
 pub const CASH_CEILING: u64 = 1_000_000_000_000_000;
 
 #[derive(Clone, Debug, Default, PartialEq, Eq)]
 pub struct Day {
     pub number: u64,
     pub open: bool,
-    /// 1 Monday to Thursday, 2 Friday; 0 before the first day.
+    /// 2 is a Friday, 1 another day; 0 before the first day.
     pub kind: u64,
     pub cycles_run: u64,
     pub last_minute: u64,
@@ -30,7 +27,7 @@ pub struct Security {
     pub outside: u64,
 }
 
-/// "accounts (security, member, type, shareholder)"
+/// What names an account (RULES 1.15).
 #[derive(Clone, Copy, Debug, PartialEq, Eq, PartialOrd, Ord)]
 pub struct Account {
     pub security: u64,
@@ -39,7 +36,7 @@ pub struct Account {
     pub shareholder: u64,
 }
 
-/// "cash per member 1 to 64 and currency (1 USD, 2 LBP)"
+/// What names a member's cash; currency 1 is USD, 2 is LBP.
 #[derive(Clone, Copy, Debug, PartialEq, Eq, PartialOrd, Ord)]
 pub struct Purse {
     pub member: u64,
@@ -70,8 +67,7 @@ pub enum State {
     ExchangeTrade { reference: u64 },
 }
 
-/// "A waiting item is a single instruction, a matched pair or an exchange
-/// trade."
+/// An item of the waiting list (RULES 1.19, 3.8).
 #[derive(Clone, Copy, Debug, PartialEq, Eq)]
 pub struct Item {
     pub security: u64,
@@ -85,7 +81,7 @@ pub struct Item {
     pub state: State,
 }
 
-/// Who sent an instruction; "exchange trades form one sender".
+/// Who sent an instruction; all exchange trades come from the exchange.
 #[derive(Clone, Copy, Debug, PartialEq, Eq)]
 pub enum Sender {
     Member(u64),
@@ -97,7 +93,7 @@ impl Item {
         matches!(self.state, State::Deliver { .. } | State::Receive { .. })
     }
 
-    /// "A single is one side; a pair or exchange trade two."
+    /// RULES 1.21.
     pub fn sides(&self) -> u64 {
         if self.is_single() { 1 } else { 2 }
     }
@@ -157,12 +153,12 @@ pub struct Book {
     pub accounts: BTreeMap<Account, u64>,
     /// Hundredths; an absent purse is empty.
     pub cash: BTreeMap<Purse, u64>,
-    /// "in order of arrival"
+    /// The earliest arrival first.
     pub waiting: Vec<Item>,
 }
 
 impl Book {
-    /// "A fresh book has day 0, closed, nothing else."
+    /// RULES 3.2.
     pub fn fresh() -> Book {
         Book::default()
     }
@@ -196,12 +192,12 @@ impl Book {
         }
     }
 
-    /// "A currency's total over all members".
+    /// All members' cash in a currency.
     pub fn cash_total(&self, currency: u64) -> u64 {
         self.cash.iter().filter(|(purse, _)| purse.currency == currency).map(|(_, amount)| amount).sum()
     }
 
-    /// "Held is the sum of a security's accounts."
+    /// RULES 1.17.
     pub fn held(&self, security: u64) -> u64 {
         let of_security = |account: &Account| account.security == security;
         self.accounts.iter().filter(|(account, _)| of_security(account)).map(|(_, balance)| balance).sum()

@@ -1,8 +1,7 @@
-//! "Cancel marks the sender's half; the second half removes the pair and
-//! writes its notice."
+//! Cancellation of a pair by both of its senders (RULES 10).
 
 use crate::book::{Book, State};
-use crate::forms::Counts;
+use crate::call::Counts;
 use crate::record::Order;
 use crate::refusals::sender;
 use crate::rows::{Notice, Rows};
@@ -17,7 +16,7 @@ pub fn cancel(book: &mut Book, order: &Order, rows: &mut Rows) -> Counts {
     let half = if by_deliverer { &mut *deliver } else { &mut *receive };
     half.marked = true;
     if !(deliver.marked && receive.marked) {
-        // "a first mark counts none"
+        // RULES 10.2.
         return Counts::default();
     }
     let removed = book.waiting.remove(place);

@@ -1,15 +1,15 @@
-//! Close of the day.
+//! Close of the day (RULES 4.12 to 4.14).
 
 use crate::book::{Book, Half, Item, State};
-use crate::forms::Counts;
+use crate::call::Counts;
+use crate::record::Order;
 use crate::rows::{Notice, Rows};
 
-/// "pairs at settlement day + 10 deleted"
+/// A pair that many days past its settlement day is given up.
 pub const PAIR_AGE: u64 = 10;
 
-/// "Close, in list order: [...] with a notice each, all removed; marks are
-/// dropped; the day is closed."
-pub fn close(book: &mut Book, rows: &mut Rows) -> Counts {
+/// One walk through the list; what stays loses its marks.
+pub fn close(book: &mut Book, _: &Order, rows: &mut Rows) -> Counts {
     let mut counts = Counts::default();
     let mut kept = Vec::new();
     for item in book.waiting.drain(..) {
@@ -28,8 +28,7 @@ pub fn close(book: &mut Book, rows: &mut Rows) -> Counts {
     counts
 }
 
-/// "singles whose settlement day is today are deleted, pairs at settlement
-/// day + 10 deleted, exchange trades whose day has come suspended"
+/// The notice with which an item leaves, if it does.
 fn ending(item: &Item, today: u64) -> Option<Notice> {
     let day = item.settlement_day;
     match item.state {

@@ -1,12 +1,13 @@
-//! The netted settlement cycle.
+//! The netted settlement cycle (RULES 9).
 
 use std::collections::{BTreeMap, BTreeSet};
 
 use crate::book::{Account, Book, Item, Purse};
-use crate::forms::Counts;
+use crate::call::Counts;
+use crate::record::Order;
 use crate::rows::Rows;
 
-/// "An account, or a member's cash".
+/// What can be short.
 #[derive(Clone, Copy, Debug, PartialEq, Eq, PartialOrd, Ord)]
 pub enum Holding {
     Shares(Account),
@@ -23,8 +24,8 @@ pub fn credits(trade: &Item) -> [(Holding, u64); 2] {
     [(Holding::Shares(trade.credited_account()), trade.quantity), (Holding::Cash(trade.credited_purse()), trade.amount)]
 }
 
-/// "take all pairs and exchange trades whose settlement day has come": their
-/// places in the list, in list order.
+/// The trades that a cycle takes (RULES 9.1): their places in the list, in list
+/// order.
 pub fn due(book: &Book) -> Vec<usize> {
     let is_due = |place: &usize| {
         let item = &book.waiting[*place];
@@ -33,8 +34,7 @@ pub fn due(book: &Book) -> Vec<usize> {
     (0..book.waiting.len()).filter(is_due).collect()
 }
 
-/// What each holding would be: "balance plus what the taken trades bring
-/// less what they take".
+/// The position of each holding that the taken trades touch (RULES 9.2, 9.3).
 fn outcome(book: &Book, taken: &[usize]) -> BTreeMap<Holding, i128> {
     let mut outcome = BTreeMap::new();
     let start = |holding: &Holding| i128::from(balance(book, holding));
@@ -56,13 +56,13 @@ pub fn balance(book: &Book, holding: &Holding) -> u64 {
     }
 }
 
-/// The holdings that are short, "below zero".
+/// The holdings that are short (RULES 9.4).
 pub fn short(book: &Book, taken: &[usize]) -> BTreeSet<Holding> {
     outcome(book, taken).into_iter().filter(|(_, value)| *value < 0).map(|(holding, _)| holding).collect()
 }
 
-/// "While any is short, drop the last taken trade in list order that debits
-/// a short one." What is left of the taken trades.
+/// What is left of the taken trades when they are dropped one by one, until
+/// nothing is short (RULES 9.5, 9.6).
 pub fn settling(book: &Book) -> Vec<usize> {
     let mut taken = due(book);
     loop {
@@ -75,9 +75,8 @@ pub fn settling(book: &Book) -> Vec<usize> {
     }
 }
 
-/// "Settle the rest; each settled trade's four rows go into the area behind
-/// those before it: shares, then cash. Dropped trades are left waiting."
-pub fn run(book: &mut Book, rows: &mut Rows) -> Counts {
+/// Settles what can be settled (RULES 9.7 to 9.12).
+pub fn run(book: &mut Book, _: &Order, rows: &mut Rows) -> Counts {
     let due = due(book).len() as u64;
     let settled = settling(book);
     for trade in settled.iter().map(|place| &book.waiting[*place]) {
@@ -95,7 +94,6 @@ pub fn run(book: &mut Book, rows: &mut Rows) -> Counts {
     for place in settled.into_iter().rev() {
         book.waiting.remove(place);
     }
-    // "a cycle adds 1 to cycles run"
     book.day.cycles_run += 1;
     Counts { settled: 2 * trades, left: due - trades, ..Counts::default() }
 }

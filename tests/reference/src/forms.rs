@@ -1,128 +1,249 @@
-//! One call: the refusals in their order, then what the form does.
+//! The table of forms: all that there is to say of a form stands in its row.
+//! A new form is a row here, its function, and its number in the rows of
+//! those refusals that name it.
 
-use crate::book::{Book, Purse, Security};
-use crate::record::{self, Order};
-use crate::refusals::{self, credited_account, debited_account};
+use crate::book::{Book, Day};
+use crate::call::Counts;
+use crate::record::{Field, Order, usual_range};
 use crate::rows::Rows;
-use crate::{cancel, close, cycle, matching};
+use crate::{cancel, close, cycle, matching, movements, windows};
+use Field::*;
 
-/// "The lent area is shorter than 4,096 bytes".
-pub const AREA_BYTES: usize = 4_096;
-
-/// "rows; sides settled, cancelled, deleted, suspended; trades left"
-#[derive(Clone, Copy, Debug, Default, PartialEq, Eq)]
-pub struct Counts {
-    pub rows: u64,
-    pub settled: u64,
-    pub cancelled: u64,
-    pub deleted: u64,
-    pub suspended: u64,
-    pub left: u64,
-}
-
+/// What the rows of a form are, where it writes any (RULES 11.3).
 #[derive(Clone, Copy, Debug, PartialEq, Eq)]
-pub enum Answer {
-    Accepted(Counts),
-    Refused(u64),
+pub enum Written {
+    Nothing,
+    Postings,
+    Notices,
 }
 
-impl Book {
-    /// A refused call leaves book and area as they were.
-    pub fn call(&mut self, record: &[u8], area: &mut [u8]) -> Answer {
-        if area.len() < AREA_BYTES {
-            return Answer::Refused(1);
-        }
-        // "A record that cannot be read ends the call there."
-        let order = match record::read(record) {
-            Ok(order) => order,
-            Err(number) => return Answer::Refused(number),
-        };
-        if let Some(number) = refusals::first(self, &order) {
-            return Answer::Refused(number);
-        }
-        let mut rows = Rows::new(area);
-        let mut counts = self.perform(&order, &mut rows);
-        counts.rows = rows.count();
-        // "Every accepted call sets the last minute."
-        self.day.last_minute = order.minute;
-        Answer::Accepted(counts)
-    }
-
-    fn perform(&mut self, order: &Order, rows: &mut Rows) -> Counts {
-        match order.form {
-            1 => self.open_day(order),
-            2 => self.admit(order, rows),
-            3 => self.deposit(order, rows),
-            4 => self.withdraw(order, rows),
-            5..=9 => self.move_shares(order, rows),
-            10 => self.pay_in(order, rows),
-            11 => self.pay_out(order, rows),
-            12..=14 => matching::arrive(self, order),
-            15 => return cancel::cancel(self, order, rows),
-            16 => return cycle::run(self, rows),
-            _ => return close::close(self, rows),
-        }
-        Counts::default()
-    }
-
-    /// "Open day adds 1 to the day, sets the day kind and sets cycles run to
-    /// 0".
-    fn open_day(&mut self, order: &Order) {
-        self.day.number += 1;
-        self.day.open = true;
-        self.day.kind = order.quantity;
-        self.day.cycles_run = 0;
-    }
-
-    /// "issued and outside both become the quantity"
-    fn admit(&mut self, order: &Order, rows: &mut Rows) {
-        let Order { security: code, quantity, .. } = *order;
-        self.securities.push(Security { code, issued: quantity, outside: quantity });
-        rows.admission(code, quantity);
-    }
-
-    fn deposit(&mut self, order: &Order, rows: &mut Rows) {
-        let account = credited_account(order);
-        self.admitted(order).outside -= order.quantity;
-        self.set_balance(account, self.balance(&account) + order.quantity);
-        rows.deposit(&account, order.quantity);
-    }
-
-    fn withdraw(&mut self, order: &Order, rows: &mut Rows) {
-        let account = debited_account(order);
-        self.set_balance(account, self.balance(&account) - order.quantity);
-        self.admitted(order).outside += order.quantity;
-        rows.withdrawal(&account, order.quantity);
-    }
-
-    fn admitted(&mut self, order: &Order) -> &mut Security {
-        let named = |security: &&mut Security| security.code == order.security;
-        self.securities.iter_mut().find(named).expect("refusal 10 has passed")
-    }
-
-    /// Transfer, pledge, release, block and unblock.
-    fn move_shares(&mut self, order: &Order, rows: &mut Rows) {
-        let (from, to) = (debited_account(order), credited_account(order));
-        self.set_balance(from, self.balance(&from) - order.quantity);
-        self.set_balance(to, self.balance(&to) + order.quantity);
-        rows.share_movement(&from, &to, order.quantity);
-    }
-
-    /// "Pay-in: member 0 to the member".
-    fn pay_in(&mut self, order: &Order, rows: &mut Rows) {
-        let purse = Purse { member: order.credited_member, currency: order.currency };
-        self.set_cash(purse, self.cash_of(&purse) + order.amount);
-        rows.cash_movement(&outside_world(order), &purse, order.amount);
-    }
-
-    /// "pay-out the reverse"
-    fn pay_out(&mut self, order: &Order, rows: &mut Rows) {
-        let purse = Purse { member: order.debited_member, currency: order.currency };
-        self.set_cash(purse, self.cash_of(&purse) - order.amount);
-        rows.cash_movement(&purse, &outside_world(order), order.amount);
-    }
+#[derive(Clone, Copy)]
+pub struct Form {
+    pub number: u64,
+    pub name: &'static str,
+    /// The fields that it uses besides form and minute (RULES 2.2).
+    pub fields: &'static [Field],
+    /// Least and most of a used field, where they are not the usual ones.
+    pub ranges: &'static [(Field, u64, u64)],
+    /// Its first and last minute; none where it has no window now (RULES 4.7).
+    pub window: fn(&Day, &Order) -> Option<(u64, u64)>,
+    /// What an accepted order does besides setting the minute (RULES 6).
+    pub effect: fn(&mut Book, &Order, &mut Rows) -> Counts,
+    pub rows: Written,
+    /// The sides that an accepted order takes in (RULES 12.12).
+    pub takes_in: u64,
 }
 
-fn outside_world(order: &Order) -> Purse {
-    Purse { member: 0, currency: order.currency }
+pub const TABLE: &[Form] = &[
+    Form {
+        number: 1,
+        name: "open day",
+        fields: &[Quantity],
+        // The quantity is the day kind.
+        ranges: &[(Quantity, 1, 2)],
+        window: windows::opening,
+        effect: movements::open_day,
+        rows: Written::Nothing,
+        takes_in: 0,
+    },
+    Form {
+        number: 2,
+        name: "admit",
+        fields: &[Security, Quantity],
+        ranges: &[],
+        window: windows::working_day,
+        effect: movements::admit,
+        rows: Written::Postings,
+        takes_in: 0,
+    },
+    Form {
+        number: 3,
+        name: "deposit",
+        fields: &[Security, CreditedMember, CreditedType, CreditedShareholder, Quantity],
+        ranges: &[],
+        window: windows::custody,
+        effect: movements::deposit,
+        rows: Written::Postings,
+        takes_in: 0,
+    },
+    Form {
+        number: 4,
+        name: "withdrawal",
+        fields: &[Security, DebitedMember, DebitedType, DebitedShareholder, Quantity],
+        ranges: &[],
+        window: windows::custody,
+        effect: movements::withdraw,
+        rows: Written::Postings,
+        takes_in: 0,
+    },
+    Form { number: 5, name: "transfer", ..BETWEEN_ACCOUNTS },
+    Form { number: 6, name: "pledge", ..BETWEEN_ACCOUNTS },
+    Form { number: 7, name: "release", ..BETWEEN_ACCOUNTS },
+    Form { number: 8, name: "block", ..BETWEEN_ACCOUNTS },
+    Form { number: 9, name: "unblock", ..BETWEEN_ACCOUNTS },
+    Form {
+        number: 10,
+        name: "pay-in",
+        fields: &[Currency, CreditedMember, Amount],
+        ranges: &[],
+        window: windows::working_day,
+        effect: movements::pay_in,
+        rows: Written::Postings,
+        takes_in: 0,
+    },
+    Form {
+        number: 11,
+        name: "pay-out",
+        fields: &[Currency, DebitedMember, Amount],
+        ranges: &[],
+        window: windows::working_day,
+        effect: movements::pay_out,
+        rows: Written::Postings,
+        takes_in: 0,
+    },
+    Form {
+        number: 12,
+        name: "deliver",
+        fields: &[
+            Security,
+            Currency,
+            DebitedMember,
+            DebitedType,
+            CreditedMember,
+            DebitedShareholder,
+            CreditedShareholder,
+            Quantity,
+            Amount,
+            TradeDay,
+            SettlementDay,
+            Reference,
+        ],
+        ranges: &[],
+        window: windows::instruction,
+        effect: matching::arrive,
+        rows: Written::Nothing,
+        takes_in: 1,
+    },
+    Form {
+        number: 13,
+        name: "receive",
+        fields: &[
+            Security,
+            Currency,
+            DebitedMember,
+            CreditedMember,
+            CreditedType,
+            DebitedShareholder,
+            CreditedShareholder,
+            Quantity,
+            Amount,
+            TradeDay,
+            SettlementDay,
+            Reference,
+        ],
+        ranges: &[],
+        window: windows::instruction,
+        effect: matching::arrive,
+        rows: Written::Nothing,
+        takes_in: 1,
+    },
+    Form {
+        number: 14,
+        name: "exchange trade",
+        fields: &[
+            Security,
+            Currency,
+            DebitedMember,
+            DebitedType,
+            CreditedMember,
+            CreditedType,
+            DebitedShareholder,
+            CreditedShareholder,
+            Quantity,
+            Amount,
+            TradeDay,
+            SettlementDay,
+            Reference,
+        ],
+        ranges: &[],
+        window: windows::working_day,
+        effect: matching::arrive,
+        rows: Written::Nothing,
+        takes_in: 2,
+    },
+    Form {
+        number: 15,
+        name: "cancel",
+        // The debited member is the sender.
+        fields: &[DebitedMember, Reference],
+        ranges: &[],
+        window: windows::working_day,
+        effect: cancel::cancel,
+        rows: Written::Notices,
+        takes_in: 0,
+    },
+    Form {
+        number: 16,
+        name: "cycle",
+        fields: &[],
+        ranges: &[],
+        window: windows::cycle,
+        effect: cycle::run,
+        rows: Written::Postings,
+        takes_in: 0,
+    },
+    Form {
+        number: 17,
+        name: "close",
+        fields: &[],
+        ranges: &[],
+        window: windows::close,
+        effect: close::close,
+        rows: Written::Notices,
+        takes_in: 0,
+    },
+];
+
+/// Five forms that differ only in their name and in what refusals 11 and 12
+/// let them move.
+const BETWEEN_ACCOUNTS: Form = Form {
+    number: 0,
+    name: "",
+    fields: &[
+        Security,
+        DebitedMember,
+        DebitedType,
+        CreditedMember,
+        CreditedType,
+        DebitedShareholder,
+        CreditedShareholder,
+        Quantity,
+        SettlementDay,
+    ],
+    ranges: &[],
+    window: windows::custody,
+    effect: movements::move_shares,
+    rows: Written::Postings,
+    takes_in: 0,
+};
+
+/// How many forms there are.
+pub const FORMS: usize = TABLE.len();
+
+/// The form of a number, if it is one.
+pub fn form(number: u64) -> Option<&'static Form> {
+    TABLE.iter().find(|form| form.number == number)
+}
+
+impl Form {
+    /// Every form uses the fields form and minute.
+    pub fn uses(&self, field: Field) -> bool {
+        matches!(field, Field::Form | Field::Minute) || self.fields.contains(&field)
+    }
+
+    /// The least and the most of a field that the form uses (RULES 2.1, 2.4).
+    pub fn range(&self, field: Field) -> (u64, u64) {
+        let own = self.ranges.iter().find(|(named, _, _)| *named == field);
+        own.map_or_else(|| usual_range(field), |(_, least, most)| (*least, *most))
+    }
 }

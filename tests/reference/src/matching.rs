@@ -1,16 +1,17 @@
-//! Deliver and receive instructions: how they wait and how they pair.
+//! Deliver and receive instructions: how they wait and how they pair (RULES 8).
 
 use crate::account_types::same_nature;
 use crate::book::{Book, Half, Item, Side, State};
+use crate::call::Counts;
 use crate::record::Order;
+use crate::rows::Rows;
 
-/// "between 0 and 2,000 (USD) or 3,015,000 (LBP)"
+/// By how much a receive may pass the deliver's amount (RULES 8.4).
 pub fn tolerance(currency: u64) -> u64 {
     if currency == 1 { 2_000 } else { 3_015_000 }
 }
 
-/// "An arriving 12 or 13 pairs with the first waiting single of the other
-/// form" that fits: its place in the list.
+/// The place of the first single that an arrival pairs with (RULES 8.2).
 pub fn partner(book: &Book, order: &Order) -> Option<usize> {
     let arrival = waiting_item(order);
     book.waiting.iter().position(|waiting| match (waiting.state, arrival.state) {
@@ -24,14 +25,13 @@ fn fit(deliver: &Item, receive: &Item) -> bool {
     same_terms(deliver, receive) && amounts_agree(deliver, receive)
 }
 
-/// "receive amount less deliver amount between 0 and" the tolerance
+/// The receive never offers less than the deliver asks.
 pub fn amounts_agree(deliver: &Item, receive: &Item) -> bool {
     receive.amount >= deliver.amount && receive.amount - deliver.amount <= tolerance(deliver.currency)
 }
 
-/// "equal in security, shareholder, days, quantity, currency, both members
-/// naming each other, both types book entry or both physical"; the
-/// shareholder of an instruction is the same on both of its sides.
+/// All of RULES 8.3 but the amounts; the shareholder of an instruction is the
+/// same on both of its sides.
 pub fn same_terms(deliver: &Item, receive: &Item) -> bool {
     deliver.security == receive.security
         && deliver.deliverer.shareholder == receive.receiver.shareholder
@@ -44,10 +44,9 @@ pub fn same_terms(deliver: &Item, receive: &Item) -> bool {
         && same_nature(deliver.deliverer.account_type, receive.receiver.account_type)
 }
 
-/// "The pair takes the receiver's amount; the earlier single is removed and
-/// the pair goes last. Otherwise the single goes last." An exchange trade
-/// goes last as it is.
-pub fn arrive(book: &mut Book, order: &Order) {
+/// A pair takes its single's place at the end of the list (RULES 8.7); what
+/// finds no partner, and an exchange trade, goes last as it is.
+pub fn arrive(book: &mut Book, order: &Order, _: &mut Rows) -> Counts {
     let arrival = waiting_item(order);
     let item = match partner(book, order) {
         None => arrival,
@@ -60,6 +59,7 @@ pub fn arrive(book: &mut Book, order: &Order) {
         }
     };
     book.waiting.push(item);
+    Counts::default()
 }
 
 fn pair(deliver: &Item, receive: &Item) -> Item {

@@ -1,14 +1,13 @@
-//! What the printing program prints.
+//! What the printing program prints (RULES 13).
 
 use std::fmt::Write;
 
 use crate::book::Book;
-use crate::forms::{AREA_BYTES, Answer};
+use crate::call::{AREA_BYTES, Answer};
 use crate::record::RECORD_BYTES;
 
-/// "Per record: its number from 1, the answer (0 accepted), rows. A short
-/// tail is one record. Then, per security in order of admission, a line with
-/// the words CUSTODY, ISSUED, HELD and OUTSIDE".
+/// A line for each record, one of them perhaps cut short, then a line for
+/// each security.
 pub fn print(input: &[u8]) -> String {
     let mut book = Book::fresh();
     let mut area = [0; AREA_BYTES];

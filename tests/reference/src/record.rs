@@ -1,11 +1,12 @@
-//! The record: 40 bytes, "fields packed without gaps, most significant bit
-//! first", its reader and its writer.
+//! The record (RULES 2): where its fields stand, its reader and its writer.
+
+use crate::refusals;
 
 pub const RECORD_BYTES: usize = 40;
-pub const FIELD_COUNT: usize = 15;
-/// "48 zero bits" end the record.
-pub const SPARE_BITS: usize = 48;
-pub const SPARE_OFFSET: usize = RECORD_BYTES * 8 - SPARE_BITS;
+pub const FIELD_COUNT: usize = 18;
+/// The record ends with bits that are no field and always zero.
+pub const ZERO_BITS: usize = 12;
+pub const ZERO_OFFSET: usize = RECORD_BYTES * 8 - ZERO_BITS;
 
 /// The fields in the record's order.
 #[derive(Clone, Copy, Debug, PartialEq, Eq)]
@@ -25,6 +26,9 @@ pub enum Field {
     TradeDay,
     SettlementDay,
     Reference,
+    Operation,
+    Original,
+    Edition,
 }
 
 use Field::*;
@@ -45,116 +49,31 @@ pub const FIELDS: [Field; FIELD_COUNT] = [
     TradeDay,
     SettlementDay,
     Reference,
+    Operation,
+    Original,
+    Edition,
 ];
 
 /// Bits of each field, in the record's order.
-pub const WIDTHS: [usize; FIELD_COUNT] = [5, 11, 14, 2, 10, 8, 10, 8, 30, 30, 40, 40, 16, 16, 32];
+pub const WIDTHS: [usize; FIELD_COUNT] = [5, 11, 14, 2, 10, 8, 10, 8, 30, 30, 40, 40, 16, 16, 32, 3, 32, 1];
 
-/// "Used fields by form, besides form and minute", forms 1 to 17.
-const USED: [&[Field]; 17] = [
-    // 1 open day
-    &[Quantity],
-    // 2 admit
-    &[Security, Quantity],
-    // 3 deposit
-    &[Security, CreditedMember, CreditedType, CreditedShareholder, Quantity],
-    // 4 withdrawal
-    &[Security, DebitedMember, DebitedType, DebitedShareholder, Quantity],
-    // 5 transfer, 6 pledge, 7 release, 8 block, 9 unblock
-    BETWEEN_ACCOUNTS,
-    BETWEEN_ACCOUNTS,
-    BETWEEN_ACCOUNTS,
-    BETWEEN_ACCOUNTS,
-    BETWEEN_ACCOUNTS,
-    // 10 pay-in
-    &[Currency, CreditedMember, Amount],
-    // 11 pay-out
-    &[Currency, DebitedMember, Amount],
-    // 12 deliver: all but credited type
-    &[
-        Security,
-        Currency,
-        DebitedMember,
-        DebitedType,
-        CreditedMember,
-        DebitedShareholder,
-        CreditedShareholder,
-        Quantity,
-        Amount,
-        TradeDay,
-        SettlementDay,
-        Reference,
-    ],
-    // 13 receive: all but debited type
-    &[
-        Security,
-        Currency,
-        DebitedMember,
-        CreditedMember,
-        CreditedType,
-        DebitedShareholder,
-        CreditedShareholder,
-        Quantity,
-        Amount,
-        TradeDay,
-        SettlementDay,
-        Reference,
-    ],
-    // 14 exchange trade: all
-    &[
-        Security,
-        Currency,
-        DebitedMember,
-        DebitedType,
-        CreditedMember,
-        CreditedType,
-        DebitedShareholder,
-        CreditedShareholder,
-        Quantity,
-        Amount,
-        TradeDay,
-        SettlementDay,
-        Reference,
-    ],
-    // 15 cancel
-    &[DebitedMember, Reference],
-    // 16 cycle, 17 close
-    &[],
-    &[],
-];
+/// The fields of an order, in the record's order.
+pub type Fields = [u64; FIELD_COUNT];
 
-const BETWEEN_ACCOUNTS: &[Field] = &[
-    Security,
-    DebitedMember,
-    DebitedType,
-    CreditedMember,
-    CreditedType,
-    DebitedShareholder,
-    CreditedShareholder,
-    Quantity,
-    SettlementDay,
-];
-
-/// Whether a form (1 to 17) uses a field.
-pub fn uses(form: u64, field: Field) -> bool {
-    matches!(field, Form | Minute) || USED[form as usize - 1].contains(&field)
-}
-
-/// "Used fields are at least 1 [...], but minute may be 0".
-pub fn lowest(field: Field) -> u64 {
-    if field == Minute { 0 } else { 1 }
-}
-
-/// "fit their widths, but minute [...] is at most 1439. Members are at most
-/// 64, currency at most 2, day kind at most 2."
-pub fn highest(form: u64, field: Field) -> u64 {
+/// The least and the most of a used field, where its form's row does not say
+/// otherwise (RULES 2.1, 2.4).
+pub fn usual_range(field: Field) -> (u64, u64) {
     match field {
-        Minute => 1439,
-        Currency => 2,
-        DebitedMember | CreditedMember => 64,
-        Quantity if form == 1 => 2,
-        _ => (1 << WIDTHS[field as usize]) - 1,
+        Minute => (0, 1439),
+        Currency => (1, 2),
+        DebitedMember | CreditedMember => (1, 64),
+        _ => (1, largest(field)),
     }
+}
+
+/// The most that a field's bits can hold.
+pub fn largest(field: Field) -> u64 {
+    (1 << WIDTHS[field as usize]) - 1
 }
 
 /// What a record says.
@@ -175,10 +94,13 @@ pub struct Order {
     pub trade_day: u64,
     pub settlement_day: u64,
     pub reference: u64,
+    pub operation: u64,
+    pub original: u64,
+    pub edition: u64,
 }
 
 impl Order {
-    pub fn fields(&self) -> [u64; FIELD_COUNT] {
+    pub fn fields(&self) -> Fields {
         [
             self.form,
             self.minute,
@@ -195,10 +117,13 @@ impl Order {
             self.trade_day,
             self.settlement_day,
             self.reference,
+            self.operation,
+            self.original,
+            self.edition,
         ]
     }
 
-    pub fn from_fields(fields: [u64; FIELD_COUNT]) -> Order {
+    pub fn from_fields(fields: Fields) -> Order {
         let at = |field: Field| fields[field as usize];
         Order {
             form: at(Form),
@@ -216,64 +141,32 @@ impl Order {
             trade_day: at(TradeDay),
             settlement_day: at(SettlementDay),
             reference: at(Reference),
+            operation: at(Operation),
+            original: at(Original),
+            edition: at(Edition),
         }
     }
 }
 
-/// The record reader: the order, or refusal 2 to 5.
+/// The record reader (RULES 2.8): the order, or refusal 2 to 5.
 pub fn read(record: &[u8]) -> Result<Order, u64> {
-    // 2. The record is not 40 bytes.
-    if record.len() != RECORD_BYTES {
-        return Err(2);
-    }
+    refusals::of_length(record.len())?;
     let fields = unpack(record);
-    let spare = bits(record, SPARE_OFFSET, SPARE_BITS);
-    check(&fields, spare)?;
+    refusals::of_fields(&fields, bits(record, ZERO_OFFSET, ZERO_BITS))?;
     Ok(Order::from_fields(fields))
 }
 
-/// The record writer: the record in the area's first 40 bytes, or refusal
-/// 1, 3, 4 or 5; it "keeps the bytes after its 40".
-pub fn write(fields: &[u64; FIELD_COUNT], area: &mut [u8]) -> Result<(), u64> {
-    // 1. The lent area is shorter than 40 for the record writer.
-    if area.len() < RECORD_BYTES {
-        return Err(1);
-    }
-    check(fields, 0)?;
+/// The record writer (RULES 2.9): the record in the area's first 40 bytes, the
+/// others kept; or refusal 1, 3, 4 or 5.
+pub fn write(fields: &Fields, area: &mut [u8]) -> Result<(), u64> {
+    refusals::of_area(area.len(), RECORD_BYTES)?;
+    refusals::of_fields(fields, 0)?;
     area[..RECORD_BYTES].copy_from_slice(&pack(fields, 0));
     Ok(())
 }
 
-/// Refusals 3 to 5, wholly in the order of their numbers.
-fn check(fields: &[u64; FIELD_COUNT], spare: u64) -> Result<(), u64> {
-    // 3. The form is not 1 to 17.
-    let form = fields[Form as usize];
-    if !(1..=17).contains(&form) {
-        return Err(3);
-    }
-    // 4. An unused field or one of the last 48 bits is not zero.
-    let unused_set = |field: &Field| !uses(form, *field) && fields[*field as usize] != 0;
-    if spare != 0 || FIELDS.iter().any(unused_set) {
-        return Err(4);
-    }
-    // 5. A used field is outside its range.
-    let outside = |field: &Field| {
-        let range = lowest(*field)..=highest(form, *field);
-        uses(form, *field) && !range.contains(&fields[*field as usize])
-    };
-    if FIELDS.iter().any(outside) {
-        return Err(5);
-    }
-    Ok(())
-}
-
-/// Where a field's bits start.
-pub fn offset(field: Field) -> usize {
-    WIDTHS[..field as usize].iter().sum()
-}
-
 /// The fields of 40 bytes, with no test of what they hold.
-pub fn unpack(record: &[u8]) -> [u64; FIELD_COUNT] {
+pub fn unpack(record: &[u8]) -> Fields {
     let mut start = 0;
     WIDTHS.map(|width| {
         let value = bits(record, start, width);
@@ -282,15 +175,16 @@ pub fn unpack(record: &[u8]) -> [u64; FIELD_COUNT] {
     })
 }
 
-/// 40 bytes from fields that fit their widths (wider values are cut).
-pub fn pack(fields: &[u64; FIELD_COUNT], spare: u64) -> [u8; RECORD_BYTES] {
+/// 40 bytes from fields that fit their widths (wider values are cut), and the
+/// bits behind them.
+pub fn pack(fields: &Fields, zero_bits: u64) -> [u8; RECORD_BYTES] {
     let mut record = [0; RECORD_BYTES];
     let mut start = 0;
     for (value, width) in fields.iter().zip(WIDTHS) {
         put_bits(&mut record, start, width, *value);
         start += width;
     }
-    put_bits(&mut record, SPARE_OFFSET, SPARE_BITS, spare);
+    put_bits(&mut record, ZERO_OFFSET, ZERO_BITS, zero_bits);
     record
 }
 

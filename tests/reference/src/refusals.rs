@@ -1,82 +1,168 @@
-//! Refusals 6 to 18, in checking order. Each test is a question of its own,
-//! so that a call's further faults can be asked for too.
+//! The table of refusals, in checking order. Each test is a question of its
+//! own, so that a call's further faults can be asked for too. A new refusal is
+//! a row here, at its place in the order, and its test.
 
 use crate::account_types;
 use crate::book::{
     Account, Book, CASH_CEILING, Item, LAST_DAY, MOST_ACCOUNTS_AND_ITEMS, MOST_ITEMS, MOST_SECURITIES, Purse, Sender,
     State,
 };
+use crate::forms::{self, Form};
 use crate::matching;
-use crate::record::Order;
+use crate::record::{FIELDS, Field, Fields, Order, RECORD_BYTES};
 use crate::windows;
 
-type Test = fn(&Book, &Order) -> bool;
-
-pub const TESTS: [(u64, Test); 13] = [
-    (6, day_is_wrong),
-    (7, cycles_are_wrong),
-    (8, minute_is_past),
-    (9, minute_is_outside_window),
-    (10, security_is_wrong),
-    (11, types_are_wrong),
-    (12, parties_are_wrong),
-    (13, days_are_wrong),
-    (14, reference_is_wrong),
-    (15, item_cannot_be_cancelled),
-    (16, balance_is_too_small),
-    (17, cash_passes_ceiling),
-    (18, tables_are_full),
-];
-
-/// The number with which a call is refused, if it is.
-pub fn first(book: &Book, order: &Order) -> Option<u64> {
-    TESTS.iter().find(|(_, fails)| fails(book, order)).map(|(number, _)| *number)
+/// What a refusal looks at.
+#[derive(Clone, Copy)]
+pub enum Test {
+    /// The bytes of the lent area, and those that are needed.
+    Area(fn(usize, usize) -> bool),
+    /// The bytes of the record.
+    Length(fn(usize) -> bool),
+    /// The fields of a record, and the bits behind them.
+    Fields(fn(&Fields, u64) -> bool),
+    /// An order that has been read, and the book.
+    Order(fn(&Book, &Order) -> bool),
 }
 
-/// "Form 1 comes while a day is open or on day 60,000, or another form while
-/// none is open."
+#[derive(Clone, Copy)]
+pub struct Refusal {
+    pub number: u64,
+    /// The forms that can meet it (RULES 7). What comes before a form is known
+    /// can meet all.
+    pub forms: fn(u64) -> bool,
+    pub test: Test,
+}
+
+/// In checking order; the numbers say nothing about it.
+pub const TABLE: &[Refusal] = &[
+    Refusal { number: 1, forms: all, test: Test::Area(area_is_short) },
+    Refusal { number: 2, forms: all, test: Test::Length(record_has_other_length) },
+    Refusal { number: 3, forms: |form| forms::form(form).is_none(), test: Test::Fields(form_is_none) },
+    Refusal { number: 4, forms: all, test: Test::Fields(unused_field_is_set) },
+    Refusal { number: 5, forms: all, test: Test::Fields(used_field_is_out_of_range) },
+    Refusal { number: 6, forms: all, test: Test::Order(day_is_wrong) },
+    Refusal { number: 7, forms: |form| matches!(form, 16 | 17), test: Test::Order(cycles_are_wrong) },
+    Refusal { number: 8, forms: |form| form != 1, test: Test::Order(minute_is_past) },
+    Refusal { number: 9, forms: all, test: Test::Order(minute_is_outside_window) },
+    Refusal { number: 10, forms: |form| matches!(form, 2..=9 | 12..=14), test: Test::Order(security_is_wrong) },
+    Refusal { number: 11, forms: |form| matches!(form, 3..=9 | 12..=14), test: Test::Order(types_are_wrong) },
+    Refusal { number: 12, forms: |form| matches!(form, 5..=9 | 12..=14), test: Test::Order(parties_are_wrong) },
+    Refusal { number: 13, forms: |form| matches!(form, 5..=9 | 12..=14), test: Test::Order(days_are_wrong) },
+    Refusal { number: 14, forms: |form| matches!(form, 12..=15), test: Test::Order(reference_is_wrong) },
+    Refusal { number: 15, forms: |form| form == 15, test: Test::Order(item_cannot_be_cancelled) },
+    Refusal { number: 16, forms: |form| matches!(form, 3..=9 | 11), test: Test::Order(balance_is_too_small) },
+    Refusal { number: 17, forms: |form| form == 10, test: Test::Order(cash_passes_ceiling) },
+    Refusal { number: 18, forms: |form| matches!(form, 2 | 3 | 5..=9 | 12..=14), test: Test::Order(tables_are_full) },
+];
+
+/// How many refusals there are.
+pub const REFUSALS: usize = TABLE.len();
+
+fn all(_: u64) -> bool {
+    true
+}
+
+impl Refusal {
+    /// Whether an order is refused by this row, which must look at orders.
+    pub fn refuses(&self, book: &Book, order: &Order) -> bool {
+        matches!(self.test, Test::Order(fails) if (self.forms)(order.form) && fails(book, order))
+    }
+}
+
+/// The number of the first row that applies.
+fn first(applies: impl Fn(&Refusal) -> bool) -> Result<(), u64> {
+    match TABLE.iter().find(|refusal| applies(refusal)) {
+        Some(refusal) => Err(refusal.number),
+        None => Ok(()),
+    }
+}
+
+pub fn of_area(bytes: usize, needed: usize) -> Result<(), u64> {
+    first(|refusal| matches!(refusal.test, Test::Area(fails) if fails(bytes, needed)))
+}
+
+pub fn of_length(bytes: usize) -> Result<(), u64> {
+    first(|refusal| matches!(refusal.test, Test::Length(fails) if fails(bytes)))
+}
+
+pub fn of_fields(fields: &Fields, zero_bits: u64) -> Result<(), u64> {
+    first(|refusal| matches!(refusal.test, Test::Fields(fails) if fails(fields, zero_bits)))
+}
+
+pub fn of_order(book: &Book, order: &Order) -> Result<(), u64> {
+    first(|refusal| refusal.refuses(book, order))
+}
+
+/// RULES 7.1.
+fn area_is_short(bytes: usize, needed: usize) -> bool {
+    bytes < needed
+}
+
+/// RULES 7.2.
+fn record_has_other_length(bytes: usize) -> bool {
+    bytes != RECORD_BYTES
+}
+
+fn form_of(fields: &Fields) -> Option<&'static Form> {
+    forms::form(fields[Field::Form as usize])
+}
+
+/// RULES 7.3.
+fn form_is_none(fields: &Fields, _: u64) -> bool {
+    form_of(fields).is_none()
+}
+
+/// RULES 7.4: whatever the value, so that an unused field is never out of
+/// range.
+fn unused_field_is_set(fields: &Fields, zero_bits: u64) -> bool {
+    let set = |form: &Form| FIELDS.iter().any(|field| !form.uses(*field) && fields[*field as usize] != 0);
+    zero_bits != 0 || form_of(fields).is_some_and(set)
+}
+
+/// RULES 7.5.
+fn used_field_is_out_of_range(fields: &Fields, _: u64) -> bool {
+    let outside = |form: &Form, field: Field| {
+        let (least, most) = form.range(field);
+        !(least..=most).contains(&fields[field as usize])
+    };
+    form_of(fields).is_some_and(|form| FIELDS.iter().any(|field| form.uses(*field) && outside(form, *field)))
+}
+
+/// RULES 7.6.
 fn day_is_wrong(book: &Book, order: &Order) -> bool {
     if order.form == 1 { book.day.open || book.day.number == LAST_DAY } else { !book.day.open }
 }
 
-/// "Form 16 comes after the day's cycles have all run, or form 17 before."
+/// RULES 7.7: a cycle when none is left, a close while one is.
 fn cycles_are_wrong(book: &Book, order: &Order) -> bool {
     let all_run = windows::next_cycle_minute(&book.day).is_none();
-    match order.form {
-        16 => all_run,
-        17 => !all_run,
-        _ => false,
-    }
+    if order.form == 17 { !all_run } else { all_run }
 }
 
-/// "The minute is below that of the day's last accepted call (not form 1)."
+/// RULES 7.8.
 fn minute_is_past(book: &Book, order: &Order) -> bool {
-    order.form != 1 && order.minute < book.day.last_minute
+    order.minute < book.day.last_minute
 }
 
+/// RULES 7.9.
 fn minute_is_outside_window(book: &Book, order: &Order) -> bool {
     let outside = |(first, last)| !(first..=last).contains(&order.minute);
     windows::window(&book.day, order).is_some_and(outside)
 }
 
-/// "The security is not admitted (forms 3 to 9, 12 to 14) or already is
-/// (form 2)."
+/// RULES 7.10: an admission needs a new security, every other form a known one.
 fn security_is_wrong(book: &Book, order: &Order) -> bool {
     let admitted = book.security(order.security).is_some();
-    match order.form {
-        2 => admitted,
-        3..=9 | 12..=14 => !admitted,
-        _ => false,
-    }
+    if order.form == 2 { admitted } else { !admitted }
 }
 
-/// "A type or pair is not in the table; forms 12, 13 test their own side."
+/// RULES 7.11.
 fn types_are_wrong(_: &Book, order: &Order) -> bool {
     !account_types::allows(order.form, order.debited_type, order.credited_type)
 }
 
-/// "The shareholders differ (forms 5 to 9, 12, 13), the members differ (6 to
-/// 9) or are equal (12, 13), or both sides are one account (5, 14)."
+/// RULES 7.12.
 fn parties_are_wrong(_: &Book, order: &Order) -> bool {
     let shareholders_differ = order.debited_shareholder != order.credited_shareholder;
     let members_differ = order.debited_member != order.credited_member;
@@ -91,9 +177,7 @@ fn parties_are_wrong(_: &Book, order: &Order) -> bool {
     }
 }
 
-/// "The settlement day is not today (5 to 9), not within today to today + 20
-/// (12, 13), or not trade day + 3 (14); or the trade day is after today (12,
-/// 13) or not today (14)."
+/// RULES 7.13.
 fn days_are_wrong(book: &Book, order: &Order) -> bool {
     let today = book.day.number;
     match order.form {
@@ -104,8 +188,7 @@ fn days_are_wrong(book: &Book, order: &Order) -> bool {
     }
 }
 
-/// "The sender of form 12 is its debited member, of form 13 its credited
-/// one"; form 15's is its debited member; "exchange trades form one sender".
+/// RULES 1.22; a cancel has its sender in the debited member (2.6).
 pub fn sender(order: &Order) -> Sender {
     match order.form {
         13 => Sender::Member(order.credited_member),
@@ -114,22 +197,15 @@ pub fn sender(order: &Order) -> Sender {
     }
 }
 
-/// "The sender already has that reference waiting (12 to 14), or has none
-/// such (15)."
+/// RULES 7.14: a cancel needs an item under its reference, an arrival that
+/// there is none.
 fn reference_is_wrong(book: &Book, order: &Order) -> bool {
-    let waiting = || book.find_waiting(sender(order), order.reference).is_some();
-    match order.form {
-        12..=14 => waiting(),
-        15 => !waiting(),
-        _ => false,
-    }
+    let waiting = book.find_waiting(sender(order), order.reference).is_some();
+    if order.form == 15 { !waiting } else { waiting }
 }
 
-/// "The item to cancel is unmatched, or this sender has marked it."
+/// RULES 7.15. Where there is no such item, 14 has said so.
 fn item_cannot_be_cancelled(book: &Book, order: &Order) -> bool {
-    if order.form != 15 {
-        return false;
-    }
     let Some(place) = book.find_waiting(sender(order), order.reference) else {
         return false;
     };
@@ -163,8 +239,7 @@ pub fn credited_account(order: &Order) -> Account {
     }
 }
 
-/// "The balance to be debited (outside count in a deposit) is less than
-/// asked (3 to 9, 11)."
+/// RULES 7.16.
 fn balance_is_too_small(book: &Book, order: &Order) -> bool {
     match order.form {
         3 => book.security(order.security).map_or(0, |security| security.outside) < order.quantity,
@@ -177,14 +252,12 @@ fn balance_is_too_small(book: &Book, order: &Order) -> bool {
     }
 }
 
-/// "A currency's total over all members would pass 1,000,000,000,000,000
-/// (10)."
+/// RULES 7.17.
 fn cash_passes_ceiling(book: &Book, order: &Order) -> bool {
-    order.form == 10 && book.cash_total(order.currency) + order.amount > CASH_CEILING
+    book.cash_total(order.currency) + order.amount > CASH_CEILING
 }
 
-/// "The call would leave more than 32 securities, more than 64 items, or
-/// accounts plus items above 256."
+/// RULES 7.18, of the book as the call would leave it.
 fn tables_are_full(book: &Book, order: &Order) -> bool {
     let securities = book.securities.len() + usize::from(order.form == 2);
     let items = book.waiting.len() + usize::from(adds_item(book, order));

@@ -1,12 +1,12 @@
-//! Rows of 16 bytes in the lent area, "from the area's start".
+//! Rows of 16 bytes, one behind the other from the first byte of the lent area
+//! on (RULES 11).
 
 use crate::account_types::{OUTSIDE, TOTAL_ISSUED};
 use crate::book::{Account, Item, Purse, State};
 
 pub const ROW_BYTES: usize = 16;
 
-/// Writes rows one behind the other and counts them; bytes after the last
-/// row keep their contents.
+/// Writes rows and counts them; what lies behind them is kept.
 pub struct Rows<'a> {
     area: &'a mut [u8],
     written: usize,
@@ -21,7 +21,7 @@ struct Place {
     shareholder: u64,
 }
 
-/// "kind 4 bits (1 single, 2 aged pair, 3 suspended, 4 cancelled)"
+/// Why an item has left (RULES 11.9).
 #[derive(Clone, Copy)]
 pub enum Notice {
     Single = 1,
@@ -45,23 +45,20 @@ impl<'a> Rows<'a> {
         self.written += 1;
     }
 
-    /// "Each movement is a debit row, then a credit row."
+    /// RULES 11.4.
     fn movement(&mut self, from: Place, to: Place, value: u64) {
         self.push(posting_row(false, &from, value));
         self.push(posting_row(true, &to, value));
     }
 
-    /// "Admit: 90 to 91".
     pub fn admission(&mut self, security: u64, quantity: u64) {
         self.movement(total(security, TOTAL_ISSUED), total(security, OUTSIDE), quantity);
     }
 
-    /// "Deposit: 91 to the account".
     pub fn deposit(&mut self, account: &Account, quantity: u64) {
         self.movement(total(account.security, OUTSIDE), shares(account), quantity);
     }
 
-    /// "withdrawal the reverse"
     pub fn withdrawal(&mut self, account: &Account, quantity: u64) {
         self.movement(shares(account), total(account.security, OUTSIDE), quantity);
     }
@@ -74,8 +71,7 @@ impl<'a> Rows<'a> {
         self.movement(cash(from), cash(to), amount);
     }
 
-    /// "Notice row: kind 4 bits, deliverer 10, receiver 10, their references
-    /// 32 and 32 (0 if absent; an exchange trade's own in both), 40 zero bits."
+    /// RULES 11.9, 11.10; the last 40 bits are zero.
     pub fn notice(&mut self, kind: Notice, item: &Item) {
         let (deliver, receive) = match item.state {
             State::Deliver { reference } => (reference, 0),
@@ -92,8 +88,7 @@ impl<'a> Rows<'a> {
     }
 }
 
-/// "Posting row: credit 1 bit, cash 1 bit, security or currency 14, member
-/// 10, type 8, shareholder 30, quantity or amount 64."
+/// The fields of RULES 11.4, each behind the other.
 fn posting_row(credit: bool, place: &Place, value: u64) -> u128 {
     let mut row = u128::from(credit);
     row = row << 1 | u128::from(place.cash);
@@ -104,7 +99,7 @@ fn posting_row(credit: bool, place: &Place, value: u64) -> u128 {
     row << 64 | u128::from(value)
 }
 
-/// "Rows of 90 and 91 have member 0 and shareholder 0."
+/// The issued or the outside count of a security (RULES 11.6).
 fn total(security: u64, account_type: u64) -> Place {
     Place { cash: false, security_or_currency: security, member: 0, account_type, shareholder: 0 }
 }
@@ -119,7 +114,7 @@ fn shares(account: &Account) -> Place {
     }
 }
 
-/// "Cash rows have type and shareholder 0."
+/// RULES 11.7.
 fn cash(purse: &Purse) -> Place {
     Place { cash: true, security_or_currency: purse.currency, member: purse.member, account_type: 0, shareholder: 0 }
 }

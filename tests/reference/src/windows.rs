@@ -1,7 +1,12 @@
-//! Windows in minutes of the day, "both ends inside".
+//! Windows in minutes of the day, by the kind of the day (RULES 4.7). Both
+//! ends are inside. Each function is the window of some rows of the table of
+//! forms: the first and the last minute.
 
 use crate::book::Day;
+use crate::forms;
 use crate::record::Order;
+
+type Window = Option<(u64, u64)>;
 
 /// The number of cycles and their earliest minutes, by day kind.
 pub fn cycle_minutes(kind: u64) -> &'static [u64] {
@@ -13,23 +18,42 @@ pub fn next_cycle_minute(day: &Day) -> Option<u64> {
     cycle_minutes(day.kind).get(day.cycles_run as usize).copied()
 }
 
-/// "960 / 900": the last minute of the day's work, from which it may close.
+/// The last minute of the day's work, from which it may close.
 pub fn end_of_work(kind: u64) -> u64 {
     if kind == 2 { 900 } else { 960 }
 }
 
-/// The first and last minute of an order's window; none for a cycle when
-/// none is left.
-pub fn window(day: &Day, order: &Order) -> Option<(u64, u64)> {
-    let friday = day.kind == 2;
-    let end = end_of_work(day.kind);
-    match order.form {
-        1 => Some((0, 480)),
-        3..=9 => Some((510, if friday { 750 } else { 870 })),
-        // "the same, but 480 to 825 / 480 to 705 when the settlement day is today"
-        12 | 13 if order.settlement_day == day.number => Some((480, if friday { 705 } else { 825 })),
-        16 => next_cycle_minute(day).map(|minute| (minute, end)),
-        17 => Some((end, 1439)),
-        _ => Some((480, end)),
+/// The window of an order; none where its form has none now, or is none.
+pub fn window(day: &Day, order: &Order) -> Window {
+    forms::form(order.form).and_then(|form| (form.window)(day, order))
+}
+
+pub fn opening(_: &Day, _: &Order) -> Window {
+    Some((0, 480))
+}
+
+pub fn working_day(day: &Day, _: &Order) -> Window {
+    Some((480, end_of_work(day.kind)))
+}
+
+/// Where shares move on the members' word.
+pub fn custody(day: &Day, _: &Order) -> Window {
+    Some((510, if day.kind == 2 { 750 } else { 870 }))
+}
+
+/// An instruction that settles on the same day has less time; one whose day is
+/// over has not (RULES 4.8).
+pub fn instruction(day: &Day, order: &Order) -> Window {
+    if order.settlement_day == day.number {
+        return Some((480, if day.kind == 2 { 705 } else { 825 }));
     }
+    working_day(day, order)
+}
+
+pub fn cycle(day: &Day, _: &Order) -> Window {
+    next_cycle_minute(day).map(|minute| (minute, end_of_work(day.kind)))
+}
+
+pub fn close(day: &Day, _: &Order) -> Window {
+    Some((end_of_work(day.kind), 1439))
 }

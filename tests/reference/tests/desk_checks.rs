@@ -1,4 +1,4 @@
-//! Desk checks P1 to P13 of document 01.
+//! Desk checks P1 to P13 (RULES, appendix A).
 
 mod common;
 
@@ -121,7 +121,7 @@ fn p10_of_60_50_and_30_only_60_settles() {
     assert_eq!((cash(&book, 1), cash(&book, 2)), (10, 990));
 }
 
-/// A sells 100 to B, B the same 100 to C, each for 50; C has `cash_of_c`.
+/// 100 shares go from A by way of B to C, at 50 a trade; C has `cash_of_c`.
 fn chain(cash_of_c: u64, turned: bool) -> Book {
     let mut book = first_day(1);
     let [a, b, c] = [1, 2, 3].map(|member| account(member, 10, 5));

@@ -1,4 +1,4 @@
-//! The printing example of document 01.
+//! The printing example of RULES 13.7.
 
 mod common;
 
@@ -20,7 +20,7 @@ fn the_example_prints_as_in_the_paper() {
 }
 
 #[test]
-fn a_short_tail_is_one_record() {
+fn what_is_left_of_the_file_is_a_record() {
     let mut input = example();
     input.truncate(2 * 40 + 39);
     assert_eq!(print(&input), "1 0 0\n2 0 2\n3 2 0\nCUSTODY 101 ISSUED 1000 HELD 0 OUTSIDE 1000\n");

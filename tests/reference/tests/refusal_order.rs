@@ -1,10 +1,11 @@
-//! Which refusal comes first, and the readings of document 01's sentences.
+//! Which refusal comes first, and the readings of the rules.
 
 mod common;
 
 use common::*;
 use reference::book::{Book, CASH_CEILING, State};
-use reference::forms::Answer;
+use reference::call::Answer;
+use reference::forms;
 use reference::record::{Order, pack, read, write};
 
 fn answer(book: &mut Book, bytes: &[u8], area: usize) -> u64 {
@@ -31,7 +32,9 @@ fn unused_fields_come_before_ranges() {
     assert_eq!(read(&record(&Order { credited_member: 1023, ..minute_2000 })), Err(4));
     assert_eq!(read(&record(&Order { currency: 3, ..form(16, 585) })), Err(4));
     assert_eq!(read(&pack(&minute_2000.fields(), 1)), Err(4));
-    assert_eq!(read(&pack(&form(18, 0).fields(), 1)), Err(3));
+    for unknown in (0..32).filter(|number| forms::form(*number).is_none()) {
+        assert_eq!(read(&pack(&form(unknown, 0).fields(), 1)), Err(3));
+    }
 }
 
 #[test]
@@ -137,7 +140,7 @@ fn references_belong_to_senders() {
     accept(&mut book, &deliver(100, 2, 11, 500));
     assert_eq!(refuse(&mut book, &deliver(999, 2, 11, 500)), 14);
     let swapped = Order { debited_member: 8, credited_member: 7, ..receive(100, 2, 11, 500) };
-    assert_eq!(refuse(&mut book, &swapped), 14, "a member is one sender in both roles");
+    assert_eq!(refuse(&mut book, &swapped), 14, "one sender, delivering or receiving");
     assert_eq!(refuse(&mut book, &cancel(7, 11, 500)), 15, "unmatched");
     assert_eq!(refuse(&mut book, &cancel(8, 11, 500)), 14, "another sender's");
     accept(&mut book, &receive(100, 2, 11, 500));
@@ -216,7 +219,7 @@ fn thirty_three_securities_are_too_many() {
 }
 
 #[test]
-fn a_ring_with_nothing_anywhere_settles() {
+fn a_ring_of_empty_accounts_settles() {
     let mut book = first_day(1);
     let [a, b, c] = [1, 2, 3].map(|member| account(member, 110, 5));
     for (from, to, reference) in [(a, b, 1), (b, c, 2), (c, a, 3)] {

@@ -8,7 +8,7 @@ use std::slice::{from_raw_parts, from_raw_parts_mut};
 
 use boundary::{BOOK_WORDS, COUNT_WORDS, WRONG_BOOK, WRONG_COUNTS, WRONG_FIELDS, WRONG_VALUES, decode, encode};
 use reference::book::Book;
-use reference::forms::{Answer, Counts};
+use reference::call::{Answer, Counts};
 use reference::record::{self, FIELD_COUNT};
 
 /// A pointer of length 0 may be anything, so it is not looked at.

@@ -7,7 +7,7 @@ use std::time::Instant;
 use compare::depository::Depository;
 use compare::streams::{Stream, streams};
 use reference::book::Book;
-use reference::forms::{AREA_BYTES, Answer};
+use reference::call::{AREA_BYTES, Answer};
 
 /// Each stream is timed so often on each side, in turns; the median counts.
 const ROUNDS: usize = 7;

@@ -150,6 +150,8 @@ fn sweep_checks<D: Depository>(tally: &mut Tally) {
         }),
         Err(text) => tally.check(false, || text),
     }
+    let not_tried = sweeps::forms_not_tried();
+    tally.check(not_tried.is_empty(), || format!("not every type or minute is tried of forms {not_tried:?}"));
     match sweeps::minutes::<D>() {
         Ok(count) => tally.check(count == sweeps::minutes_allowed(), || {
             format!("{count} minutes accepted, {} allowed by the paper's windows", sweeps::minutes_allowed())
@@ -164,6 +166,6 @@ fn coverage_checks(coverage: &Coverage, tally: &mut Tally) {
         tally.check(coverage.count(&cell) > 0, || format!("empty: {cell:?}"));
     }
     for cell in ruled_out(coverage) {
-        tally.check(false, || format!("reached although the paper rules it out: {cell:?}"));
+        tally.check(false, || format!("reached although the rules exclude it: {cell:?}"));
     }
 }

@@ -11,7 +11,7 @@ use std::io::{self, Write};
 use compare::generator::Generator;
 use compare::generator::profile::{fast_days, profiles};
 use reference::book::Book;
-use reference::forms::AREA_BYTES;
+use reference::call::AREA_BYTES;
 use reference::record::RECORD_BYTES;
 
 fn main() -> io::Result<()> {

@@ -46,11 +46,11 @@ const TERMS: [Term; 9] = [
 ];
 
 pub const EVENTS: &[&str] = &[
-    "form 5 empties one account and opens another in a full book",
-    "form 6 empties one account and opens another in a full book",
-    "form 7 empties one account and opens another in a full book",
-    "form 8 empties one account and opens another in a full book",
-    "form 9 empties one account and opens another in a full book",
+    "form 5 moves a whole balance to a new account in a full book",
+    "form 6 moves a whole balance to a new account in a full book",
+    "form 7 moves a whole balance to a new account in a full book",
+    "form 8 moves a whole balance to a new account in a full book",
+    "form 9 moves a whole balance to a new account in a full book",
     "arrival matches at 64 items",
     "arrival matches with accounts and items at 256",
     "arrival does not match",

@@ -1,6 +1,7 @@
 //! The ends of the windows.
 
 use reference::book::Book;
+use reference::forms;
 use reference::record::Order;
 use reference::windows::{cycle_minutes, window};
 
@@ -48,7 +49,7 @@ impl Coverage {
 
 pub fn wanted() -> Vec<Cell> {
     let mut cells = Vec::new();
-    for (form, kind) in (1..=17).flat_map(|form| [(form, 1), (form, 2)]) {
+    for (form, kind) in forms::TABLE.iter().flat_map(|form| [(form.number, 1), (form.number, 2)]) {
         let parts = match form {
             12 | 13 => 0..=1,
             16 => 1..=cycle_minutes(kind).len() as u64,

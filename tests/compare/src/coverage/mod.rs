@@ -4,7 +4,7 @@
 mod arrivals;
 pub mod couples;
 mod cycles;
-mod damages;
+pub mod damages;
 mod edges;
 mod endings;
 pub mod table;
@@ -12,9 +12,10 @@ pub mod table;
 use std::collections::BTreeMap;
 
 use reference::book::{Book, CASH_CEILING, LAST_DAY};
-use reference::forms::AREA_BYTES;
-use reference::record::{self, Field, Order, RECORD_BYTES, highest, unpack};
-use reference::refusals::TESTS;
+use reference::call::AREA_BYTES;
+use reference::forms;
+use reference::record::{self, Field, Order, RECORD_BYTES, unpack, usual_range};
+use reference::refusals::{self, Refusal};
 
 use damages::Damage;
 use edges::Edge;
@@ -144,14 +145,14 @@ impl Coverage {
     }
 
     fn extremes(&mut self, order: &Order) {
-        let largest = |field: Field| order.fields()[field as usize] == highest(order.form, field);
-        if order.form != 1 && largest(Field::Quantity) {
+        let at_most = |field: Field| order.fields()[field as usize] == usual_range(field).1;
+        if at_most(Field::Quantity) {
             self.event("largest quantity accepted");
         }
-        if largest(Field::Amount) {
+        if at_most(Field::Amount) {
             self.event("largest amount accepted");
         }
-        if [Field::Security, Field::CreditedMember, Field::CreditedShareholder].into_iter().all(largest) {
+        if [Field::Security, Field::CreditedMember, Field::CreditedShareholder].into_iter().all(at_most) {
             self.event("largest security code, member and shareholder accepted");
         }
     }
@@ -186,39 +187,36 @@ impl Coverage {
     }
 }
 
-/// All refusals that a call deserves, in their order. Of a record that
-/// cannot be read only what can still be said of it.
+/// All refusals that a call deserves, in checking order. Of a record that does
+/// not read only what can still be said of it.
 fn faults(book: &Book, bytes: &[u8], area: usize) -> Vec<u64> {
-    let mut faults = Vec::new();
-    if area < AREA_BYTES {
-        faults.push(1);
-    }
+    let mut faults: Vec<u64> = refusals::of_area(area, AREA_BYTES).err().into_iter().collect();
+    let read = record::read(bytes);
+    faults.extend(read.err());
     if bytes.len() != RECORD_BYTES {
-        faults.push(2);
         return faults;
     }
     let order = Order::from_fields(unpack(bytes));
-    // The tests past 9 are made for orders that have been read.
-    let asked = match record::read(bytes) {
-        Err(3) => &[],
-        Err(_) => &TESTS[..4],
-        Ok(_) => &TESTS[..],
-    };
-    faults.extend(record::read(bytes).err());
-    if faults.last() == Some(&4) && order.minute > 1439 {
+    if read == Err(4) && order.minute > usual_range(Field::Minute).1 {
         faults.push(5);
     }
-    faults.extend(asked.iter().filter(|(_, fails)| fails(book, &order)).map(|(number, _)| *number));
+    let asked = |refusal: &&Refusal| match read {
+        Ok(_) => true,
+        Err(3) => false,
+        Err(_) => couples::ASKED_OF_DAMAGED.contains(&refusal.number),
+    };
+    let refusing = refusals::TABLE.iter().filter(asked).filter(|refusal| refusal.refuses(book, &order));
+    faults.extend(refusing.map(|refusal| refusal.number));
     faults
 }
 
 /// The cells that a whole run must reach.
 pub fn wanted() -> Vec<Cell> {
     let mut cells = Vec::new();
-    for form in 1..=17 {
+    for form in forms::TABLE.iter().map(|form| form.number) {
         cells.extend([1, 2].map(|kind| Cell::Accepted { form, kind }));
-        let possible = (1..=18).filter(|refusal| couples::impossible(form, *refusal).is_none());
-        cells.extend(possible.map(|refusal| Cell::Refused { form, refusal }));
+        let possible = refusals::TABLE.iter().filter(|refusal| (refusal.forms)(form));
+        cells.extend(possible.map(|refusal| Cell::Refused { form, refusal: refusal.number }));
     }
     cells.extend(wanted_pairs());
     cells.extend(edges::wanted());
@@ -229,20 +227,23 @@ pub fn wanted() -> Vec<Cell> {
 }
 
 fn wanted_pairs() -> Vec<Cell> {
-    let mut pairs: Vec<(u64, u64)> = (2..=18).map(|second| (1, second)).collect();
-    pairs.extend((5..=9).map(|second| (4, second)));
-    pairs.extend((6..=9).map(|second| (5, second)));
-    let couples = (6..=18).flat_map(|first| (first + 1..=18).map(move |second| (first, second)));
-    pairs.extend(couples.filter(|(first, second)| couples::never_together(*first, *second).is_none()));
-    pairs.into_iter().map(|(first, second)| Cell::Both { first, second }).collect()
+    let both = |first: &Refusal, second: &Refusal| Cell::Both { first: first.number, second: second.number };
+    couples_in_order().filter(|(first, second)| couples::together(first, second)).map(|(a, b)| both(a, b)).collect()
 }
 
-/// What was reached although the paper rules it out.
+/// Every two refusals, the one that is checked first before the other.
+fn couples_in_order() -> impl Iterator<Item = (&'static Refusal, &'static Refusal)> {
+    let table = refusals::TABLE;
+    table
+        .iter()
+        .enumerate()
+        .flat_map(move |(place, first)| table[place + 1..].iter().map(move |second| (first, second)))
+}
+
+/// What was reached although the rules exclude it: faults that cannot stand in
+/// one call, or in this order.
 pub fn ruled_out(coverage: &Coverage) -> Vec<Cell> {
-    let refused_for_ever = |cell: &&Cell| match cell {
-        Cell::Refused { form, refusal } => (1..=17).contains(form) && couples::impossible(*form, *refusal).is_some(),
-        Cell::Both { first: first @ 6.., second } => couples::never_together(*first, *second).is_some(),
-        _ => false,
-    };
-    coverage.reached.keys().filter(refused_for_ever).copied().collect()
+    let wanted = wanted_pairs();
+    let pair = |cell: &&Cell| matches!(cell, Cell::Both { .. }) && !wanted.contains(cell);
+    coverage.reached.keys().filter(pair).copied().collect()
 }

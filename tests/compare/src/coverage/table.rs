@@ -2,7 +2,9 @@
 
 use std::fmt::Write;
 
-use super::{Cell, Coverage, couples, wanted};
+use reference::{forms, refusals};
+
+use super::{Cell, Coverage, wanted};
 
 type Belongs = fn(&Cell) -> bool;
 
@@ -35,20 +37,17 @@ pub fn print(coverage: &Coverage) -> String {
     text
 }
 
-/// Forms by answers; a dash where the paper rules the couple out.
+/// Forms by answers, in checking order; a dash where the form cannot meet it.
 fn answers(coverage: &Coverage) -> String {
     let mut text = String::from("Calls by form and answer (- cannot be):\nform accepted");
-    (1..=18).for_each(|refusal| write!(text, " {refusal:>6}").expect("a string takes all"));
+    refusals::TABLE.iter().for_each(|refusal| write!(text, " {:>6}", refusal.number).expect("a string takes all"));
     text.push('\n');
-    for form in 1..=17 {
+    for form in forms::TABLE.iter().map(|form| form.number) {
         let accepted: u64 = [1, 2].map(|kind| coverage.count(&Cell::Accepted { form, kind })).iter().sum();
         write!(text, "{form:>4} {accepted:>8}").expect("a string takes all");
-        for refusal in 1..=18 {
-            let count = coverage.count(&Cell::Refused { form, refusal });
-            let shown = match couples::impossible(form, refusal) {
-                Some(_) if count == 0 => "-".to_string(),
-                _ => count.to_string(),
-            };
+        for refusal in refusals::TABLE {
+            let count = coverage.count(&Cell::Refused { form, refusal: refusal.number });
+            let shown = if (refusal.forms)(form) { count.to_string() } else { "-".to_string() };
             write!(text, " {shown:>6}").expect("a string takes all");
         }
         text.push('\n');

@@ -65,7 +65,8 @@ impl Desk<'_> {
             12 | 13 => self.instruction(form),
             14 => self.exchange_trade(),
             15 => self.cancellation(),
-            _ => Some(Order::default()),
+            16 | 17 => Some(Order::default()),
+            _ => None,
         };
         order.map(|order| Order { form, ..order })
     }

@@ -12,10 +12,9 @@ use std::collections::VecDeque;
 
 use reference::book::{Book, LAST_DAY};
 use reference::record::{Order, pack};
-use reference::refusals;
 use reference::windows::{end_of_work, next_cycle_minute, window};
+use reference::{forms, refusals};
 
-use crate::coverage::couples;
 use crate::random::Random;
 use crate::record_alone::any_order;
 use draft::{Desk, World};
@@ -62,7 +61,7 @@ impl Generator {
 
     /// Damage comes to the order that is due and to any other form alike.
     fn damaged(&mut self, order: &Order) -> Vec<u8> {
-        let other = any_order(self.random.between(1, 17), &mut self.random);
+        let other = any_order(self.random.pick(forms::TABLE), &mut self.random);
         let order = if self.random.percent(50) { *order } else { other };
         damage::damaged(&order, &mut self.random)
     }
@@ -89,7 +88,7 @@ impl Generator {
     fn night(&mut self, book: &Book) -> Order {
         self.prepared.clear();
         if book.day.number == LAST_DAY || self.random.percent(2 * self.profile.faults) {
-            let form = self.random.between(1, 17);
+            let form = self.random.pick(forms::TABLE).number;
             let minute = self.random.below(1440);
             let draft = self.desk(book).draft(form).unwrap_or(Order { form, ..Order::default() });
             return self.with_faults(book, Order { minute, ..draft });
@@ -150,7 +149,7 @@ impl Generator {
     fn next_prepared(&mut self, book: &Book) -> Option<Order> {
         let order = self.prepared.pop_front()?;
         let order = self.at_usual_minute(book, order);
-        if refusals::first(book, &order).is_some() {
+        if refusals::of_order(book, &order).is_err() {
             self.prepared.clear();
             return None;
         }
@@ -168,7 +167,7 @@ impl Generator {
             }
             if let Some(draft) = self.desk(book).draft(form) {
                 order = self.at_usual_minute(book, draft);
-                if refusals::first(book, &order).is_none() {
+                if refusals::of_order(book, &order).is_ok() {
                     return order;
                 }
             }
@@ -191,9 +190,10 @@ impl Generator {
     /// An order at an end of its window or one minute past it; mostly the
     /// earliest of a few, so that the day goes on.
     fn at_edge(&mut self, book: &Book) -> Option<Order> {
+        let in_the_day: Vec<u64> = forms::TABLE.iter().map(|form| form.number).filter(|form| *form != 1).collect();
         let mut found: Vec<Order> = Vec::new();
         for _ in 0..6 {
-            let form = self.random.between(2, 17);
+            let form = self.random.pick(&in_the_day);
             let Some(draft) = self.desk(book).draft(form) else { continue };
             let Some((first, last)) = window(&book.day, &draft) else { continue };
             let inside = self.random.percent(65);
@@ -202,7 +202,7 @@ impl Generator {
                 edges.into_iter().filter(|edge| (book.day.last_minute..1440).contains(edge)).collect();
             let Some(minute) = self.random.maybe_pick(&ahead) else { continue };
             let order = Order { minute, ..draft };
-            if matches!(refusals::first(book, &order), None | Some(9)) {
+            if matches!(refusals::of_order(book, &order), Ok(()) | Err(9)) {
                 found.push(order);
             }
         }
@@ -212,7 +212,7 @@ impl Generator {
 
     /// Any form with one fault or two.
     fn faulty(&mut self, book: &Book) -> Order {
-        let form = self.random.between(1, 17);
+        let form = self.random.pick(forms::TABLE).number;
         let Some(draft) = self.desk(book).draft(form) else {
             return self.acceptable(book);
         };
@@ -221,8 +221,7 @@ impl Generator {
     }
 
     fn with_faults(&mut self, book: &Book, order: Order) -> Order {
-        let possible: Vec<u64> =
-            (8..=18).filter(|refusal| couples::impossible(order.form, *refusal).is_none()).collect();
+        let possible = spoil::aims(order.form);
         let times = if self.random.percent(30) { 2 } else { 1 };
         (0..times).fold(order, |order, _| {
             let refusal = self.random.pick(&possible);

@@ -14,8 +14,9 @@ pub struct Profile {
     pub shareholders: usize,
     /// Calls between opening and the evening, least and most.
     pub calls_a_day: (u64, u64),
-    /// How often each form is drawn in the day (forms 2 to 16, by number).
-    pub weights: [u64; 17],
+    /// How often a form is drawn in the day, by its number from 0 on; not at
+    /// all behind the last.
+    pub weights: &'static [u64],
     /// Orders that are spoilt on purpose, in percent.
     pub faults: u64,
     /// Records that are damaged, in percent.
@@ -36,7 +37,7 @@ pub struct Profile {
 
 /// All forms: 2 admit, 3 deposit, 4 withdrawal, 5 transfer, 6 to 9 pledge to
 /// unblock, 10 and 11 cash, 12 to 14 trades, 15 cancel, 16 cycle.
-const BUSY: [u64; 17] = [0, 0, 4, 12, 12, 10, 5, 5, 5, 5, 14, 4, 16, 16, 10, 5, 8];
+const BUSY: &[u64] = &[0, 0, 4, 12, 12, 10, 5, 5, 5, 5, 14, 4, 16, 16, 10, 5, 8];
 
 const USUAL: Profile = Profile {
     name: "busy trading",
@@ -62,7 +63,7 @@ const FULL_ACCOUNTS: Profile = Profile {
     members: 64,
     shareholders: 60,
     calls_a_day: (60, 300),
-    weights: [0, 0, 2, 40, 3, 14, 8, 6, 8, 6, 4, 1, 5, 5, 3, 1, 2],
+    weights: &[0, 0, 2, 40, 3, 14, 8, 6, 8, 6, 4, 1, 5, 5, 3, 1, 2],
     faults: 15,
     ..USUAL
 };
@@ -71,7 +72,7 @@ const FULL_ITEMS: Profile = Profile {
     name: "full items",
     members: 12,
     calls_a_day: (20, 120),
-    weights: [0, 0, 3, 8, 2, 3, 1, 1, 1, 1, 4, 1, 30, 30, 12, 4, 1],
+    weights: &[0, 0, 3, 8, 2, 3, 1, 1, 1, 1, 4, 1, 30, 30, 12, 4, 1],
     faults: 12,
     scenarios: 40,
     days_ahead: 20,
@@ -81,7 +82,7 @@ const FULL_ITEMS: Profile = Profile {
 const FULL_SECURITIES: Profile = Profile {
     name: "full securities",
     securities: 40,
-    weights: [0, 0, 30, 14, 6, 10, 5, 4, 5, 4, 6, 4, 8, 8, 6, 3, 3],
+    weights: &[0, 0, 30, 14, 6, 10, 5, 4, 5, 4, 6, 4, 8, 8, 6, 3, 3],
     faults: 12,
     ..USUAL
 };
@@ -94,7 +95,7 @@ const CASH: Profile = Profile {
     calls: 9_000,
     members: 64,
     calls_a_day: (20, 200),
-    weights: [0, 0, 1, 3, 1, 1, 1, 1, 1, 1, 70, 3, 4, 4, 3, 1, 1],
+    weights: &[0, 0, 1, 3, 1, 1, 1, 1, 1, 1, 70, 3, 4, 4, 3, 1, 1],
     faults: 16,
     large_values: 85,
     ..USUAL
@@ -105,7 +106,7 @@ const CANCEL_AND_CLOSE: Profile = Profile {
     members: 4,
     shareholders: 2,
     calls_a_day: (4, 30),
-    weights: [0, 0, 2, 6, 2, 2, 1, 1, 1, 1, 4, 3, 20, 20, 8, 16, 5],
+    weights: &[0, 0, 2, 6, 2, 2, 1, 1, 1, 1, 4, 3, 20, 20, 8, 16, 5],
     days_ahead: 3,
     ..USUAL
 };
@@ -114,7 +115,7 @@ const EDGES_OF_WINDOWS: Profile = Profile {
     name: "edges of windows",
     securities: 40,
     calls_a_day: (6, 40),
-    weights: [0, 0, 10, 12, 12, 10, 5, 5, 5, 5, 14, 4, 16, 16, 10, 5, 8],
+    weights: &[0, 0, 10, 12, 12, 10, 5, 5, 5, 5, 14, 4, 16, 16, 10, 5, 8],
     faults: 2,
     edges: 70,
     scenarios: 5,
@@ -124,7 +125,7 @@ const EDGES_OF_WINDOWS: Profile = Profile {
 const FULL_CYCLES: Profile = Profile {
     name: "full cycles",
     calls_a_day: (2, 10),
-    weights: [0, 0, 2, 6, 4, 3, 1, 1, 1, 1, 6, 4, 0, 0, 0, 0, 4],
+    weights: &[0, 0, 2, 6, 4, 3, 1, 1, 1, 1, 6, 4, 0, 0, 0, 0, 4],
     faults: 2,
     scenarios: 300,
     ..USUAL
@@ -136,7 +137,7 @@ const NETTING: Profile = Profile {
     members: 5,
     shareholders: 1,
     calls_a_day: (10, 60),
-    weights: [0, 0, 2, 5, 2, 2, 1, 1, 1, 1, 6, 4, 12, 12, 20, 2, 6],
+    weights: &[0, 0, 2, 5, 2, 2, 1, 1, 1, 1, 6, 4, 12, 12, 20, 2, 6],
     faults: 3,
     scenarios: 60,
     days_ahead: 2,

@@ -4,12 +4,23 @@
 use reference::account_types::{BLOCK, FREE, PLEDGE};
 use reference::book::{Account, CASH_CEILING, Item, Purse, Security, State};
 use reference::record::Order;
+use reference::refusals::{self, Refusal, Test, debited_account};
 use reference::windows::window;
 
 use super::draft::{Desk, MOST, credit, debit};
 
 /// Types that no table has, or not in that place.
 const OTHER_TYPES: [u64; 20] = [1, 9, 11, 12, 13, 19, 21, 22, 50, 80, 90, 91, 100, 111, 112, 119, 121, 122, 150, 255];
+
+/// Refusals that come from the state of the day, whatever an order says.
+const OF_THE_DAY: [u64; 2] = [6, 7];
+
+/// The refusals at which a fault in an order of a form can aim.
+pub fn aims(form: u64) -> Vec<u64> {
+    let of_order = |refusal: &&Refusal| matches!(refusal.test, Test::Order(_)) && (refusal.forms)(form);
+    let numbers = refusals::TABLE.iter().filter(of_order).map(|refusal| refusal.number);
+    numbers.filter(|number| !OF_THE_DAY.contains(number)).collect()
+}
 
 impl Desk<'_> {
     /// The order with a fault; as it was where the book has no room for it.
@@ -157,7 +168,7 @@ impl Desk<'_> {
     fn too_much(&mut self, order: Order) -> Order {
         let kept = match order.form {
             3 => self.book.security(order.security).map_or(0, |security: &Security| security.outside),
-            4..=9 => self.book.balance(&reference::refusals::debited_account(&order)),
+            4..=9 => self.book.balance(&debited_account(&order)),
             _ => self.book.cash_of(&Purse { member: order.debited_member, currency: order.currency }),
         };
         if kept >= MOST {

@@ -2,7 +2,7 @@
 #![allow(dead_code)]
 
 use reference::book::{Account, Book, Purse};
-use reference::forms::{Answer, Counts};
+use reference::call::{Answer, Counts};
 use reference::record::{Order, pack};
 
 pub const SECURITY: u64 = 101;
