@@ -221,7 +221,10 @@ impl Generator {
     }
 
     fn with_faults(&mut self, book: &Book, order: Order) -> Order {
-        let possible = spoil::aims(order.form);
+        // Now and then a fault that the form should not have, so that a form
+        // which is missing from a refusal's row is found.
+        let any = self.random.percent(10);
+        let possible = spoil::aims(|refusal| any || (refusal.forms)(order.form));
         let times = if self.random.percent(30) { 2 } else { 1 };
         (0..times).fold(order, |order, _| {
             let refusal = self.random.pick(&possible);

@@ -15,9 +15,9 @@ const OTHER_TYPES: [u64; 20] = [1, 9, 11, 12, 13, 19, 21, 22, 50, 80, 90, 91, 10
 /// Refusals that come from the state of the day, whatever an order says.
 const OF_THE_DAY: [u64; 2] = [6, 7];
 
-/// The refusals at which a fault in an order of a form can aim.
-pub fn aims(form: u64) -> Vec<u64> {
-    let of_order = |refusal: &&Refusal| matches!(refusal.test, Test::Order(_)) && (refusal.forms)(form);
+/// The refusals at which a fault in an order can aim, of those wanted.
+pub fn aims(wanted: impl Fn(&Refusal) -> bool) -> Vec<u64> {
+    let of_order = |refusal: &&Refusal| matches!(refusal.test, Test::Order(_)) && wanted(refusal);
     let numbers = refusals::TABLE.iter().filter(of_order).map(|refusal| refusal.number);
     numbers.filter(|number| !OF_THE_DAY.contains(number)).collect()
 }
