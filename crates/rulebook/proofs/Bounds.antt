@@ -89,11 +89,15 @@ no-code figure c (x ∷ rest) e = go (x.code is c) refl (no-code figure c rest)
 
 own-code : (xs : List Security) → Each (λ x. 1 ≤ withCode x.code xs) xs
 own-code [] = tt
-own-code (x ∷ rest) =
-    (simp (eq-eqb x.code x.code refl) (omega arith), each-so (λ s. 1 ≤ withCode s.code rest) (λ s. 1 ≤ withCode s.code (x ∷ rest)) (λ s l. omega (arith, l)) rest (own-code rest))
+own-code (x ∷ rest) = (
+  simp (eq-eqb x.code x.code refl) (omega arith),
+  each-so (λ s. 1 ≤ withCode s.code rest) (λ s. 1 ≤ withCode s.code (x ∷ rest)) (λ s l. omega (arith, l))
+      rest (own-code rest),
+)
 
 only :
-    (figure : Security → ℕ) (xs : List Security) → ((c : ℕ) → withCode c xs ≤ 1) → Each (λ x. total (λ s. if s.code is x.code then figure s else 0) xs ≡ figure x) xs
+    (figure : Security → ℕ) (xs : List Security) → ((c : ℕ) → withCode c xs ≤ 1)
+    → Each (λ x. total (λ s. if s.code is x.code then figure s else 0) xs ≡ figure x) xs
 only figure [] u = tt
 only figure (x ∷ rest) u =
     let own : (x.code is x.code) ≡ true = eq-eqb x.code x.code refl in
@@ -103,19 +107,24 @@ only figure (x ∷ rest) u =
           (λ s. total (λ y. if y.code is s.code then figure y else 0) (x ∷ rest) ≡ figure s)
           (λ s e. later s (x.code is s.code) refl e)
           rest
-          (each-both (λ s. 1 ≤ withCode s.code rest) (λ s. total (λ y. if y.code is s.code then figure y else 0) rest ≡ figure s) rest (own-code rest) (only figure rest (λ c. omega (arith, u c)))),
+          (each-both (λ s. 1 ≤ withCode s.code rest) (λ s. total (λ y. if y.code is s.code then figure y else 0) rest ≡ figure s) rest (own-code rest)
+          (only figure rest (λ c. omega (arith, u c)))),
     )
   where
     later :
-        (s : Security) (t : Bool) → (x.code is s.code) ≡ t → (1 ≤ withCode s.code rest) × (total (λ y. if y.code is s.code then figure y else 0) rest ≡ figure s)
+        (s : Security) (t : Bool) → (x.code is s.code) ≡ t → (1 ≤ withCode s.code rest)
+        × (total (λ y. if y.code is s.code then figure y else 0) rest ≡ figure s)
         → total (λ y. if y.code is s.code then figure y else 0) (x ∷ rest) ≡ figure s
     later s true q e = absurd (omega (arith, e .0, simp q at (u s.code)))
     later s false q e = simp q (omega (arith, e .1))
 
 outside-part : (xs : List Security) → Each (λ s. s.outside.0 ≤ outs s.code xs) xs
 outside-part [] = tt
-outside-part (x ∷ rest) =
-    (simp (eq-eqb x.code x.code refl) (omega arith), each-so (λ s. s.outside.0 ≤ outs s.code rest) (λ s. s.outside.0 ≤ outs s.code (x ∷ rest)) (λ s l. omega (arith, l)) rest (outside-part rest))
+outside-part (x ∷ rest) = (
+  simp (eq-eqb x.code x.code refl) (omega arith),
+  each-so (λ s. s.outside.0 ≤ outs s.code rest) (λ s. s.outside.0 ≤ outs s.code (x ∷ rest))
+      (λ s l. omega (arith, l)) rest (outside-part rest),
+)
 
 module _ (b : Ledger) (p : Premise b) where
   pub issued-fits : (security : ℕ) → issuedOf security b.holdings < 2 ^ 40
@@ -132,7 +141,8 @@ module _ (b : Ledger) (p : Premise b) where
   pub each-outside : Each (λ s. s.outside.0 < 2 ^ 40) b.holdings.securities
   unfolding outsideOf
   each-outside =
-      each-so (λ s. s.outside.0 ≤ outs s.code b.holdings.securities) (λ s. s.outside.0 < 2 ^ 40) (λ s l. omega (arith, l, outside-fits s.code)) b.holdings.securities (outside-part b.holdings.securities)
+      each-so (λ s. s.outside.0 ≤ outs s.code b.holdings.securities) (λ s. s.outside.0 < 2 ^ 40) (λ s l. omega (arith, l, outside-fits s.code))
+      b.holdings.securities (outside-part b.holdings.securities)
 
   -- an admitted security's code
   pub admitted-fits : (security : ℕ) → admitted security b.holdings ≡ true → (1 ≤ security) × (security < 2 ^ 14)
@@ -144,7 +154,8 @@ module _ (b : Ledger) (p : Premise b) where
   unfolding outsideOf issuedOf
   each-issue =
       let xs = b.holdings.securities in
-      each-so (λ s. (outs s.code xs ≡ s.outside.0) × (total (λ x. if x.code is s.code then x.issued.0 else 0) xs ≡ s.issued.0)) (λ s. held s.code b.holdings + s.outside.0 ≡ s.issued.0)
+      each-so (λ s. (outs s.code xs ≡ s.outside.0) × (total (λ x. if x.code is s.code then x.issued.0 else 0) xs ≡ s.issued.0))
+      (λ s. held s.code b.holdings + s.outside.0 ≡ s.issued.0)
       (λ s e. omega (arith, e .0, e .1, p.issue s.code)) xs
       (each-both (λ s. outs s.code xs ≡ s.outside.0) (λ s. total (λ x. if x.code is s.code then x.issued.0 else 0) xs ≡ s.issued.0) xs
       (only (λ s. s.outside.0) xs p.codes) (only (λ s. s.issued.0) xs p.codes))

@@ -51,7 +51,8 @@ module _ (b : Ledger) (p : Premise b) where
   code-once c i j d = one-index (λ x. x.code is c) b.holdings.securities i j d (p.codes c)
 
   pub reference-once :
-      (s r i j : ℕ) (d : Item) → i < length b.waiting → j < length b.waiting → sentBy s r (getD b.waiting i d) ≡ true → sentBy s r (getD b.waiting j d) ≡ true → i ≡ j
+      (s r i j : ℕ) (d : Item) → i < length b.waiting → j < length b.waiting → sentBy s r (getD b.waiting i d) ≡ true → sentBy s r (getD b.waiting j d) ≡ true
+      → i ≡ j
   reference-once s r i j d = one-index (sentBy s r) b.waiting i j d (p.references s r)
 
   pub item-at : (i : ℕ) (d : Item) → i < length b.waiting → ItemFits b.day.number (today b.day) b.holdings (getD b.waiting i d)
@@ -64,12 +65,15 @@ module _ (b : Ledger) (p : Premise b) where
   pub cancel-at :
       (s r i : ℕ) (d : Item) → i < length b.waiting → sentBy s r (getD b.waiting i d) ≡ true
       → (staying (marking s r b.waiting)
-      ≡ (if bothMarked (marked s (getD b.waiting i d) .state) then take i b.waiting ++ drop (suc i) b.waiting else set b.waiting i (marked s (getD b.waiting i d))))
+      ≡
+      (if bothMarked (marked s (getD b.waiting i d) .state) then take i b.waiting ++ drop (suc i) b.waiting else set b.waiting i
+      (marked s (getD b.waiting i d))))
       × (cancelled (marking s r b.waiting) ≡ (if bothMarked (marked s (getD b.waiting i d) .state) then marked s (getD b.waiting i d) ∷ [] else []))
   cancel-at s r i d l e =
       let ws = b.waiting in
       let item = getD ws i d in
       let f = split-at ws i d l in (
-        cancel-stays b p s r (take i ws) item (drop (suc i) ws) f e ∙ ap (λ (x : List Item). if bothMarked (marked s item .state) then take i ws ++ drop (suc i) ws else x) (sym (set-split ws i (marked s item) l)),
+        cancel-stays b p s r (take i ws) item (drop (suc i) ws) f e
+            ∙ ap (λ (x : List Item). if bothMarked (marked s item .state) then take i ws ++ drop (suc i) ws else x) (sym (set-split ws i (marked s item) l)),
         cancel-leaves b p s r (take i ws) item (drop (suc i) ws) f e,
       )

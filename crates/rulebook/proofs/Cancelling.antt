@@ -43,7 +43,8 @@ module _ (s r : ℕ) (before : List Item) (item : Item) (after : List Item) (p :
       where
         go :
             (t : Bool) → bothMarked (marked s item .state) ≡ t → keep (λ i. not (bothMarked i.state)) after ≡ after
-            → before ++ keep (λ i. not (bothMarked i.state)) (marked s item ∷ after) ≡ (if bothMarked (marked s item .state) then before ++ after else before ++ (marked s item ∷ after))
+            → before ++ keep (λ i. not (bothMarked i.state)) (marked s item ∷ after)
+            ≡ (if bothMarked (marked s item .state) then before ++ after else before ++ (marked s item ∷ after))
         go true q z = simp q (ap (λ (k : List Item). before ++ k) z)
         go false q z = simp q (ap (λ (k : List Item). before ++ (marked s item ∷ k)) z)
 

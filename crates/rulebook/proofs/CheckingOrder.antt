@@ -27,7 +27,8 @@ module _ (book : Ledger) (area : List ℕ) where
       go n true p = sym (eqb-true n 0 p)
       go n false p = refl
 
-  read-answer : (bytes : List ℕ) → answerNumber (readCall book (readOf bytes) area .answer) ≡ first (readTests bytes ++ refusals book (orderOf (fieldsIn bytes)))
+  read-answer :
+      (bytes : List ℕ) → answerNumber (readCall book (readOf bytes) area .answer) ≡ first (readTests bytes ++ refusals book (orderOf (fieldsIn bytes)))
   unfolding readOf readCall answerNumber refused readRefusal
   read-answer bytes = go (readRefusal bytes is 0) ∙ sym (first-append (readTests bytes) (refusals book order) (omega arith))
     where

@@ -17,7 +17,9 @@ pub record Fits (i : Item) : Type 0 where
   pub quantity : i.quantity.0 < 2 ^ 40
   pub amount : i.amount.0 < 2 ^ 40
 
-over-most : (figure : Item → ℕ) → ((i : Item) → Fits i → figure i < 2 ^ 40) → (ms : List Marked) → Each (λ m. Fits (m .1)) ms → over figure ms ≤ 1_099_511_627_775 * length ms
+over-most :
+    (figure : Item → ℕ) → ((i : Item) → Fits i → figure i < 2 ^ 40) → (ms : List Marked) → Each (λ m. Fits (m .1)) ms
+    → over figure ms ≤ 1_099_511_627_775 * length ms
 unfolding over
 over-most figure f [] e = omega arith
 over-most figure f (m ∷ rest) e = go (m .0) (f (m .1) (e .0)) (over-most figure f rest (e .1))
@@ -44,6 +46,10 @@ module _ (b : Ledger) (p : Premise b) (ms : List Marked) (l : length ms ≤ 64) 
   pub cash-bounded : (m c : ℕ) → (b.holdings.cash m c + cashBrought m c ms < 2 ^ 51) × (cashTaken m c ms < 2 ^ 51)
   unfolding cashBrought cashTaken bringsCash takesCash
   cash-bounded m c =
-      let x = over-most (λ t. if t.debited.member is m && t.currency is c then t.amount.0 else 0) (λ i f. only-if (i.debited.member is m && i.currency is c) i.amount.0 f.amount) ms e in
-      let y = over-most (λ t. if t.credited.member is m && t.currency is c then t.amount.0 else 0) (λ i f. only-if (i.credited.member is m && i.currency is c) i.amount.0 f.amount) ms e in
+      let x =
+      over-most (λ t. if t.debited.member is m && t.currency is c then t.amount.0 else 0)
+      (λ i f. only-if (i.debited.member is m && i.currency is c) i.amount.0 f.amount) ms e in
+      let y =
+      over-most (λ t. if t.credited.member is m && t.currency is c then t.amount.0 else 0)
+      (λ i f. only-if (i.credited.member is m && i.currency is c) i.amount.0 f.amount) ms e in
       (omega (arith, x, cash-fits b p m c), omega (arith, y))

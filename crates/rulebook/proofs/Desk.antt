@@ -31,7 +31,8 @@ unfolding
     debitsShort anyShort dropLast rounds settling withMark withoutMark legs settled notSettled dropped closeKind leaves deletedAtClose
     suspendedAtClose closeNotice counts outcome moving silent openDay admit deposit withdraw transfer payIn payOut instruct trade cancel cycle close
     forms rowOf windowOf effect wrongDay wrongCycle goesBack outsideWindow wrongSecurity wrongPair wrongParties wrongDays wrongReference wrongCancel
-    tooLittle overCeiling noSpace dayTests orderTests itemTests roomTests refusals answerNumber refused putMinute accepted orderCall readCall callOf resultOf recordIn callsOn bookAfter
+    tooLittle overCeiling noSpace dayTests orderTests itemTests roomTests refusals answerNumber refused putMinute accepted orderCall readCall callOf resultOf
+    recordIn callsOn bookAfter
 desk = record {
   p1 = refl;
   p2 = refl;

@@ -67,7 +67,9 @@ step-issue b o t s e =
     )
 
 -- a pay-in that would pass the ceiling is refused, and nothing else raises a currency's total
-paid-in : (b : Ledger) (o : Order) → overCeiling b.holdings o ≡ false → (c : ℕ) → cashTotal c b.holdings ≤ 1_000_000_000_000_000 → cashTotal c b.holdings + cashAt 10 c o.form o ≤ 1_000_000_000_000_000
+paid-in :
+    (b : Ledger) (o : Order) → overCeiling b.holdings o ≡ false → (c : ℕ) → cashTotal c b.holdings ≤ 1_000_000_000_000_000
+    → cashTotal c b.holdings + cashAt 10 c o.form o ≤ 1_000_000_000_000_000
 unfolding overCeiling
 paid-in b o w c l = go (o.form is 10) (o.currency is c) refl refl
   where

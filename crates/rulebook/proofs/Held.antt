@@ -85,7 +85,8 @@ module _ (h : Holdings) (a : Account) (v : ℕ) where
       a.member < 2 ^ 10 → a.typ < 2 ^ 8 → a.shareholder < 2 ^ 30 → held a.security (putBalance a v h) + h.balance a ≡ held a.security h + v
   unfolding held
   held-put m t k =
-      sum-change (2 ^ 10) a.member (h.balance a) v _ _ m (λ j p. sum-same (2 ^ 8) _ _ (λ i _. sum-same (2 ^ 30) _ _ (λ l _. put-other _ (other-member a a.security j i l p))))
+      sum-change (2 ^ 10) a.member (h.balance a) v _ _ m
+      (λ j p. sum-same (2 ^ 8) _ _ (λ i _. sum-same (2 ^ 30) _ _ (λ l _. put-other _ (other-member a a.security j i l p))))
       (sum-change (2 ^ 8) a.typ (h.balance a) v _ _ t (λ j p. sum-same (2 ^ 30) _ _ (λ l _. put-other _ (other-type a a.security a.member j l p)))
       (sum-change (2 ^ 30) a.shareholder (h.balance a) v _ _ k (λ j p. put-other _ (other-shareholder a a.security a.member a.typ j p))
       (ap (λ (n : ℕ). n + h.balance a) put-same ∙ add-comm v (h.balance a))))

@@ -47,7 +47,8 @@ module _ {A : Type 0} where
   total-append figure (x ∷ rest) ys = simp (total-append figure rest ys) (omega arith)
 
 -- a change that keeps each figure keeps the total
-pub total-map : {A B : Type 0} (figure : B → ℕ) (same : A → ℕ) (f : A → B) → ((x : A) → figure (f x) ≡ same x) → (xs : List A) → total figure (map f xs) ≡ total same xs
+pub total-map :
+    {A B : Type 0} (figure : B → ℕ) (same : A → ℕ) (f : A → B) → ((x : A) → figure (f x) ≡ same x) → (xs : List A) → total figure (map f xs) ≡ total same xs
 total-map figure same f e [] = refl
 total-map figure same f e (x ∷ rest) = simp (e x, total-map figure same f e rest)
 

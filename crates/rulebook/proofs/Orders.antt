@@ -168,7 +168,9 @@ fields-range fields nf u r = record {
     idle : ℕ → Bool
     idle place = not (used f place) && getD fields place 0 isNot 0
 
-    field : (i : ℕ) → i < length places → needs f (getD places i 0) ≡ true → (1 ≤ getD fields (getD places i 0) 0) × (getD fields (getD places i 0) 0 ≤ most f (getD places i 0))
+    field :
+        (i : ℕ) → i < length places → needs f (getD places i 0) ≡ true → (1 ≤ getD fields (getD places i 0) 0)
+        × (getD fields (getD places i 0) 0 ≤ most f (getD places i 0))
     field i l t = let p = getD places i 0 in from-1 (used f p) (least f p) (most f p) (getD fields p 0) (none-at wide places i l r) t
 
 read-passes : (bytes : List ℕ) (o : Order) → readOf bytes ≡ Read.Order o → readRefusal bytes ≡ 0
@@ -176,7 +178,8 @@ unfolding readOf
 read-passes bytes o e = go (readRefusal bytes is 0) refl e
   where
     go :
-        (t : Bool) → (readRefusal bytes is 0) ≡ t → (if readRefusal bytes is 0 then Read.Order (orderOf (fieldsIn bytes)) else Read.Refused (readRefusal bytes)) ≡ Read.Order o
+        (t : Bool) → (readRefusal bytes is 0) ≡ t
+        → (if readRefusal bytes is 0 then Read.Order (orderOf (fieldsIn bytes)) else Read.Refused (readRefusal bytes)) ≡ Read.Order o
         → readRefusal bytes ≡ 0
     go true p q = eqb-true _ 0 p
     go false p q = let z : Read.Refused (readRefusal bytes) ≡ Read.Order o = simp p at q in cc
@@ -300,7 +303,9 @@ module _ (b : Ledger) (o : Order) where
       let q = in-range true b.day.number (b.day.number + 20) o.«settlement_day» (ap not (p .0)) refl in
       (q .0, q .1, ltb-false _ _ (p .1))
 
-  pub none-waits : (n : ℕ) → o.form ≡ n → within 12 14 n ≡ true → (n is 15) ≡ false → wrongReference b.waiting o ≡ false → some (sentBy (senderOf o) o.reference) b.waiting ≡ false
+  pub none-waits :
+      (n : ℕ) → o.form ≡ n → within 12 14 n ≡ true → (n is 15) ≡ false → wrongReference b.waiting o ≡ false → some (sentBy (senderOf o) o.reference) b.waiting
+      ≡ false
   unfolding wrongReference
   none-waits n e t₁ t₂ w = go (some (sentBy (senderOf o) o.reference) b.waiting) (simp (e, t₁, t₂) at w)
     where
@@ -359,7 +364,8 @@ little-parts b o e =
     (o.form is 11 && b.holdings.cash o.debited.member o.currency below o.amount.0)
     e
 
-pub debit-enough : (b : Ledger) (o : Order) → tooLittle b.holdings o ≡ false → within 4 9 o.form ≡ true → o.quantity.0 ≤ b.holdings.balance (accountOf o.security o.debited)
+pub debit-enough :
+    (b : Ledger) (o : Order) → tooLittle b.holdings o ≡ false → within 4 9 o.form ≡ true → o.quantity.0 ≤ b.holdings.balance (accountOf o.security o.debited)
 debit-enough b o e w = ltb-false _ _ (simp w at (little-parts b o e .1))
 
 pub right-types : (n : ℕ) (b : Ledger) (o : Order) → o.form ≡ n → wrongPair o ≡ false → wrongTypes n o.debited.typ o.credited.typ ≡ false

@@ -227,14 +227,24 @@ module _ (p : Place) where
   credits-kept [] h k = omega arith
   credits-kept (m ∷ rest) h k =
       let h′ = credit m.to m.number h in
-      omega (arith, credits-kept rest h′ (all-known-same h h′ (credit-codes m.to m.number h) rest (k .2)), credit-kept p m.to m.number h (known-for p h m.to (k .1)))
+      omega (
+        arith,
+        credits-kept rest h′ (all-known-same h h′ (credit-codes m.to m.number h) rest (k .2)),
+        credit-kept p m.to m.number h
+            (known-for p h m.to (k .1)),
+      )
 
   debits-kept : (ms : List Movement) (h : Holdings) → AllKnown h ms → bookHas p (debits ms h) ≡ bookHas p h - taken p ms
   unfolding debits
   debits-kept [] h k = omega arith
   debits-kept (m ∷ rest) h k =
       let h′ = debit m.from m.number h in
-      omega (arith, debits-kept rest h′ (all-known-same h h′ (debit-codes m.from m.number h) rest (k .2)), debit-kept p m.from m.number h (known-for p h m.from (k .0)))
+      omega (
+        arith,
+        debits-kept rest h′ (all-known-same h h′ (debit-codes m.from m.number h) rest (k .2)),
+        debit-kept p m.from m.number h
+            (known-for p h m.from (k .0)),
+      )
 
   booked-kept : (ms : List Movement) (h : Holdings) → AllKnown h ms → bookHas p (booked ms h) ≡ bookHas p h + brought p ms - taken p ms
   unfolding booked

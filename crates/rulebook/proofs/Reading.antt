@@ -43,7 +43,8 @@ posting-back p f = rw (columns-back p f)
 first-row : (n : ℕ) (p : Posting) (rest : List ℕ) → RowFits p → firstRows (suc n) (postingBytes p ++ rest) ≡ p ∷ firstRows n rest
 unfolding firstRows
 first-row n p rest f =
-    ap₂ {C = List Posting} (λ (bytes more : List ℕ). postingIn bytes ∷ firstRows n more) (take-at (postingBytes p) rest 16 (row-length p)) (drop-at (postingBytes p) rest 16 (row-length p))
+    ap₂ {C = List Posting} (λ (bytes more : List ℕ). postingIn bytes ∷ firstRows n more) (take-at (postingBytes p) rest 16 (row-length p))
+    (drop-at (postingBytes p) rest 16 (row-length p))
     ∙ ap (λ (q : Posting). q ∷ firstRows n rest) (posting-back p f)
 
 -- a place that a row can name, and no other is mistaken for it

@@ -31,7 +31,8 @@ in-width false a b w n e f l = omega (arith, is-zero false n f refl)
 
 -- what a place can be fits its width
 fits-width : (i : ℕ) → i < length places → getD places i 0 ≡ i → ceiling i < 2 ^ getD widths i 0 → (form : ℕ) → most form i < 2 ^ getD widths i 0
-fits-width i l e c form = let m : most form i ≤ ceiling i = subst (λ (place : ℕ). most form place ≤ ceiling place) e (most-ceiling form i l) in omega (arith, m, c)
+fits-width i l e c form =
+    let m : most form i ≤ ceiling i = subst (λ (place : ℕ). most form place ≤ ceiling place) e (most-ceiling form i l) in omega (arith, m, c)
 
 -- the fields of an order that is not refused fit their widths
 pub fields-fit : (o : Order) → unusedNotZero (fieldsOf o) ≡ false → usedOutOfRange (fieldsOf o) ≡ false → Fit widths (fieldsOf o)

@@ -26,7 +26,9 @@ marks ms = total (λ m. if m .0 then 1 else 0) ms
 abbrev passes : (Item → Bool) → List Marked → Bool
 passes test ms = some (λ m. m .0 && test (m .1)) ms
 
-none-step : (test : Item → Bool) (b : Bool) (i : Item) (rest : List Marked) → (marks rest ≡ 0 → passes test rest ≡ false) → marks ((b, i) ∷ rest) ≡ 0 → passes test ((b, i) ∷ rest) ≡ false
+none-step :
+    (test : Item → Bool) (b : Bool) (i : Item) (rest : List Marked) → (marks rest ≡ 0 → passes test rest ≡ false) → marks ((b, i) ∷ rest) ≡ 0
+    → passes test ((b, i) ∷ rest) ≡ false
 none-step test true i rest ih e = absurd (omega arith)
 none-step test false i rest ih e = ih (omega arith)
 
@@ -35,7 +37,8 @@ none-marked test [] e = refl
 none-marked test (m ∷ rest) e = none-step test (m .0) (m .1) rest (none-marked test rest) e
 
 drop-step :
-    (test : Item → Bool) (b : Bool) (i : Item) (rest : List Marked) → (passes test rest ≡ true → marks (dropLast test rest) + 1 ≡ marks rest) → passes test ((b, i) ∷ rest) ≡ true
+    (test : Item → Bool) (b : Bool) (i : Item) (rest : List Marked) → (passes test rest ≡ true → marks (dropLast test rest) + 1 ≡ marks rest)
+    → passes test ((b, i) ∷ rest) ≡ true
     → marks (dropLast test ((b, i) ∷ rest)) + 1 ≡ marks ((b, i) ∷ rest)
 unfolding dropLast
 drop-step test false i rest ih e = simp e (omega (arith, ih e))
@@ -77,7 +80,8 @@ settling-done day h waiting = rounds-done h (length waiting) (taken day waiting)
 
 -- a test that follows from another passes where the other does
 passes-step :
-    (p q : Item → Bool) → ((i : Item) → p i ≡ true → q i ≡ true) → (b : Bool) (i : Item) (rest : List Marked) → (passes p rest ≡ true → passes q rest ≡ true) → passes p ((b, i) ∷ rest) ≡ true
+    (p q : Item → Bool) → ((i : Item) → p i ≡ true → q i ≡ true) → (b : Bool) (i : Item) (rest : List Marked) → (passes p rest ≡ true → passes q rest ≡ true)
+    → passes p ((b, i) ∷ rest) ≡ true
     → passes q ((b, i) ∷ rest) ≡ true
 passes-step p q f false i rest ih e = ih e
 passes-step p q f true i rest ih e = go (p i) refl
@@ -161,7 +165,8 @@ module _ (h : Holdings) (ms : List Marked) where
 -- ---- what each round keeps, the rounds keep
 
 rounds-keep :
-    (P : List Marked → Type 0) → ((test : Item → Bool) (ms : List Marked) → P ms → P (dropLast test ms)) → (n : ℕ) (h : Holdings) (ms : List Marked) → P ms → P (rounds n h ms)
+    (P : List Marked → Type 0) → ((test : Item → Bool) (ms : List Marked) → P ms → P (dropLast test ms)) → (n : ℕ) (h : Holdings) (ms : List Marked) → P ms
+    → P (rounds n h ms)
 unfolding rounds
 rounds-keep P f zero h ms p = p
 rounds-keep P f (suc n) h ms p = go (anyShort h ms) refl (rounds-keep P f n h (dropLast (debitsShort h ms) ms) (f (debitsShort h ms) ms p))
@@ -236,7 +241,8 @@ module _ (P : Item → Type 0) where
   settling-fits book e = settling-each Of (λ b i p. p) book (each-map P Of _ (λ i p. p) book.waiting e)
 
   part-fits : (test : Marked → Bool) (book : Ledger) → Each P book.waiting → Each P (map (λ m. m .1) (keep test (settling book)))
-  part-fits test book e = each-map Of P (λ m. m .1) (λ m p. p) (keep test (settling book)) (each-kept Of Of test (λ m t p. p) (settling book) (settling-fits book e))
+  part-fits test book e =
+      each-map Of P (λ m. m .1) (λ m p. p) (keep test (settling book)) (each-kept Of Of test (λ m t p. p) (settling book) (settling-fits book e))
 
   pub settled-fits : (book : Ledger) → Each P book.waiting → Each P (settled book)
   unfolding settled withMark

@@ -40,7 +40,9 @@ outs-one c v (x ∷ rest) e = go (x.code is c) refl (outs-one c v rest)
 pub outs-other : (s c v : ℕ) → (c is s) ≡ false → (xs : List Security) → outs s (map (changed c v) xs) ≡ outs s xs
 outs-other s c v n xs = total-map _ _ (changed c v) (λ x. go x (x.code is c) refl) xs
   where
-    go : (x : Security) (t : Bool) → (x.code is c) ≡ t → (if changed c v x .code is s then changed c v x .outside .0 else 0) ≡ (if x.code is s then x.outside.0 else 0)
+    go :
+        (x : Security) (t : Bool) → (x.code is c) ≡ t → (if changed c v x .code is s then changed c v x .outside .0 else 0)
+        ≡ (if x.code is s then x.outside.0 else 0)
     go x true p =
         let q : (x.code is s) ≡ false = subst (λ (k : ℕ). (k is s) ≡ false) (sym (eqb-true x.code c p)) n in
         simp (p, q)
@@ -70,7 +72,8 @@ unknown c (x ∷ rest) e = go (x.code is c) refl (unknown c rest)
     go false p ih = simp p (omega (arith, ih (simp p at e)))
 
 -- a new code
-pub new-count : (c k : ℕ) (xs : List Security) (new : Security) → new.code ≡ c → withCode c xs ≡ 0 → ((j : ℕ) → withCode j xs ≤ 1) → withCode k (xs ++ (new ∷ [])) ≤ 1
+pub new-count :
+    (c k : ℕ) (xs : List Security) (new : Security) → new.code ≡ c → withCode c xs ≡ 0 → ((j : ℕ) → withCode j xs ≤ 1) → withCode k (xs ++ (new ∷ [])) ≤ 1
 new-count c k xs new e z d = simp total-append (go (new.code is k) refl)
   where
     go : (t : Bool) → (new.code is k) ≡ t → withCode k xs + ((if new.code is k then 1 else 0) + 0) ≤ 1
@@ -98,6 +101,7 @@ module _ (s : ℕ) where
   booked-issued ms h =
       booked-puts (λ k. issuedOf s k ≡ issuedOf s h) (λ a v k e. e) (λ c v k e. (unfold issuedOf in outside-issued c v k) ∙ e) (λ m c v k e. e) ms h refl
 
-  pub new-issued : (h : Holdings) (new : Security) → issuedOf s (putSecurities (h.securities ++ (new ∷ [])) h) ≡ issuedOf s h + (if new.code is s then new.issued.0 else 0)
+  pub new-issued :
+      (h : Holdings) (new : Security) → issuedOf s (putSecurities (h.securities ++ (new ∷ [])) h) ≡ issuedOf s h + (if new.code is s then new.issued.0 else 0)
   unfolding issuedOf putSecurities
   new-issued h new = simp total-append (omega arith)

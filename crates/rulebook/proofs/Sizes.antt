@@ -164,7 +164,9 @@ same-stays : (b c : Ledger) → c.holdings ≡ b.holdings → c.waiting ≡ b.wa
 same-stays b c e f s = record {
   securities = subst (λ (h : Holdings). length h.securities ≤ 32) (sym e) s.securities;
   items = subst (λ (ws : List Item). length ws ≤ 64) (sym f) s.items;
-  accounts = subst (λ (h : Holdings). h.accounts + length c.waiting ≤ 256) (sym e) (subst (λ (ws : List Item). b.holdings.accounts + length ws ≤ 256) (sym f) s.accounts);
+  accounts =
+      subst (λ (h : Holdings). h.accounts + length c.waiting ≤ 256) (sym e)
+      (subst (λ (ws : List Item). b.holdings.accounts + length ws ≤ 256) (sym f) s.accounts);
 }
 
 grows : {A : Type 0} → false ≡ true → A

@@ -73,10 +73,13 @@ module _ (b : Ledger) (o : Order) (z : Sizes b) where
       let new : Security = record { code = o.security; issued = o.quantity; outside = record { 0 = 0 } } in
       let h = putSecurities (b.holdings.securities ++ (new ∷ [])) b.holdings in
       let ms = move (type90 o.security) (type91 o.security) o.quantity.0 ∷ [] in
-      let l : length (booked ms h .securities) ≡ securities + 1 = booked-listed ms h ∙ (unfold putSecurities in length-append b.holdings.securities (new ∷ [])) in
+      let l : length (booked ms h .securities) ≡ securities + 1 =
+      booked-listed ms h ∙ (unfold putSecurities in length-append b.holdings.securities (new ∷ [])) in
       let a : booked ms h .accounts ≡ accounts = unfold booked credits debits credit debit putOutside putSecurities in refl in
       let s = space-is 2 b o e (putHoldings (booked ms h) b) refl (securities + 1) items accounts l refl a in
-      s ∙ simp (le-ltb 64 items z.items, le-ltb 256 (accounts + items) z.accounts) (or-no (32 below (securities + 1)) ∙ below-same 32 (securities + 1) 31 securities (λ l. omega arith) (λ l. omega arith))
+      s
+      ∙ simp (le-ltb 64 items z.items, le-ltb 256 (accounts + items) z.accounts)
+      (or-no (32 below (securities + 1)) ∙ below-same 32 (securities + 1) 31 securities (λ l. omega arith) (λ l. omega arith))
     where
       or-no : (x : Bool) → (x || false || false) ≡ x
       or-no true = refl
@@ -89,7 +92,13 @@ module _ (b : Ledger) (o : Order) (z : Sizes b) where
       let new = itemOf (Trade o.reference) o in
       let l : length (b.waiting ++ (new ∷ [])) ≡ items + 1 = length-append b.waiting (new ∷ []) in
       let s = space-is 14 b o e (putWaiting (b.waiting ++ (new ∷ [])) b) refl securities (items + 1) accounts refl l refl in
-      s ∙ simp (le-ltb 32 securities z.securities, below-same 64 (items + 1) 63 items (λ l. omega arith) (λ l. omega arith), below-same 256 (accounts + (items + 1)) 255 (accounts + items) (λ l. omega arith) (λ l. omega arith))
+      s
+      ∙ simp (
+        le-ltb 32 securities z.securities,
+        below-same 64 (items + 1) 63 items (λ l. omega arith) (λ l. omega arith),
+        below-same 256
+            (accounts + (items + 1)) 255 (accounts + items) (λ l. omega arith) (λ l. omega arith),
+      )
 
   -- 12 and 13. an item more, where none pairs with it
 
@@ -124,15 +133,23 @@ module _ (b : Ledger) (o : Order) (z : Sizes b) where
           let p : items + 0 ≡ items = omega arith in
           rw p (simp (le-ltb 32 securities z.securities, le-ltb 64 items z.items, le-ltb 256 (accounts + items) z.accounts))
       by false =
-          simp (le-ltb 32 securities z.securities, below-same 64 (items + 1) 63 items (λ l. omega arith) (λ l. omega arith), below-same 256 (accounts + (items + 1)) 255 (accounts + items) (λ l. omega arith) (λ l. omega arith))
+          simp (
+            le-ltb 32 securities z.securities,
+            below-same 64 (items + 1) 63 items (λ l. omega arith) (λ l. omega arith),
+            below-same 256
+                (accounts + (items + 1)) 255 (accounts + items) (λ l. omega arith) (λ l. omega arith),
+          )
 
       at : (n : ℕ) → o.form ≡ n → rowOf n .effect b o .after ≡ putWaiting (arrive limit arriving b.waiting) b
           → noSpace b o ≡ (not matched && (63 below items || 255 below (accounts + items)))
       at n e f =
-          space-is n b o e (putWaiting (arrive limit arriving b.waiting) b) f securities (items + (if matched then 0 else 1)) accounts refl (arrive-length limit arriving b.waiting) refl
+          space-is n b o e (putWaiting (arrive limit arriving b.waiting) b) f securities (items + (if matched then 0 else 1)) accounts refl
+          (arrive-length limit arriving b.waiting) refl
           ∙ by matched
 
-      go : (x : Bool) → (o.form is 12) ≡ x → (o.form is 12 || (o.form is 13 || false)) ≡ true → noSpace b o ≡ (not matched && (63 below items || 255 below (accounts + items)))
+      go :
+          (x : Bool) → (o.form is 12) ≡ x → (o.form is 12 || (o.form is 13 || false)) ≡ true → noSpace b o
+          ≡ (not matched && (63 below items || 255 below (accounts + items)))
       go true p q = at 12 (eqb-true o.form 12 p) refl
       go false p q = at 13 (eqb-true o.form 13 (last (o.form is 13) (simp p at q))) refl
         where
@@ -155,7 +172,13 @@ module _ (b : Ledger) (o : Order) (z : Sizes b) where
   opens-by true p =
       let c : counted (has to) ≡ 0 = ap counted (eqb-true (has to) 0 p) ∙ counted-none in
       let q : accounts + 1 - counted (has to) ≡ accounts + 1 = omega (arith, c) in
-      rw q (simp (le-ltb 32 securities z.securities, le-ltb 64 items z.items, below-same 256 (accounts + 1 + items) 255 (accounts + items) (λ l. omega arith) (λ l. omega arith)))
+      rw q
+      (simp (
+        le-ltb 32 securities z.securities,
+        le-ltb 64 items z.items,
+        below-same 256 (accounts + 1 + items) 255 (accounts + items) (λ l. omega arith)
+            (λ l. omega arith),
+      ))
   opens-by false p =
       let n = eqb-false (has to) 0 p in
       let c = counted-some (has to) (omega (arith, n)) in
@@ -170,7 +193,8 @@ module _ (b : Ledger) (o : Order) (z : Sizes b) where
       unfold booked credits debits credit debit putOutside putSecurities putBalance in refl
       in
       let c = counted-some (has to + o.quantity.0) (omega arith) in
-      space-is 3 b o e (putHoldings (booked ms b.holdings) b) refl securities items (accounts + 1 - counted (has to)) (booked-listed ms b.holdings) refl (a ∙ ap (λ (k : ℕ). accounts + k - counted (has to)) c)
+      space-is 3 b o e (putHoldings (booked ms b.holdings) b) refl securities items (accounts + 1 - counted (has to)) (booked-listed ms b.holdings) refl
+      (a ∙ ap (λ (k : ℕ). accounts + k - counted (has to)) c)
       ∙ opens-by (has to is 0) refl
 
   -- 5 to 9. the same, where the debited one keeps a balance
@@ -183,7 +207,13 @@ module _ (b : Ledger) (o : Order) (z : Sizes b) where
       let d : has from - o.quantity.0 ≡ 0 = omega (arith, m) in
       let c : counted (has from - o.quantity.0) ≡ 0 = ap counted d ∙ counted-none in
       let k : accounts + 1 - counted (has to) + counted (has from - o.quantity.0) - 1 ≤ accounts = omega (arith, c) in
-      simp (le-ltb 32 securities z.securities, le-ltb 64 items z.items, le-ltb 256 (accounts + 1 - counted (has to) + counted (has from - o.quantity.0) - 1 + items) (omega (arith, k, z.accounts)), and-false)
+      simp (
+        le-ltb 32 securities z.securities,
+        le-ltb 64 items z.items,
+        le-ltb 256
+            (accounts + 1 - counted (has to) + counted (has from - o.quantity.0) - 1 + items) (omega (arith, k, z.accounts)),
+        and-false,
+      )
   shift-by false p l =
       let m = eqb-false (has from) o.quantity.0 p in
       let c = counted-some (has from - o.quantity.0) (omega (arith, m)) in
@@ -245,10 +275,16 @@ module _ (b : Ledger) (o : Order) where
       go : (x y : Bool) → (x || false || false || y) ≡ false → y ≡ false
       go true y p = absurd (false≢true (sym p))
       go false y p = p
-  shift-apart (suc zero) l e t w = types-apart credited debited (is-sym o.credited.typ o.debited.typ ∙ put-in-apart o.debited.typ o.credited.typ (pledge-types o.debited.typ o.credited.typ (right-types 6 b o e t)))
-  shift-apart (suc (suc zero)) l e t w = types-apart credited debited (put-in-apart o.credited.typ o.debited.typ (release-types o.debited.typ o.credited.typ (right-types 7 b o e t)))
-  shift-apart (suc (suc (suc zero))) l e t w = types-apart credited debited (is-sym o.credited.typ o.debited.typ ∙ put-in-apart o.debited.typ o.credited.typ (block-types o.debited.typ o.credited.typ (right-types 8 b o e t)))
-  shift-apart (suc (suc (suc (suc zero)))) l e t w = types-apart credited debited (put-in-apart o.credited.typ o.debited.typ (unblock-types o.debited.typ o.credited.typ (right-types 9 b o e t)))
+  shift-apart (suc zero) l e t w =
+      types-apart credited debited
+      (is-sym o.credited.typ o.debited.typ ∙ put-in-apart o.debited.typ o.credited.typ (pledge-types o.debited.typ o.credited.typ (right-types 6 b o e t)))
+  shift-apart (suc (suc zero)) l e t w =
+      types-apart credited debited (put-in-apart o.credited.typ o.debited.typ (release-types o.debited.typ o.credited.typ (right-types 7 b o e t)))
+  shift-apart (suc (suc (suc zero))) l e t w =
+      types-apart credited debited
+      (is-sym o.credited.typ o.debited.typ ∙ put-in-apart o.debited.typ o.credited.typ (block-types o.debited.typ o.credited.typ (right-types 8 b o e t)))
+  shift-apart (suc (suc (suc (suc zero)))) l e t w =
+      types-apart credited debited (put-in-apart o.credited.typ o.debited.typ (unblock-types o.debited.typ o.credited.typ (right-types 9 b o e t)))
   shift-apart (suc (suc (suc (suc (suc k))))) l e t w = absurd (omega arith)
 
   pub sides-apart : 5 ≤ o.form → o.form ≤ 9 → wrongPair o ≡ false → wrongParties o ≡ false → sameAccount credited debited ≡ false

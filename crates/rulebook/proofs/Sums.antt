@@ -48,7 +48,8 @@ module _ (s : ℕ) where
       sum-same (2 ^ 10) _ _
       (λ m _. sum-same (2 ^ 8) _ _ (λ t _. sum-add (2 ^ 30) (λ k. f (at m t k)) (λ k. g (at m t k)))
       ∙ sum-add (2 ^ 8) (λ t. sumBelow (2 ^ 30) (λ k. f (at m t k))) (λ t. sumBelow (2 ^ 30) (λ k. g (at m t k))))
-      ∙ sum-add (2 ^ 10) (λ m. sumBelow (2 ^ 8) (λ t. sumBelow (2 ^ 30) (λ k. f (at m t k)))) (λ m. sumBelow (2 ^ 8) (λ t. sumBelow (2 ^ 30) (λ k. g (at m t k))))
+      ∙ sum-add (2 ^ 10) (λ m. sumBelow (2 ^ 8) (λ t. sumBelow (2 ^ 30) (λ k. f (at m t k))))
+      (λ m. sumBelow (2 ^ 8) (λ t. sumBelow (2 ^ 30) (λ k. g (at m t k))))
     where
       at : (m t k : ℕ) → Account
       at m t k = record { security = s; member = m; typ = t; shareholder = k }

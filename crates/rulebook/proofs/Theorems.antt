@@ -32,7 +32,9 @@ wrote : (o : Order) (area : List ℕ) → writtenOf o area ≡ Written.Record �
 unfolding writtenOf
 wrote o area e = go (writeRefusal o area is 0) refl e
   where
-    go : (t : Bool) → (writeRefusal o area is 0) ≡ t → (if t then Written.Record else Written.Refused (writeRefusal o area)) ≡ Written.Record → writeRefusal o area ≡ 0
+    go :
+        (t : Bool) → (writeRefusal o area is 0) ≡ t → (if t then Written.Record else Written.Refused (writeRefusal o area)) ≡ Written.Record
+        → writeRefusal o area ≡ 0
     go true p q = eqb-true _ 0 p
     go false p q = cc
 

@@ -27,8 +27,11 @@ orderOf fields = record {
   minute = getD fields Field.minute 0;
   security = getD fields Field.security 0;
   currency = getD fields Field.currency 0;
-  debited = record { member = getD fields Field.debited-member 0; typ = getD fields Field.debited-type 0; shareholder = getD fields Field.debited-shareholder 0 };
-  credited = record { member = getD fields Field.credited-member 0; typ = getD fields Field.credited-type 0; shareholder = getD fields Field.credited-shareholder 0 };
+  debited =
+      record { member = getD fields Field.debited-member 0; typ = getD fields Field.debited-type 0; shareholder = getD fields Field.debited-shareholder 0 };
+  credited =
+      record
+      { member = getD fields Field.credited-member 0; typ = getD fields Field.credited-type 0; shareholder = getD fields Field.credited-shareholder 0 };
   quantity = record { 0 = getD fields Field.quantity 0 };
   amount = record { 0 = getD fields Field.amount 0 };
   «trade_day» = getD fields Field.trade-day 0;

@@ -108,14 +108,16 @@ kind-most day item (Pair d r dm rm) = at-most (day is (item.«settlement_day» +
 kind-most day item (Trade r) = at-most (item.«settlement_day» atMost day) 3 (omega arith)
 
 gone-sides :
-    (day : ℕ) (ws : List Item) → sides (keep (deletedAtClose day) (keep (leaves day) ws)) + sides (keep (suspendedAtClose day) (keep (leaves day) ws)) ≡ sides (keep (leaves day) ws)
+    (day : ℕ) (ws : List Item) → sides (keep (deletedAtClose day) (keep (leaves day) ws)) + sides (keep (suspendedAtClose day) (keep (leaves day) ws))
+    ≡ sides (keep (leaves day) ws)
 unfolding leaves deletedAtClose suspendedAtClose sides withState
 gone-sides day [] = refl
 gone-sides day (w ∷ rest) = go (closeKind day w) refl (kind-most day w w.state) (gone-sides day rest)
   where
     go :
         (k : ℕ) → closeKind day w ≡ k → closeKind day w ≤ 3
-        → sides (keep (deletedAtClose day) (keep (leaves day) rest)) + sides (keep (suspendedAtClose day) (keep (leaves day) rest)) ≡ sides (keep (leaves day) rest)
+        → sides (keep (deletedAtClose day) (keep (leaves day) rest)) + sides (keep (suspendedAtClose day) (keep (leaves day) rest))
+        ≡ sides (keep (leaves day) rest)
         → sides (keep (deletedAtClose day) (keep (leaves day) (w ∷ rest))) + sides (keep (suspendedAtClose day) (keep (leaves day) (w ∷ rest)))
         ≡ sides (keep (leaves day) (w ∷ rest))
     go zero e h ih = simp e ih
@@ -126,7 +128,8 @@ gone-sides day (w ∷ rest) = go (closeKind day w) refl (kind-most day w w.state
 
 close-sides :
     (day : ℕ) (ws : List Item)
-    → sides (keep (deletedAtClose day) (keep (leaves day) ws)) + sides (keep (suspendedAtClose day) (keep (leaves day) ws)) + sides (map unmarked (keep (λ w. not (leaves day w)) ws))
+    → sides (keep (deletedAtClose day) (keep (leaves day) ws)) + sides (keep (suspendedAtClose day) (keep (leaves day) ws)) + sides
+    (map unmarked (keep (λ w. not (leaves day w)) ws))
     ≡ sides ws
 close-sides day ws =
     let a = gone-sides day ws in
@@ -182,7 +185,8 @@ effect-keeps b o = by-form (λ n f. Keeps f.takes f.effect) forms-keep (λ m non
 
 list-keeps :
     (calls : List Call)
-    → sum (λ c. takesIn c.order) (callsOn fresh calls) + sides (fresh .waiting) ≡ sum (λ c. gone c.counts) (callsOn fresh calls) + sides (bookAfter fresh calls .waiting)
+    → sum (λ c. takesIn c.order) (callsOn fresh calls) + sides (fresh .waiting)
+    ≡ sum (λ c. gone c.counts) (callsOn fresh calls) + sides (bookAfter fresh calls .waiting)
 unfolding putMinute putDay
 list-keeps calls =
     by-call (λ b. Unit {0}) (λ b. sides b.waiting) (λ c. takesIn c.order) (λ c. gone c.counts) (λ b o bytes area i e f. (tt, effect-keeps b o)) fresh tt calls

@@ -39,7 +39,9 @@ module _
     unfolding putMinute putDay
     list-step b o bytes area p e z = (unfold putMinute putDay in order-premise b o bytes p e z, law b o area (order-step b o bytes p e z))
 
-    pub by-step : keeps (fresh .holdings) ≡ 0 → (calls : List Call) → keeps (bookAfter fresh calls .holdings) + sum goes (callsOn fresh calls) ≡ sum comes (callsOn fresh calls)
+    pub by-step :
+        keeps (fresh .holdings) ≡ 0 → (calls : List Call) → keeps (bookAfter fresh calls .holdings) + sum goes (callsOn fresh calls)
+        ≡ sum comes (callsOn fresh calls)
     by-step z calls = omega (arith, z, by-call Premise (λ b. keeps b.holdings) comes goes list-step fresh fresh-premise calls)
 
 -- held is deposits less withdrawals
@@ -47,7 +49,8 @@ pub custody : (s : ℕ) (calls : List Call) → held s (bookAfter fresh calls .h
 unfolding withdrawals deposits
 custody s =
     by-step (held s) (sharesOf 3 s) (sharesOf 4 s)
-    (λ b o area t. unfold sharesOf in omega (arith, held-exact s (t .moves) b.holdings (effect b o .after .holdings) (t .proper) (t .changes), t .figures .held s))
+    (λ b o area t. unfold sharesOf in omega
+    (arith, held-exact s (t .moves) b.holdings (effect b o .after .holdings) (t .proper) (t .changes), t .figures .held s))
     (none-held s)
 
 -- the issued count is what was admitted
@@ -65,7 +68,8 @@ pub cash : (c : ℕ) (calls : List Call) → cashTotal c (bookAfter fresh calls 
 unfolding payOuts payIns
 cash c =
     by-step (cashTotal c) (cashOfForm 10 c) (cashOfForm 11 c)
-    (λ b o area t. unfold cashOfForm in omega (arith, cash-exact (t .moves) b.holdings (effect b o .after .holdings) (t .proper) (t .changes) c, t .figures .cash c))
+    (λ b o area t. unfold cashOfForm in omega
+    (arith, cash-exact (t .moves) b.holdings (effect b o .after .holdings) (t .proper) (t .changes) c, t .figures .cash c))
     (none-paid c)
 
 T-true : (t : Bool) → T t → t ≡ true

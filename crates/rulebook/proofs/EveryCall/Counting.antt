@@ -40,4 +40,5 @@ listed-counted xs h e = e
 pub step-counted : (n : ℕ) (b : Ledger) (o : Order) (x : Outcome) → Step n b o x → Counted b.holdings → Counted x.after.holdings
 step-counted n b o x t e =
     subst Counted (sym (t .holds))
-    (booked-keeps Proper Counted (λ q n h. unfold credit in put-counted q _ h) (λ q n h. unfold debit in put-counted q _ h) (t .moves) (both-proper (t .moves) (t .proper)) (putSecurities (t .listed) b.holdings) (listed-counted (t .listed) b.holdings e))
+    (booked-keeps Proper Counted (λ q n h. unfold credit in put-counted q _ h) (λ q n h. unfold debit in put-counted q _ h) (t .moves)
+    (both-proper (t .moves) (t .proper)) (putSecurities (t .listed) b.holdings) (listed-counted (t .listed) b.holdings e))

@@ -59,7 +59,8 @@ deliver-not-receive (Trade r) e = refl
 
 -- which of the two is the deliver
 pub pairs :
-    (A : Type 0) (limit : ℕ) (new w : Item) → pairsWith limit new w ≡ true → (isDeliver w.state ≡ true → Agreed w new → A) → (isDeliver w.state ≡ false → Agreed new w → A)
+    (A : Type 0) (limit : ℕ) (new w : Item) → pairsWith limit new w ≡ true → (isDeliver w.state ≡ true → Agreed w new → A)
+    → (isDeliver w.state ≡ false → Agreed new w → A)
     → A
 unfolding pairsWith
 pairs A limit new w e f g = go (isDeliver w.state) refl
@@ -82,14 +83,16 @@ pairs A limit new w e f g = go (isDeliver w.state) refl
 
 -- what holds of the arriving single and of each that waits holds of each after it, if it holds of a pair of two that agree
 pub arrive-each :
-    (P : Item → Type 0) → ((d r : Item) → Agreed d r → P d → P r → P (pairOf d r)) → (limit : ℕ) (new : Item) → P new → (ws : List Item) → Each P ws → Each P (arrive limit new ws)
+    (P : Item → Type 0) → ((d r : Item) → Agreed d r → P d → P r → P (pairOf d r)) → (limit : ℕ) (new : Item) → P new → (ws : List Item) → Each P ws
+    → Each P (arrive limit new ws)
 unfolding arrive
 arrive-each P pair limit new f [] e = (f, tt)
 arrive-each P pair limit new f (w ∷ rest) e = go (pairsWith limit new w) refl (arrive-each P pair limit new f rest (e .1))
   where
     paired : pairsWith limit new w ≡ true → P (if isDeliver w.state then pairOf w new else pairOf new w)
     paired p =
-        pairs (P (if isDeliver w.state then pairOf w new else pairOf new w)) limit new w p (λ q a. simp q (pair w new a (e .0) f)) (λ q a. simp q (pair new w a f (e .0)))
+        pairs (P (if isDeliver w.state then pairOf w new else pairOf new w)) limit new w p (λ q a. simp q (pair w new a (e .0) f))
+        (λ q a. simp q (pair new w a f (e .0)))
 
     go : (b : Bool) → pairsWith limit new w ≡ b → Each P (arrive limit new rest) → Each P (arrive limit new (w ∷ rest))
     go true p ih = simp p (each-append P rest _ (e .1) (paired p, tt))
@@ -117,7 +120,8 @@ item-state n n′ t t′ h h′ l a i x s d f = record {
 
 -- in its own state
 pub item-later :
-    (n n′ t t′ : ℕ) (h h′ : Holdings) → n ≤ n′ → t′ ≡ t → ((c : ℕ) → admitted c h ≡ true → admitted c h′ ≡ true) → (i : Item) → ItemFits n t h i → ItemFits n′ t′ h′ i
+    (n n′ t t′ : ℕ) (h h′ : Holdings) → n ≤ n′ → t′ ≡ t → ((c : ℕ) → admitted c h ≡ true → admitted c h′ ≡ true) → (i : Item) → ItemFits n t h i
+    → ItemFits n′ t′ h′ i
 unfolding withState
 item-later n n′ t t′ h h′ l e a i f =
     item-state n n′ t t′ h h′ l a i i.state f.state (subst (λ (x : ℕ). NotOverdue x i.«settlement_day» i.state) (sym e) f.due) f
@@ -144,7 +148,8 @@ marked-fits n t h sender i f =
     let m = mark-state t sender i i.state f.state f.due in
     item-state n n t t h h (omega arith) (λ c e. e) i (marked sender i .state) (m .0) (m .1) f
 
-pub marking-fits : (n t : ℕ) (h : Holdings) (sender reference : ℕ) (ws : List Item) → Each (ItemFits n t h) ws → Each (ItemFits n t h) (marking sender reference ws)
+pub marking-fits :
+    (n t : ℕ) (h : Holdings) (sender reference : ℕ) (ws : List Item) → Each (ItemFits n t h) ws → Each (ItemFits n t h) (marking sender reference ws)
 unfolding marking
 marking-fits n t h sender reference ws e = each-map (ItemFits n t h) (ItemFits n t h) _ (λ i f. go i (sentBy sender reference i) f) ws e
   where
@@ -235,7 +240,8 @@ pair-fits n t h d r a f g =
     }
 
 pub arrive-fits :
-    (n t : ℕ) (h : Holdings) (limit : ℕ) (new : Item) → ItemFits n t h new → (ws : List Item) → Each (ItemFits n t h) ws → Each (ItemFits n t h) (arrive limit new ws)
+    (n t : ℕ) (h : Holdings) (limit : ℕ) (new : Item) → ItemFits n t h new → (ws : List Item) → Each (ItemFits n t h) ws
+    → Each (ItemFits n t h) (arrive limit new ws)
 arrive-fits n t h = arrive-each (ItemFits n t h) (pair-fits n t h)
 
 -- ---- what a posting row can say of it

@@ -53,23 +53,30 @@ owned-of b p = record { securities = p.securities; accounts = p.accounts; cash =
 -- forms that move shares or cash
 
 moving-kept :
-    (b : Ledger) (minute : ℕ) (ms : List Movement) → Owned b.holdings → Waiting b b.waiting → Once b.waiting → Each Half b.waiting → DayAt minute b → AllGet b.holdings ms
+    (b : Ledger) (minute : ℕ) (ms : List Movement) → Owned b.holdings → Waiting b b.waiting → Once b.waiting → Each Half b.waiting → DayAt minute b
+    → AllGet b.holdings ms
     → Kept minute (moving ms b .after)
 unfolding moving outcome putHoldings putMinute putDay
 moving-kept b minute ms w i r v d g = record {
   owned = booked-owned ms b.holdings g w;
-  items = each-so _ _ (item-later b.day.number b.day.number (today b.day) (today b.day) b.holdings (booked ms b.holdings) (omega arith) refl (booked-admitted ms b.holdings)) b.waiting i;
+  items =
+      each-so _ _
+      (item-later b.day.number b.day.number (today b.day) (today b.day) b.holdings (booked ms b.holdings) (omega arith) refl (booked-admitted ms b.holdings))
+      b.waiting i;
   references = r;
   halves = v;
   day = d;
 }
 
-moves : (n : ℕ) → (n is 17) ≡ false → (b : Ledger) (o : Order) (ms : List Movement) → o.form ≡ n → Premise b → Accepted b o → AllGet b.holdings ms → Kept o.minute (moving ms b .after)
+moves :
+    (n : ℕ) → (n is 17) ≡ false → (b : Ledger) (o : Order) (ms : List Movement) → o.form ≡ n → Premise b → Accepted b o → AllGet b.holdings ms
+    → Kept o.minute (moving ms b .after)
 moves n l b o ms e p a g = moving-kept b o.minute ms (owned-of b p) p.items p.references p.halves (same-day n b o e l p.day a) g
 
 -- the credited account
 credited-fits :
-    (n : ℕ) (b : Ledger) (o : Order) → o.form ≡ n → Accepted b o → (within 3 9 n || within 12 14 n) ≡ true → (n is 2) ≡ false → needs n Field.credited-member ≡ true → needs n Field.credited-shareholder ≡ true
+    (n : ℕ) (b : Ledger) (o : Order) → o.form ≡ n → Accepted b o → (within 3 9 n || within 12 14 n) ≡ true → (n is 2) ≡ false → needs n Field.credited-member
+    ≡ true → needs n Field.credited-shareholder ≡ true
     → (wrongTypes n o.debited.typ o.credited.typ ≡ false → accountType o.credited.typ ≡ true) → AccountFits b.holdings (accountOf o.security o.credited)
 unfolding accountOf admitted
 credited-fits n b o e a t t₂ u u₂ f =
@@ -93,7 +100,8 @@ unfolding withdraw
 withdraw-keeps b o e p a = moves 4 refl b o _ e p a (tt, tt)
 
 transfer-keeps :
-    (n : ℕ) → (n is 17) ≡ false → (within 3 9 n || within 12 14 n) ≡ true → (n is 2) ≡ false → needs n Field.credited-member ≡ true → needs n Field.credited-shareholder ≡ true
+    (n : ℕ) → (n is 17) ≡ false → (within 3 9 n || within 12 14 n) ≡ true → (n is 2) ≡ false → needs n Field.credited-member ≡ true
+    → needs n Field.credited-shareholder ≡ true
     → ((d c : ℕ) → wrongTypes n d c ≡ false → accountType c ≡ true) → Keeps n transfer
 unfolding transfer
 transfer-keeps n l t t₂ u u₂ f b o e p a = moves n l b o _ e p a (credited-fits n b o e a t t₂ u u₂ (f o.debited.typ o.credited.typ), tt)
@@ -136,7 +144,8 @@ admit-keeps b o e p a =
     }
     in
     moving-kept (putHoldings h b) o.minute _ w
-    (each-so _ _ (item-later b.day.number b.day.number (today b.day) (today b.day) b.holdings h (omega arith) refl (admit-more new b.holdings)) b.waiting p.items)
+    (each-so _ _ (item-later b.day.number b.day.number (today b.day) (today b.day) b.holdings h (omega arith) refl (admit-more new b.holdings)) b.waiting
+    p.items)
     p.references p.halves (unfold putMinute putDay in same-day 2 b o e refl p.day a) (tt, tt)
 
 -- forms that change what waits
@@ -148,12 +157,18 @@ waiting-kept b minute ws p d i r v = record { owned = owned-of b p; items = i; r
 instruct-keeps :
     (n : ℕ) → (n is 17) ≡ false → within 12 14 n ≡ true → (n is 15) ≡ false
     → ((b : Ledger) (o : Order) → Accepted b o → o.form ≡ n → ItemFits b.day.number (today b.day) b.holdings (single o))
-    → ((b : Ledger) (o : Order) → Accepted b o → o.form ≡ n → (s r : ℕ) → sentBy s r (single o) ≡ true → (s ≡ senderOf o) × (r ≡ o.reference)) → Keeps n instruct
+    → ((b : Ledger) (o : Order) → Accepted b o → o.form ≡ n → (s r : ℕ) → sentBy s r (single o) ≡ true → (s ≡ senderOf o) × (r ≡ o.reference))
+    → Keeps n instruct
 unfolding instruct silent outcome
 instruct-keeps n l t t₂ item sender b o e p a =
     waiting-kept b o.minute _ p (same-day n b o e l p.day a)
     (arrive-fits _ _ b.holdings (tolerance o.currency) (single o) (item b o a e) b.waiting p.items)
-    (λ s r. omega (arith, arrive-sent s r (tolerance o.currency) (single o) b.waiting, new-once (senderOf o) o.reference (single o) b.waiting p.references (none-waits b o n e t t₂ a.reference) (sender b o a e) s r))
+    (λ s r. omega (
+      arith,
+      arrive-sent s r (tolerance o.currency) (single o) b.waiting,
+      new-once (senderOf o) o.reference (single o) b.waiting p.references
+          (none-waits b o n e t t₂ a.reference) (sender b o a e) s r,
+    ))
     (arrive-halves (tolerance o.currency) (single o) (unfold bothMarked itemOf in refl) b.waiting p.halves)
 
 trade-keeps : Keeps 14 trade
@@ -162,14 +177,16 @@ trade-keeps b o e p a =
     let new = itemOf (Trade o.reference) o in
     waiting-kept b o.minute _ p (same-day 14 b o e refl p.day a)
     (each-append _ b.waiting _ p.items (trade-item b o a e, tt))
-    (λ s r. simp total-append (omega (arith, new-once (senderOf o) o.reference new b.waiting p.references (none-waits b o 14 e refl refl a.reference) (trade-sender b o a e) s r)))
+    (λ s r. simp total-append
+    (omega (arith, new-once (senderOf o) o.reference new b.waiting p.references (none-waits b o 14 e refl refl a.reference) (trade-sender b o a e) s r)))
     (each-append Half b.waiting _ p.halves ((unfold bothMarked itemOf in refl), tt))
 
 cancel-keeps : Keeps 15 cancel
 unfolding cancel outcome staying
 cancel-keeps b o e p a =
     waiting-kept b o.minute _ p (same-day 15 b o e refl p.day a)
-    (each-kept (ItemFits b.day.number (today b.day) b.holdings) (ItemFits b.day.number (today b.day) b.holdings) _ (λ i t f. f) (marking (senderOf o) o.reference b.waiting) (marking-fits _ _ b.holdings (senderOf o) o.reference b.waiting p.items))
+    (each-kept (ItemFits b.day.number (today b.day) b.holdings) (ItemFits b.day.number (today b.day) b.holdings) _ (λ i t f. f)
+    (marking (senderOf o) o.reference b.waiting) (marking-fits _ _ b.holdings (senderOf o) o.reference b.waiting p.items))
     (λ s r. omega (arith, cancel-sent s r (senderOf o) o.reference b.waiting, p.references s r))
     (kept-halves (marking (senderOf o) o.reference b.waiting))
 
@@ -181,7 +198,9 @@ open-keeps b o e p a =
     let c = opens-next b o e a.right-day .0 in
     record {
       owned = owned-of b p;
-      items = each-so _ _ (item-later b.day.number (b.day.number + 1) (today b.day) (b.day.number + 1) b.holdings b.holdings (omega arith) (simp c) (λ c e. e)) b.waiting p.items;
+      items =
+          each-so _ _ (item-later b.day.number (b.day.number + 1) (today b.day) (b.day.number + 1) b.holdings b.holdings (omega arith) (simp c) (λ c e. e))
+          b.waiting p.items;
       references = p.references;
       halves = p.halves;
       day = unfold openDay silent outcome in open-day b o e p.day a;
@@ -222,7 +241,12 @@ legs-get n t d h (i ∷ rest) e =
         shareholder = f.terms.credited-named.shareholder;
       },
       (
-        record { member-least = f.terms.debited-named.member-least; member-most = f.terms.debited-named.member; currency-least = f.terms.currency-least; currency-most = f.terms.currency-most },
+        record {
+          member-least = f.terms.debited-named.member-least;
+          member-most = f.terms.debited-named.member;
+          currency-least = f.terms.currency-least;
+          currency-most = f.terms.currency-most;
+        },
         legs-get n t d h rest (e .1),
       ),
     )
@@ -232,11 +256,16 @@ unfolding cycle outcome
 cycle-keeps b o e p a =
     let ms = legs (settled b) in
     let P : Item → Type 0 = ItemFits b.day.number (today b.day) b.holdings in
-    let g = legs-get b.day.number (today b.day) b.day.number b.holdings (settled b) (each-both P (Due b.day.number) (settled b) (settled-fits P b p.items) (settled-due b)) in
+    let g =
+    legs-get b.day.number (today b.day) b.day.number b.holdings (settled b)
+    (each-both P (Due b.day.number) (settled b) (settled-fits P b p.items) (settled-due b)) in
     record {
       owned = booked-owned ms b.holdings g (owned-of b p);
       items =
-          each-so _ _ (item-later b.day.number b.day.number (today b.day) (today b.day) b.holdings (booked ms b.holdings) (omega arith) refl (booked-admitted ms b.holdings)) (notSettled b)
+          each-so _ _
+          (item-later b.day.number b.day.number (today b.day) (today b.day) b.holdings (booked ms b.holdings) (omega arith) refl
+          (booked-admitted ms b.holdings))
+          (notSettled b)
           (notSettled-fits P b p.items);
       halves = notSettled-fits Half b p.halves;
       references = λ s r. omega (arith, cycle-sent s r b, p.references s r);
@@ -254,7 +283,8 @@ forms-keep =
     and transfer-keeps 7 refl refl refl refl refl (λ d c w. free-type c (release-types d c w .0))
     and transfer-keeps 8 refl refl refl refl refl (λ d c w. pledged-type c (block-types d c w .1))
     and transfer-keeps 9 refl refl refl refl refl (λ d c w. free-type c (unblock-types d c w .0))
-    and payIn-keeps and payOut-keeps and instruct-keeps 12 refl refl refl deliver-item deliver-sender and instruct-keeps 13 refl refl refl receive-item receive-sender and trade-keeps and cancel-keeps and cycle-keeps and close-keeps and tt
+    and payIn-keeps and payOut-keeps and instruct-keeps 12 refl refl refl deliver-item deliver-sender and instruct-keeps 13 refl refl refl receive-item
+    receive-sender and trade-keeps and cancel-keeps and cycle-keeps and close-keeps and tt
 
 -- no order that was read has another form
 pub effect-keeps : (b : Ledger) (o : Order) → Premise b → Accepted b o → Kept o.minute (effect b o .after)

@@ -37,8 +37,10 @@ module _ (n : ℕ) (b : Ledger) (o : Order) (e : o.form ≡ n) (a : Accepted b o
   order-reference = record { least = a.ranges.reference (field Field.reference refl); most = a.fits.reference }
 
   order-item :
-      (x : State) → (within 3 9 n || within 12 14 n) ≡ true → (n is 2) ≡ false → o.«trade_day» ≤ b.day.number → o.«trade_day» ≤ o.«settlement_day» → o.«settlement_day» ≤ b.day.number + 20
-      → StateFits o.security o.debited o.credited x → NotOverdue (today b.day) o.«settlement_day» x → ItemFits b.day.number (today b.day) b.holdings (itemOf x o)
+      (x : State) → (within 3 9 n || within 12 14 n) ≡ true → (n is 2) ≡ false → o.«trade_day» ≤ b.day.number → o.«trade_day» ≤ o.«settlement_day»
+      → o.«settlement_day» ≤ b.day.number + 20
+      → StateFits o.security o.debited o.credited x → NotOverdue (today b.day) o.«settlement_day» x
+      → ItemFits b.day.number (today b.day) b.holdings (itemOf x o)
   unfolding itemOf admitted
   order-item x t t₂ l₁ l₂ l₃ f g =
       let d = a.ranges.debited (field Field.debited-member refl) in
@@ -51,8 +53,22 @@ module _ (n : ℕ) (b : Ledger) (o : Order) (e : o.form ≡ n) (a : Accepted b o
           security-most = a.fits.security;
           currency-least = v .0;
           currency-most = v .1;
-          debited-named = record { member-least = d .0; member = d .1; shareholder-least = a.ranges.debited-holder (field Field.debited-shareholder refl); shareholder = a.fits.debited.shareholder };
-          credited-named = record { member-least = c .0; member = c .1; shareholder-least = a.ranges.credited-holder (field Field.credited-shareholder refl); shareholder = a.fits.credited.shareholder };
+          debited-named =
+              record {
+                member-least = d .0;
+                member = d .1;
+                shareholder-least = a.ranges.debited-holder (field Field.debited-shareholder refl);
+                shareholder =
+                    a.fits.debited.shareholder;
+              };
+          credited-named =
+              record {
+                member-least = c .0;
+                member = c .1;
+                shareholder-least = a.ranges.credited-holder (field Field.credited-shareholder refl);
+                shareholder =
+                    a.fits.credited.shareholder;
+              };
           quantity-least = a.ranges.quantity (field Field.quantity refl) .0;
           quantity-most = a.fits.quantity;
           amount-least = a.ranges.amount (field Field.amount refl);
@@ -81,7 +97,8 @@ record Instructs (n : ℕ) : Type 0 where
   not-2 : (n is 2) ≡ false
 
 single-item :
-    (n : ℕ) (b : Ledger) (o : Order) → o.form ≡ n → Accepted b o → Uses n → Instructs n → (if o.form is 12 then free o.debited.typ else free o.credited.typ) ≡ true
+    (n : ℕ) (b : Ledger) (o : Order) → o.form ≡ n → Accepted b o → Uses n → Instructs n → (if o.form is 12 then free o.debited.typ else free o.credited.typ)
+    ≡ true
     → (if o.form is 12 then o.credited.typ else o.debited.typ) ≡ 0 → ItemFits b.day.number (today b.day) b.holdings (single o)
 single-item n b o e a u i own other =
     let p = instruct-parties b o n e (i .not-5-9) (i .is-12-13) (i .not-6-9) (i .not-5-14) a.parties in
@@ -103,14 +120,16 @@ module _ (b : Ledger) (o : Order) (a : Accepted b o) where
   deliver-item e =
       single-item 12 b o e a (refl and refl and refl and refl and refl and refl and refl and refl and refl and refl and tt)
       (record { not-5-9 = refl; not-6-9 = refl; is-12-13 = refl; not-5-14 = refl; not-14 = refl; not-1 = refl; names = refl; not-2 = refl })
-      (simp e (deliver-free o.debited.typ o.credited.typ (right-types 12 b o e a.types))) (simp e (a.ranges.no-credited-type (uses 12 Field.credited-type o e false refl)))
+      (simp e (deliver-free o.debited.typ o.credited.typ (right-types 12 b o e a.types)))
+      (simp e (a.ranges.no-credited-type (uses 12 Field.credited-type o e false refl)))
 
   pub receive-item : o.form ≡ 13 → ItemFits b.day.number (today b.day) b.holdings (single o)
   unfolding used least forms rowOf
   receive-item e =
       single-item 13 b o e a (refl and refl and refl and refl and refl and refl and refl and refl and refl and refl and tt)
       (record { not-5-9 = refl; not-6-9 = refl; is-12-13 = refl; not-5-14 = refl; not-14 = refl; not-1 = refl; names = refl; not-2 = refl })
-      (simp e (receive-free o.debited.typ o.credited.typ (right-types 13 b o e a.types))) (simp e (a.ranges.no-debited-type (uses 13 Field.debited-type o e false refl)))
+      (simp e (receive-free o.debited.typ o.credited.typ (right-types 13 b o e a.types)))
+      (simp e (a.ranges.no-debited-type (uses 13 Field.debited-type o e false refl)))
 
   pub trade-item : o.form ≡ 14 → ItemFits b.day.number (today b.day) b.holdings (itemOf (Trade o.reference) o)
   unfolding used least forms rowOf

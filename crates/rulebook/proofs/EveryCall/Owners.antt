@@ -154,7 +154,8 @@ booked-owned ms h g o = record {
   securities = booked-fits ms h o.securities;
   accounts = λ a l.
       account-admitted h (booked ms h) (booked-admitted ms h) a
-      (either (AccountFits h a) (booked ms h .balance a) (h.balance a) (brought (account a) ms) (booked-most a ms h) l (o.accounts a) (brought-account h a ms g));
+      (either (AccountFits h a) (booked ms h .balance a) (h.balance a) (brought (account a) ms) (booked-most a ms h) l (o.accounts a)
+      (brought-account h a ms g));
   cash = λ m c l.
       either (CashFits m c) (booked ms h .cash m c) (h.cash m c) (brought (cashOf m c) ms) (booked-most-cash m c ms h) l (o.cash m c) (brought-cash h m c ms g);
 }

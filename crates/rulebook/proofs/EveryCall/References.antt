@@ -53,7 +53,9 @@ module _ (s r : ℕ) where
   arrive-sent limit new [] = omega arith
   arrive-sent limit new (w ∷ rest) = go (pairsWith limit new w) refl (arrive-sent limit new rest)
     where
-      paired : pairsWith limit new w ≡ true → hit (sentBy s r (if isDeliver w.state then pairOf w new else pairOf new w)) ≤ hit (sentBy s r w) + hit (sentBy s r new)
+      paired :
+          pairsWith limit new w ≡ true
+          → hit (sentBy s r (if isDeliver w.state then pairOf w new else pairOf new w)) ≤ hit (sentBy s r w) + hit (sentBy s r new)
       paired e =
           pairs (hit (sentBy s r (if isDeliver w.state then pairOf w new else pairOf new w)) ≤ hit (sentBy s r w) + hit (sentBy s r new)) limit new w e
           (λ t a. simp t (pair-sent w new a)) (λ t a. simp t (omega (arith, pair-sent new w a)))
@@ -145,7 +147,8 @@ none-marked sender reference (w ∷ rest) e = go (sentBy sender reference w) ref
     go false p ih = simp p (ap (λ (ws : List Item). w ∷ ws) (ih (omega (arith, simp p at e))))
 
 pub marks-one :
-    (sender reference : ℕ) (before : List Item) (item : Item) (after : List Item) → sentBy sender reference item ≡ true → sent sender reference (before ++ (item ∷ after)) ≤ 1
+    (sender reference : ℕ) (before : List Item) (item : Item) (after : List Item) → sentBy sender reference item ≡ true
+    → sent sender reference (before ++ (item ∷ after)) ≤ 1
     → marking sender reference (before ++ (item ∷ after)) ≡ before ++ (marked sender item ∷ after)
 unfolding marking
 marks-one sender reference [] item after p l =

@@ -28,8 +28,10 @@ use Rattle.rulebook.proofs.Steps.OneCall.{putInAt, releasedAt, writesAt
 
 -- a form that makes one movement, after it admits a security or none
 moved :
-    (n : ℕ) (b : Ledger) (o : Order) (xs : List Security) (from to : Place) (k : ℕ) → Admits n o b.holdings xs → writesAt n ≡ 1 → Known (putSecurities xs b.holdings) from
-    → Known (putSecurities xs b.holdings) to → Bears (putSecurities xs b.holdings) from k → Proper from → Proper to → k < 2 ^ 40 → Figures n o (move from to k ∷ [])
+    (n : ℕ) (b : Ledger) (o : Order) (xs : List Security) (from to : Place) (k : ℕ) → Admits n o b.holdings xs → writesAt n ≡ 1
+    → Known (putSecurities xs b.holdings) from
+    → Known (putSecurities xs b.holdings) to → Bears (putSecurities xs b.holdings) from k → Proper from → Proper to → k < 2 ^ 40
+    → Figures n o (move from to k ∷ [])
     → Step n b o (moving (move from to k ∷ []) (putHoldings (putSecurities xs b.holdings) b))
 unfolding moving outcome counts putHoldings
 moved n b o xs from to k a w kf kt l pf pt u f =
@@ -74,7 +76,8 @@ apart a b p q = go (sameAccount b a) refl
     go false e = e
 
 pub party-apart :
-    (security : ℕ) (p : Party) → Quiet p.typ → (k : ℕ) (a : Account) → pledgedOrBlocked a.typ ≡ true → (if sameAccount (accountOf security p) a then k else 0) ≡ 0
+    (security : ℕ) (p : Party) → Quiet p.typ → (k : ℕ) (a : Account) → pledgedOrBlocked a.typ ≡ true → (if sameAccount (accountOf security p) a then k else 0)
+    ≡ 0
 party-apart security p t k a q = simp (apart a (accountOf security p) q (unfold accountOf in t .0))
 
 -- form 2: a security that is admitted changes nothing that is kept, as its outside count is still 0
@@ -183,31 +186,43 @@ transfer-steps = shifts 5 refl refl (refl and refl and refl and refl and refl an
     record { from = d .1; to = c .1; out = debited-apart o d; into = credited-apart o c }
 
 -- in and out again
-puts-in : (n : ℕ) (o : Order) → PutIn o.debited.typ o.credited.typ → ((a : Account) → releasedAt a n o ≡ 0) → ((a : Account) → creditsOf a o ≡ putInAt a n o) → Shifts n o
+puts-in :
+    (n : ℕ) (o : Order) → PutIn o.debited.typ o.credited.typ → ((a : Account) → releasedAt a n o ≡ 0) → ((a : Account) → creditsOf a o ≡ putInAt a n o)
+    → Shifts n o
 puts-in n o t none all =
     let d = free-quiet o.debited.typ (t .0) in
     record { from = d .1; to = pledged-account o.credited.typ (t .1); out = λ a q. debited-apart o d a q ∙ sym (none a); into = λ a q. all a }
 
-takes-out : (n : ℕ) (o : Order) → PutIn o.credited.typ o.debited.typ → ((a : Account) → debitsOf a o ≡ releasedAt a n o) → ((a : Account) → putInAt a n o ≡ 0) → Shifts n o
+takes-out :
+    (n : ℕ) (o : Order) → PutIn o.credited.typ o.debited.typ → ((a : Account) → debitsOf a o ≡ releasedAt a n o) → ((a : Account) → putInAt a n o ≡ 0)
+    → Shifts n o
 takes-out n o t all none =
     let c = free-quiet o.credited.typ (t .0) in
     record { from = pledged-account o.debited.typ (t .1); to = c .1; out = λ a q. all a; into = λ a q. credited-apart o c a q ∙ sym (none a) }
 
 pub pledge-steps : Steps 6 transfer
 unfolding forms rowOf
-pledge-steps = shifts 6 refl refl (refl and refl and refl and refl and refl and tt) (λ o w. puts-in 6 o (pledge-types o.debited.typ o.credited.typ w) (λ a. refl) (λ a. refl))
+pledge-steps =
+    shifts 6 refl refl (refl and refl and refl and refl and refl and tt)
+    (λ o w. puts-in 6 o (pledge-types o.debited.typ o.credited.typ w) (λ a. refl) (λ a. refl))
 
 pub release-steps : Steps 7 transfer
 unfolding forms rowOf
-release-steps = shifts 7 refl refl (refl and refl and refl and refl and refl and tt) (λ o w. takes-out 7 o (release-types o.debited.typ o.credited.typ w) (λ a. refl) (λ a. refl))
+release-steps =
+    shifts 7 refl refl (refl and refl and refl and refl and refl and tt)
+    (λ o w. takes-out 7 o (release-types o.debited.typ o.credited.typ w) (λ a. refl) (λ a. refl))
 
 pub block-steps : Steps 8 transfer
 unfolding forms rowOf
-block-steps = shifts 8 refl refl (refl and refl and refl and refl and refl and tt) (λ o w. puts-in 8 o (block-types o.debited.typ o.credited.typ w) (λ a. refl) (λ a. refl))
+block-steps =
+    shifts 8 refl refl (refl and refl and refl and refl and refl and tt)
+    (λ o w. puts-in 8 o (block-types o.debited.typ o.credited.typ w) (λ a. refl) (λ a. refl))
 
 pub unblock-steps : Steps 9 transfer
 unfolding forms rowOf
-unblock-steps = shifts 9 refl refl (refl and refl and refl and refl and refl and tt) (λ o w. takes-out 9 o (unblock-types o.debited.typ o.credited.typ w) (λ a. refl) (λ a. refl))
+unblock-steps =
+    shifts 9 refl refl (refl and refl and refl and refl and refl and tt)
+    (λ o w. takes-out 9 o (unblock-types o.debited.typ o.credited.typ w) (λ a. refl) (λ a. refl))
 
 -- forms 10 and 11
 
@@ -223,6 +238,7 @@ pub payOut-steps : Steps 11 payOut
 unfolding payOut used least forms rowOf
 payOut-steps b o e p a =
     let m = a.ranges.debited (needed 11 Field.debited-member o e refl) in
-    moves-one 11 b o (cashOf o.debited.member o.currency) (member0 o.currency) o.amount.0 refl p refl tt tt (ltb-false _ _ (simp e at (little-parts b o a.little .2)))
+    moves-one 11 b o (cashOf o.debited.member o.currency) (member0 o.currency) o.amount.0 refl p refl tt tt
+    (ltb-false _ _ (simp e at (little-parts b o a.little .2)))
     (m .0, m .1, omega (arith, a.fits.currency)) (omega (arith, a.fits.currency)) a.fits.amount
     (record { held = λ c. refl; outside = λ c. refl; cash = λ c. omega arith; pledged = λ x q. (refl, refl) })

@@ -47,7 +47,9 @@ legs-proper (t ∷ rest) e =
       ),
     )
 
-legs-pledged : (a : Account) → pledgedOrBlocked a.typ ≡ true → (ts : List Item) → Each ItemPosts ts → (taken (account a) (legs ts) ≡ 0) × (brought (account a) (legs ts) ≡ 0)
+legs-pledged :
+    (a : Account) → pledgedOrBlocked a.typ ≡ true → (ts : List Item) → Each ItemPosts ts → (taken (account a) (legs ts) ≡ 0)
+    × (brought (account a) (legs ts) ≡ 0)
 unfolding legs seller buyer
 legs-pledged a q [] e = (refl, refl)
 legs-pledged a q (t ∷ rest) e =
@@ -77,12 +79,14 @@ module _
     legs-count (m ∷ rest) = legs-step (m .0) (m .1) rest (legs-count rest)
 
 shares-legs :
-    (a : Account) (ms : List Marked) → (taken (account a) (legs (withMark ms)) ≡ sharesTaken a ms) × (brought (account a) (legs (withMark ms)) ≡ sharesBrought a ms)
+    (a : Account) (ms : List Marked) → (taken (account a) (legs (withMark ms)) ≡ sharesTaken a ms)
+    × (brought (account a) (legs (withMark ms)) ≡ sharesBrought a ms)
 unfolding legs sharesTaken sharesBrought takesShares bringsShares
 shares-legs a ms = legs-count (account a) (takesShares a) (bringsShares a) (λ t. omega arith) (λ t. omega arith) ms
 
 cash-legs :
-    (m c : ℕ) (ms : List Marked) → (taken (cashOf m c) (legs (withMark ms)) ≡ cashTaken m c ms) × (brought (cashOf m c) (legs (withMark ms)) ≡ cashBrought m c ms)
+    (m c : ℕ) (ms : List Marked) → (taken (cashOf m c) (legs (withMark ms)) ≡ cashTaken m c ms)
+    × (brought (cashOf m c) (legs (withMark ms)) ≡ cashBrought m c ms)
 unfolding legs cashTaken cashBrought takesCash bringsCash
 cash-legs m c ms = legs-count (cashOf m c) (takesCash m c) (bringsCash m c) (λ t. omega arith) (λ t. omega arith) ms
 
@@ -105,11 +109,23 @@ none-taken p f (m ∷ rest) = simp (f m.from) (omega (arith, none-taken p f rest
 cycle-enough : (b : Ledger) → Enough b.holdings (legs (settled b))
 unfolding settled settling
 cycle-enough b (account a) =
-    omega (arith, enough-shares b.holdings (settling b) (settling-done b.day.number b.holdings b.waiting) a, shares-legs a (settling b) .0, shares-legs a (settling b) .1)
+    omega (
+      arith,
+      enough-shares b.holdings (settling b) (settling-done b.day.number b.holdings b.waiting) a,
+      shares-legs a (settling b) .0,
+      shares-legs a
+          (settling b) .1,
+    )
 cycle-enough b (type91 s) = omega (arith, legs-sums (settled b) .1 s .0)
 cycle-enough b (type90 s) = omega (arith, none-taken (type90 s) (λ q. refl) (legs (settled b)))
 cycle-enough b (cashOf m c) =
-    omega (arith, enough-cash b.holdings (settling b) (settling-done b.day.number b.holdings b.waiting) m c, cash-legs m c (settling b) .0, cash-legs m c (settling b) .1)
+    omega (
+      arith,
+      enough-cash b.holdings (settling b) (settling-done b.day.number b.holdings b.waiting) m c,
+      cash-legs m c (settling b) .0,
+      cash-legs m c
+          (settling b) .1,
+    )
 cycle-enough b (member0 c) = omega (arith, none-taken (member0 c) (λ q. refl) (legs (settled b)))
 
 -- so no debit of a settlement is cut off at 0: each account and each member's cash changes by exactly what the settled trades bring and take
