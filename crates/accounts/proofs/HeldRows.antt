@@ -26,14 +26,16 @@ same-held : (s : ℕ) (h k : Holdings) → h.balance ≡ k.balance → held s h 
 unfolding held
 same-held s h k e =
     ap
-    (λ (b : Account → ℕ). sumBelow (2 ^ 10) λ member. sumBelow (2 ^ 8) λ typ. sumBelow (2 ^ 30) λ shareholder. b (record { security = s; member = member; typ = typ; shareholder = shareholder }))
+    (λ (b : Account → ℕ). sumBelow (2 ^ 10) λ member. sumBelow (2 ^ 8) λ typ. sumBelow (2 ^ 30) λ shareholder. b
+    (record { security = s; member = member; typ = typ; shareholder = shareholder }))
     e
 
 same-count : (h k : Holdings) → h.balance ≡ k.balance → accountCount h ≡ accountCount k
 unfolding accountCount
 same-count h k e =
     ap
-    (λ (b : Account → ℕ). sumBelow (2 ^ 14) λ security. sumBelow (2 ^ 10) λ member. sumBelow (2 ^ 8) λ typ. sumBelow (2 ^ 30) λ shareholder. counted (b (record { security = security; member = member; typ = typ; shareholder = shareholder })))
+    (λ (b : Account → ℕ). sumBelow (2 ^ 14) λ security. sumBelow (2 ^ 10) λ member. sumBelow (2 ^ 8) λ typ. sumBelow (2 ^ 30) λ shareholder. counted
+    (b (record { security = security; member = member; typ = typ; shareholder = shareholder })))
     e
 
 -- the sum of a security's balances in the first m rows
@@ -102,7 +104,9 @@ module _ (a : List ℕ) (kept : Kept a) where
         number : suc m ≡ m + counted (balanceAt a m) - counted (first m .balance own)
         number = omega (arith, counted-some (balanceAt a m) (balance-some a kept m low), ap counted own-none, counted-none)
 
-        map : (other : Account) → (if inRange other then sum-to (suc m) (keyOf other) else 0) ≡ (if sameAccount own other then balanceAt a m else if inRange other then sum-to m (keyOf other) else 0)
+        map :
+            (other : Account) → (if inRange other then sum-to (suc m) (keyOf other) else 0)
+            ≡ (if sameAccount own other then balanceAt a m else if inRange other then sum-to m (keyOf other) else 0)
         map other = go (inRange other) refl
           where
             same : InRange other → (b : Bool) → sameAccount own other ≡ b → sum-to (suc m) (keyOf other) ≡ (if b then balanceAt a m else sum-to m (keyOf other))
@@ -114,7 +118,9 @@ module _ (a : List ℕ) (kept : Kept a) where
                 let is-key : (keyAt a m is keyOf other) ≡ false = rw (← own-key) (key-test own other range r ∙ e) in
                 sum-more (keyOf other) ∙ rw is-key (omega arith)
 
-            go : (b : Bool) → inRange other ≡ b → (if b then sum-to (suc m) (keyOf other) else 0) ≡ (if sameAccount own other then balanceAt a m else if b then sum-to m (keyOf other) else 0)
+            go :
+                (b : Bool) → inRange other ≡ b → (if b then sum-to (suc m) (keyOf other) else 0)
+                ≡ (if sameAccount own other then balanceAt a m else if b then sum-to m (keyOf other) else 0)
             go true e = same (range-holds other e) (sameAccount own other) refl
             go false e = rw (other-range own other range e)
 
@@ -122,9 +128,12 @@ module _ (a : List ℕ) (kept : Kept a) where
     unfolding own
     held-more s = ap (held s) first-more ∙ go (securityOf (keyAt a m) is s) refl
       where
-        go : (b : Bool) → (securityOf (keyAt a m) is s) ≡ b → held s (putBalance own (balanceAt a m) (first m)) ≡ held s (first m) + (if b then balanceAt a m else 0)
+        go :
+            (b : Bool) → (securityOf (keyAt a m) is s) ≡ b → held s (putBalance own (balanceAt a m) (first m))
+            ≡ held s (first m) + (if b then balanceAt a m else 0)
         go true e =
-            let p : held own.security (putBalance own (balanceAt a m) (first m)) + first m .balance own ≡ held own.security (first m) + balanceAt a m = held-put (first m) own (balanceAt a m) range.member range.typ range.shareholder in
+            let p : held own.security (putBalance own (balanceAt a m) (first m)) + first m .balance own ≡ held own.security (first m) + balanceAt a m =
+            held-put (first m) own (balanceAt a m) range.member range.typ range.shareholder in
             let q : own.security ≡ s = eqb-true (securityOf (keyAt a m)) s e in
             let r : held s (putBalance own (balanceAt a m) (first m)) + first m .balance own ≡ held s (first m) + balanceAt a m =
             subst (λ (x : ℕ). held x (putBalance own (balanceAt a m) (first m)) + first m .balance own ≡ held x (first m) + balanceAt a m) q p
@@ -137,7 +146,9 @@ module _ (a : List ℕ) (kept : Kept a) where
 
   held-to : (s m : ℕ) → m ≤ rows a → heldTo a s m ≡ held s (first m)
   held-to s zero l = sym (held-none a s) ∙ sym (ap (held s) first-none ∙ none-held s)
-  held-to s (suc m) l = sum-suc m _ ∙ ap (λ (x : ℕ). x + (if securityOf (keyAt a m) is s then balanceAt a m else 0)) (held-to s m (omega arith)) ∙ sym (held-more m (omega arith) s)
+  held-to s (suc m) l =
+      sum-suc m _ ∙ ap (λ (x : ℕ). x + (if securityOf (keyAt a m) is s then balanceAt a m else 0)) (held-to s m (omega arith))
+      ∙ sym (held-more m (omega arith) s)
 
   counted-to : (m : ℕ) → m ≤ rows a → first m .accounts ≡ accountCount (first m)
   counted-to zero l = rw first-none (fresh-premise .counted)
@@ -160,10 +171,16 @@ module _ (a : List ℕ) (kept : Kept a) where
 
   module _ (s i : ℕ) (low : i < rows a) (sum : ℕ) (so-far : sum ≡ heldTo a s i) where
     pub held-taken : securityOf (keyAt a i) ≡ s → sum + balanceAt a i ≡ heldTo a s (i + 1)
-    held-taken e = let t : (if securityOf (keyAt a i) is s then balanceAt a i else 0) ≡ balanceAt a i = rw (eq-eqb (securityOf (keyAt a i)) s e) in omega (arith, t, sum-last i (λ k. if securityOf (keyAt a k) is s then balanceAt a k else 0))
+    held-taken e =
+        let t : (if securityOf (keyAt a i) is s then balanceAt a i else 0)
+        ≡ balanceAt a i = rw (eq-eqb (securityOf (keyAt a i)) s e) in omega
+        (arith, t, sum-last i (λ k. if securityOf (keyAt a k) is s then balanceAt a k else 0))
 
     pub held-left : (securityOf (keyAt a i) ≡ s → ⊥) → sum ≡ heldTo a s (i + 1)
-    held-left d = let t : (if securityOf (keyAt a i) is s then balanceAt a i else 0) ≡ 0 = rw (ne-eqb (securityOf (keyAt a i)) s d) in omega (arith, t, sum-last i (λ k. if securityOf (keyAt a k) is s then balanceAt a k else 0))
+    held-left d =
+        let t : (if securityOf (keyAt a i) is s then balanceAt a i else 0)
+        ≡ 0 = rw (ne-eqb (securityOf (keyAt a i)) s d) in omega (arith, t, sum-last i (λ k. if securityOf (keyAt a k) is s then balanceAt a k else 0))
 
     pub held-fits : (h : Holdings) → securityOf (keyAt a i) ≡ s → sum + balanceAt a i ≤ held s (withAccounts a h)
-    held-fits h e = omega (arith, held-taken e, sum-grows (i + 1) (rows a) (λ k. if securityOf (keyAt a k) is s then balanceAt a k else 0) (omega arith), rows-held s h)
+    held-fits h e =
+        omega (arith, held-taken e, sum-grows (i + 1) (rows a) (λ k. if securityOf (keyAt a k) is s then balanceAt a k else 0) (omega arith), rows-held s h)

@@ -31,7 +31,8 @@ module _ (a : List ℕ) (kept : Kept a) where
       go : (f : Found) → placeOf key a ≡ f → sumBelow (rows a) (λ i. if keyAt a i is key then 1 else 0) ≡ (if valueOf BALANCES a key is 0 then 0 else 1)
       go (At j) e =
           let h = place-at a key j e in
-          let some : (valueOf BALANCES a key is 0) ≡ false = ne-eqb (valueOf BALANCES a key) 0 (λ z. omega (arith, z, value-here a kept key j e 1 (omega arith), balance-some a kept j (h .0))) in
+          let some : (valueOf BALANCES a key is 0) ≡ false =
+          ne-eqb (valueOf BALANCES a key) 0 (λ z. omega (arith, z, value-here a kept key j e 1 (omega arith), balance-some a kept j (h .0))) in
           sum-one (rows a) (λ i. keyAt a i is key) (kept.once key) j (h .0) (eq-eqb _ _ (h .1)) (λ i. 1) ∙ rw some
       go Nothing e =
           let none : (valueOf BALANCES a key is 0) ≡ true = eq-eqb _ 0 (value-none a key BALANCES e) in
@@ -100,17 +101,23 @@ module _ (a : List ℕ) (kept : Kept a) where
             omega (arith, put.sums figure, none v, none (valueOf BALANCES a key))
 
 -- the rulebook's own words
-pub put-means : (a r : List ℕ) (account : Account) (v : ℕ) → Kept a → InRange account → Put a r (keyOf account) v → (h : Holdings) → withAccounts r h ≡ putBalance account v (withAccounts a h)
+pub put-means :
+    (a r : List ℕ) (account : Account) (v : ℕ) → Kept a → InRange account → Put a r (keyOf account) v → (h : Holdings) → withAccounts r h
+    ≡ putBalance account v (withAccounts a h)
 unfolding putBalance balanceOf
 put-means a r account v kept range put h = λ i. record { securities = h.securities; balance = fun-ext map i; accounts = number i; cash = h.cash }
   where
     number : rows r ≡ rows a + counted v - counted (if inRange account then valueOf BALANCES a (keyOf account) else 0)
     number = rw (range-true account range) (omega (arith, put.number))
 
-    map : (other : Account) → (if inRange other then valueOf BALANCES r (keyOf other) else 0) ≡ (if sameAccount account other then v else if inRange other then valueOf BALANCES a (keyOf other) else 0)
+    map :
+        (other : Account) → (if inRange other then valueOf BALANCES r (keyOf other) else 0)
+        ≡ (if sameAccount account other then v else if inRange other then valueOf BALANCES a (keyOf other) else 0)
     map other = go (inRange other) refl
       where
-        go : (b : Bool) → inRange other ≡ b → (if b then valueOf BALANCES r (keyOf other) else 0) ≡ (if sameAccount account other then v else if b then valueOf BALANCES a (keyOf other) else 0)
+        go :
+            (b : Bool) → inRange other ≡ b → (if b then valueOf BALANCES r (keyOf other) else 0)
+            ≡ (if sameAccount account other then v else if b then valueOf BALANCES a (keyOf other) else 0)
         go true e = put-value a kept r (keyOf account) v (key-fits account range) put (keyOf other) ∙ rw (key-test account other range (range-holds other e))
         go false e = rw (other-range account other range e)
 
@@ -129,23 +136,38 @@ module _ (a : List ℕ) (kept : Kept a) (account : Account) (range : InRange acc
 
   -- the account's balance is put, and what is kept true stays so
   puts : (r : List ℕ) (v w : ℕ) → Put a r (keyOf account) v → v ≡ w → Kept r × ((h : Holdings) → withAccounts r h ≡ putBalance account w (withAccounts a h))
-  puts r v w put e = (put-kept a kept r (keyOf account) v (key-fits account range) put, λ h. put-means a r account v kept range put h ∙ ap (λ (x : ℕ). putBalance account x (withAccounts a h)) e)
+  puts r v w put e = (
+    put-kept a kept r (keyOf account) v (key-fits account range) put,
+    λ h. put-means a r account v kept range put h
+        ∙ ap (λ (x : ℕ). putBalance account x (withAccounts a h)) e,
+  )
 
-  pub credited-at : (q j : ℕ) → placeOf (keyOf account) a ≡ At j → 0 < q → Kept (set a (j + BALANCES) (balanceAt a j + q)) × ((h : Holdings) → withAccounts (set a (j + BALANCES) (balanceAt a j + q)) h ≡ credit (place account) q (withAccounts a h))
+  pub credited-at :
+      (q j : ℕ) → placeOf (keyOf account) a ≡ At j → 0 < q → Kept (set a (j + BALANCES) (balanceAt a j + q))
+      × ((h : Holdings) → withAccounts (set a (j + BALANCES) (balanceAt a j + q)) h ≡ credit (place account) q (withAccounts a h))
   unfolding credit
-  credited-at q j e some = puts _ (balanceAt a j + q) (balanceOf a account + q) (put-stored a kept (keyOf account) j e (balanceAt a j + q) (omega arith)) (omega (arith, balance-here j e .1))
+  credited-at q j e some =
+      puts _ (balanceAt a j + q) (balanceOf a account + q) (put-stored a kept (keyOf account) j e (balanceAt a j + q) (omega arith))
+      (omega (arith, balance-here j e .1))
 
-  pub credited-new : (q : ℕ) → placeOf (keyOf account) a ≡ Nothing → 0 < q → rows a < 256 → Kept (opened a (keyOf account) q) × ((h : Holdings) → withAccounts (opened a (keyOf account) q) h ≡ credit (place account) q (withAccounts a h))
+  pub credited-new :
+      (q : ℕ) → placeOf (keyOf account) a ≡ Nothing → 0 < q → rows a < 256 → Kept (opened a (keyOf account) q)
+      × ((h : Holdings) → withAccounts (opened a (keyOf account) q) h ≡ credit (place account) q (withAccounts a h))
   unfolding credit
   credited-new q e some room = puts _ q (balanceOf a account + q) (put-opened a kept (keyOf account) e room q some) (omega (arith, balance-none e))
 
-  pub debited-part : (q j : ℕ) → placeOf (keyOf account) a ≡ At j → q ≤ balanceOf a account → balanceAt a j ≢ q → Kept (set a (j + BALANCES) (balanceAt a j - q)) × ((h : Holdings) → withAccounts (set a (j + BALANCES) (balanceAt a j - q)) h ≡ debit (place account) q (withAccounts a h))
+  pub debited-part :
+      (q j : ℕ) → placeOf (keyOf account) a ≡ At j → q ≤ balanceOf a account → balanceAt a j ≢ q → Kept (set a (j + BALANCES) (balanceAt a j - q))
+      × ((h : Holdings) → withAccounts (set a (j + BALANCES) (balanceAt a j - q)) h ≡ debit (place account) q (withAccounts a h))
   unfolding debit
   debited-part q j e enough ne =
       let here = balance-here j e .1 in
-      puts _ (balanceAt a j - q) (balanceOf a account - q) (put-stored a kept (keyOf account) j e (balanceAt a j - q) (omega (arith, here, ne))) (omega (arith, here))
+      puts _ (balanceAt a j - q) (balanceOf a account - q) (put-stored a kept (keyOf account) j e (balanceAt a j - q) (omega (arith, here, ne)))
+      (omega (arith, here))
 
-  pub debited-whole : (q j : ℕ) → placeOf (keyOf account) a ≡ At j → balanceAt a j ≡ q → Kept (removed a j) × ((h : Holdings) → withAccounts (removed a j) h ≡ debit (place account) q (withAccounts a h))
+  pub debited-whole :
+      (q j : ℕ) → placeOf (keyOf account) a ≡ At j → balanceAt a j ≡ q → Kept (removed a j)
+      × ((h : Holdings) → withAccounts (removed a j) h ≡ debit (place account) q (withAccounts a h))
   unfolding debit
   debited-whole q j e all = puts _ 0 (balanceOf a account - q) (put-removed a kept (keyOf account) j e) (omega (arith, balance-here j e .1))
 

@@ -66,7 +66,8 @@ module _ (a : List ℕ) (kept : Kept a) where
       value-here = value-at a key BALANCES kept.once j low own
 
       old : (figure : ℕ → ℕ → ℕ) → adds figure key (valueOf BALANCES a key) ≡ figure (keyAt a j) (balanceAt a j)
-      old figure = ap (adds figure key) value-here ∙ adds-some figure key (balanceAt a j) (balance-some j low) ∙ ap (λ (k : ℕ). figure k (balanceAt a j)) (sym own)
+      old figure =
+          ap (adds figure key) value-here ∙ adds-some figure key (balanceAt a j) (balance-some j low) ∙ ap (λ (k : ℕ). figure k (balanceAt a j)) (sym own)
 
       counts : counted (valueOf BALANCES a key) ≡ 1
       counts = ap counted value-here ∙ counted-some (balanceAt a j) (balance-some j low)
@@ -80,7 +81,8 @@ module _ (a : List ℕ) (kept : Kept a) where
         sums = λ figure.
             let f : ℕ → ℕ = λ i. figure (keyAt a i) (balanceAt a i) in
             let g : ℕ → ℕ = λ i. figure (keyAt r i) (balanceAt r i) in
-            let change : sumBelow (rows a) g + f j ≡ sumBelow (rows a) f + g j = sum-change (rows a) j f g low (λ i l d t. figure (key-as i l t) (balance-as i d t)) in
+            let change : sumBelow (rows a) g + f j ≡ sumBelow (rows a) f + g j =
+            sum-change (rows a) j f g low (λ i l d t. figure (key-as i l t) (balance-as i d t)) in
             let new : g j ≡ adds figure key v = (λ t. figure ((key-as j low ∙ own) t) (balance-at t)) ∙ sym (adds-some figure key v some) in
             let n : sumBelow (rows r) g ≡ sumBelow (rows a) g = ap (λ (m : ℕ). sumBelow m g) size in
             omega (arith, change, new, n, old figure);
@@ -163,7 +165,8 @@ module _ (a : List ℕ) (kept : Kept a) where
               ∙ getD-set-same a (n + 1) key 0 (omega (arith, room, kept.long))
 
           balance-at : balanceAt r n ≡ v
-          balance-at = getD-set-other both 0 (n + BALANCES) (n + 1) 0 (λ e. omega (arith, e)) ∙ getD-set-same keys (n + BALANCES) v 0 (omega (arith, room, keys-long))
+          balance-at =
+              getD-set-other both 0 (n + BALANCES) (n + 1) 0 (λ e. omega (arith, e)) ∙ getD-set-same keys (n + BALANCES) v 0 (omega (arith, room, keys-long))
 
     -- ---- an account is removed, and the last one moves into its place
 
@@ -177,7 +180,9 @@ module _ (a : List ℕ) (kept : Kept a) where
         sums = λ figure.
             let f : ℕ → ℕ = λ i. figure (keyAt a i) (balanceAt a i) in
             let g : ℕ → ℕ = λ i. figure (keyAt r i) (balanceAt r i) in
-            let moved : sumBelow last g + f j ≡ sumBelow (last + 1) f = sum-moved last j f g (omega (arith, l)) (λ i m d t. figure (key-as i m d t) (balance-as i d t)) (λ m t. figure (key-at t) (balance-at t)) in
+            let moved : sumBelow last g + f j ≡ sumBelow (last + 1) f =
+            sum-moved last j f g (omega (arith, l)) (λ i m d t. figure (key-as i m d t) (balance-as i d t)) (λ m t. figure (key-at t) (balance-at t))
+            in
             let all : sumBelow (last + 1) f ≡ sumBelow (rows a) f = ap (λ (m : ℕ). sumBelow m f) (omega (arith, l)) in
             let n : sumBelow (rows r) g ≡ sumBelow last g = ap (λ (m : ℕ). sumBelow m g) size in
             omega (arith, moved, all, n, old j here 1 (omega arith) figure);
@@ -226,4 +231,6 @@ module _ (a : List ℕ) (kept : Kept a) where
               ∙ getD-set-same a (j + 1) (keyAt a last) 0 (omega (arith, l, kept.size, kept.long))
 
           balance-at : balanceAt r j ≡ balanceAt a last
-          balance-at = getD-set-other both 0 (j + BALANCES) last 0 (λ e. omega (arith, e)) ∙ getD-set-same keys (j + BALANCES) (balanceAt a last) 0 (omega (arith, l, kept.size, keys-long))
+          balance-at =
+              getD-set-other both 0 (j + BALANCES) last 0 (λ e. omega (arith, e))
+              ∙ getD-set-same keys (j + BALANCES) (balanceAt a last) 0 (omega (arith, l, kept.size, keys-long))

@@ -95,14 +95,18 @@ folded-none xs f =
     let e : 8 * (f - f) ≡ 0 = omega arith in
     record { after = omega arith; small = rw e (lit< tt); sum = rw e (sym (add-zero (number (take f xs) * 1) ∙ mul-one (number (take f xs)))) }
 
-pub folded-more : (xs : List ℕ) (f i acc : ℕ) → Folded xs f i acc → i < length xs → getD xs i 0 < 2 ^ 8 → i < f + 8 → Folded xs f (i + 1) (bitOr ((acc * 2 ^ 8) % 2 ^ 64) (getD xs i 0))
+pub folded-more :
+    (xs : List ℕ) (f i acc : ℕ) → Folded xs f i acc → i < length xs → getD xs i 0 < 2 ^ 8 → i < f + 8
+    → Folded xs f (i + 1) (bitOr ((acc * 2 ^ 8) % 2 ^ 64) (getD xs i 0))
 folded-more xs f i acc h hi hb hf =
     let e : 8 * (i + 1 - f) ≡ 8 * (i - f) + 8 = omega (arith, h .after) in
     let s : bitOr ((acc * 2 ^ 8) % 2 ^ 64) (getD xs i 0) ≡ acc * 2 ^ 8 + getD xs i 0 = shl-or (8 * (i - f)) 8 (h .small) (omega (arith, h .after)) hb in
     rw s (record {
       after = omega (arith, h .after);
       small = rw (e, pow-add 2 (8 * (i - f)) 8) (digits-lt (h .small) hb);
-      sum = number-take-suc xs i hi ∙ ap (λ (x : ℕ). x * 2 ^ 8 + getD xs i 0) (h .sum) ∙ rw (e, pow-add 2 (8 * (i - f)) 8) (simp (add-mul, mul-assoc, add-assoc));
+      sum =
+          number-take-suc xs i hi ∙ ap (λ (x : ℕ). x * 2 ^ 8 + getD xs i 0) (h .sum)
+          ∙ rw (e, pow-add 2 (8 * (i - f)) 8) (simp (add-mul, mul-assoc, add-assoc));
     })
 
 pub folded-field : (xs : List ℕ) (at w acc : ℕ) → Octets xs → w ≤ 64 → at + w ≤ 8 * length xs → Folded xs (at / 8) (wholeBytes (at + w)) acc
@@ -133,7 +137,8 @@ unfolding bytes
 bytes-number xs h zero l = refl
 bytes-number xs h (suc i) l =
     let t : take (suc i) xs ≡ take i xs ++ (getD xs i 0 ∷ []) = take-suc xs i 0 l in
-    rw (t, number-snoc) (bytes-snoc i (number (take i xs)) (getD xs i 0) (h i) ∙ ap (λ (l : List ℕ). l ++ (getD xs i 0 ∷ [])) (bytes-number xs h i (omega arith)))
+    rw (t, number-snoc)
+    (bytes-snoc i (number (take i xs)) (getD xs i 0) (h i) ∙ ap (λ (l : List ℕ). l ++ (getD xs i 0 ∷ [])) (bytes-number xs h i (omega arith)))
 
 -- ---- writing: the first i bytes of a list are those of the number t, of wholeBytes bytes n, and the rest is as it was
 
@@ -147,7 +152,8 @@ filled-none ds n f x h l hx = record {
   is = sym (rw (high (number (take f ds)) (8 * (n - f)) hx, bytes-number ds h f l) (take-append-drop f ds));
 }
 
-pub filled-more : (ds es : List ℕ) (t n i b : ℕ) → Filled ds es t n i → i < n → i < length ds → b ≡ t / 2 ^ (8 * (n - 1 - i)) % 2 ^ 8 → Filled ds (set es i b) t n (i + 1)
+pub filled-more :
+    (ds es : List ℕ) (t n i b : ℕ) → Filled ds es t n i → i < n → i < length ds → b ≡ t / 2 ^ (8 * (n - 1 - i)) % 2 ^ 8 → Filled ds (set es i b) t n (i + 1)
 unfolding bytes
 filled-more ds es t n i b h hi l hb =
     let e : 8 * (n - i) ≡ 8 * (n - 1 - i) + 8 = omega arith in
@@ -178,7 +184,9 @@ word-lt q r w p v n hq hv e = rw (e, ← add-assoc r w p) (shl-lt (r + w) p (rw 
 
 -- the word as `put_bits` computes it from the first byte b
 abbrev pub word : (b at w v : ℕ) → ℕ
-word b at w v = bitOr (((b / 2 ^ (8 - at % 8) * 2 ^ (8 - at % 8)) % 2 ^ 64 * 2 ^ (8 * (wholeBytes (at + w) - at / 8) - 8)) % 2 ^ 64) ((v * 2 ^ (wholeBytes (at + w) * 8 - (at + w))) % 2 ^ 64)
+word b at w v =
+    bitOr (((b / 2 ^ (8 - at % 8) * 2 ^ (8 - at % 8)) % 2 ^ 64 * 2 ^ (8 * (wholeBytes (at + w) - at / 8) - 8)) % 2 ^ 64)
+    ((v * 2 ^ (wholeBytes (at + w) * 8 - (at + w))) % 2 ^ 64)
 
 -- the number that `put` makes the bytes of
 abbrev pub target : (ds : List ℕ) (at w v : ℕ) → ℕ
@@ -186,7 +194,9 @@ target ds at w v = (leading ds at * 2 ^ w + v) * 2 ^ (8 * wholeBytes (at + w) - 
 
 module _ (ds : List ℕ) (at w v b : ℕ) (h : Octets ds) (inside : Inside at w (length ds)) (hv : v < 2 ^ w) (hb : b ≡ getD ds (at / 8) 0) where
   -- the word is what follows the bytes before the field's
-  pub put-word : (target ds at w v ≡ number (take (at / 8) ds) * 2 ^ (8 * (wholeBytes (at + w) - at / 8)) + word b at w v) × (word b at w v < 2 ^ (8 * (wholeBytes (at + w) - at / 8)))
+  pub put-word :
+      (target ds at w v ≡ number (take (at / 8) ds) * 2 ^ (8 * (wholeBytes (at + w) - at / 8)) + word b at w v)
+      × (word b at w v < 2 ^ (8 * (wholeBytes (at + w) - at / 8)))
   put-word =
       let p : ℕ = 8 * wholeBytes (at + w) - (at + w) in
       let a : ℕ = number (take (at / 8) ds) in

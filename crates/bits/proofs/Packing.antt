@@ -39,7 +39,8 @@ unfolding bytes number
 number-bytes zero v h = sym (lt-one h)
 number-bytes (suc n) v h =
     let e : 8 * suc n ≡ 8 * n + 8 = omega arith in
-    number-snoc (bytes n (v / 2 ^ 8)) (v % 2 ^ 8) ∙ ap (λ (x : ℕ). x * 2 ^ 8 + v % 2 ^ 8) (number-bytes n (v / 2 ^ 8) (shr-lt (8 * n) 8 (rw e at h))) ∙ split v 8
+    number-snoc (bytes n (v / 2 ^ 8)) (v % 2 ^ 8) ∙ ap (λ (x : ℕ). x * 2 ^ 8 + v % 2 ^ 8) (number-bytes n (v / 2 ^ 8) (shr-lt (8 * n) 8 (rw e at h)))
+    ∙ split v 8
 
 -- ---- the first bits
 
@@ -95,16 +96,21 @@ module _ (ds : List ℕ) (at w v : ℕ) (l : at + w ≤ 8 * length ds) where
       let t : ℕ = (leading ds at * 2 ^ w + v) * 2 ^ (8 * k - (at + w)) in
       let e : n ≡ k + (n - k) = omega arith in
       let f : n ≡ length (bytes k t) + (n - k) = rw length-bytes e in
-      ap (λ (m : ℕ). drop m (bytes k t ++ drop k ds)) f ∙ drop-append-add (bytes k t) (drop k ds) (n - k) ∙ drop-drop (n - k) k ds ∙ ap (λ (m : ℕ). drop m ds) (sym e)
+      ap (λ (m : ℕ). drop m (bytes k t ++ drop k ds)) f ∙ drop-append-add (bytes k t) (drop k ds) (n - k) ∙ drop-drop (n - k) k ds
+      ∙ ap (λ (m : ℕ). drop m ds) (sym e)
 
   pub take-put : take (wholeBytes (at + w)) (put ds at w v) ≡ bytes (wholeBytes (at + w)) (target ds at w v)
   unfolding put
-  take-put = take-at (bytes (wholeBytes (at + w)) (target ds at w v)) (drop (wholeBytes (at + w)) ds) (wholeBytes (at + w)) (length-bytes (wholeBytes (at + w)) (target ds at w v))
+  take-put =
+      take-at (bytes (wholeBytes (at + w)) (target ds at w v)) (drop (wholeBytes (at + w)) ds) (wholeBytes (at + w))
+      (length-bytes (wholeBytes (at + w)) (target ds at w v))
 
   module _ (h : Octets ds) where
     pub octets-put : Octets (put ds at w v)
     unfolding put
-    octets-put = octets-append (bytes (wholeBytes (at + w)) (target ds at w v)) (drop (wholeBytes (at + w)) ds) (octets-bytes (wholeBytes (at + w)) (target ds at w v)) (octets-drop (wholeBytes (at + w)) ds h)
+    octets-put =
+        octets-append (bytes (wholeBytes (at + w)) (target ds at w v)) (drop (wholeBytes (at + w)) ds) (octets-bytes (wholeBytes (at + w)) (target ds at w v))
+        (octets-drop (wholeBytes (at + w)) ds h)
 
     -- the bits up to its end are those before it, and it
     pub leading-put : v < 2 ^ w → leading (put ds at w v) (at + w) ≡ leading ds at * 2 ^ w + v
@@ -112,9 +118,12 @@ module _ (ds : List ℕ) (at w v : ℕ) (l : at + w ≤ 8 * length ds) where
         let k : ℕ = wholeBytes (at + w) in
         let p : ℕ = 8 * k - (at + w) in
         let e : 8 * k ≡ at + w + p = omega arith in
-        let g : target ds at w v < 2 ^ (8 * k) = subst (λ (n : ℕ). target ds at w v < 2 ^ n) (sym e) (shl-lt (at + w) p (rw (pow-add 2 at w) (digits-lt (leading-lt ds at h (omega arith)) hv))) in
+        let g : target ds at w v < 2 ^ (8 * k) =
+        subst (λ (n : ℕ). target ds at w v < 2 ^ n) (sym e)
+        (shl-lt (at + w) p (rw (pow-add 2 at w) (digits-lt (leading-lt ds at h (omega arith)) hv))) in
         leading-take (put ds at w v) (at + w) k octets-put (omega arith) (rw length-put (omega arith))
-        ∙ ap (λ (xs : List ℕ). number xs / 2 ^ p) take-put ∙ ap (λ (x : ℕ). x / 2 ^ p) (number-bytes k (target ds at w v) g) ∙ shl-shr (leading ds at * 2 ^ w + v) p
+        ∙ ap (λ (xs : List ℕ). number xs / 2 ^ p) take-put ∙ ap (λ (x : ℕ). x / 2 ^ p) (number-bytes k (target ds at w v) g)
+        ∙ shl-shr (leading ds at * 2 ^ w + v) p
 
     -- two fields in a row are one
     pub put-put : (w′ v′ : ℕ) → v < 2 ^ w → put (put ds at w v) (at + w) w′ v′ ≡ put ds at (w + w′) (v * 2 ^ w′ + v′)
@@ -157,20 +166,23 @@ pack-high n (w ∷ ws) (v ∷ vs) f =
     ∙ ap (λ (x : ℕ). x / 2 ^ w) (pack-high (n * 2 ^ w + v) ws vs (f .1)) ∙ high n w (f .0)
 
 -- PACKED, THEN CUT: where the first bits are packed values, the fields are the values
-pub cut-pack : (bs : List ℕ) (at n : ℕ) (ws vs : List ℕ) → Fit ws vs → at + total ws ≤ 8 * length bs → leading bs (at + total ws) ≡ pack n ws vs → cut bs at ws ≡ vs
+pub cut-pack :
+    (bs : List ℕ) (at n : ℕ) (ws vs : List ℕ) → Fit ws vs → at + total ws ≤ 8 * length bs → leading bs (at + total ws) ≡ pack n ws vs → cut bs at ws ≡ vs
 unfolding field
 cut-pack bs at n [] [] f l e = refl
 cut-pack bs at n (w ∷ ws) (v ∷ vs) f l e =
     let a : at + (w + total ws) ≡ at + w + total ws = omega arith in
     let e′ : leading bs (at + w + total ws) ≡ pack (n * 2 ^ w + v) ws vs = rw a at e in
-    let g : leading bs (at + w) ≡ n * 2 ^ w + v = sym (leading-shr bs (at + w) (total ws) (omega arith)) ∙ ap (λ (x : ℕ). x / 2 ^ total ws) e′ ∙ pack-high (n * 2 ^ w + v) ws vs (f .1) in
+    let g : leading bs (at + w) ≡ n * 2 ^ w + v =
+    sym (leading-shr bs (at + w) (total ws) (omega arith)) ∙ ap (λ (x : ℕ). x / 2 ^ total ws) e′ ∙ pack-high (n * 2 ^ w + v) ws vs (f .1) in
     λ i. (ap (λ (x : ℕ). x % 2 ^ w) g ∙ low n w (f .0)) i ∷ cut-pack bs (at + w) (n * 2 ^ w + v) ws vs (f .1) (omega arith) e′ i
 
 -- CUT, THEN PACKED: the fields that are cut pack to the bits that they were cut from
 pub pack-cut : (bs : List ℕ) (at : ℕ) (ws : List ℕ) → at + total ws ≤ 8 * length bs → pack (leading bs at) ws (cut bs at ws) ≡ leading bs (at + total ws)
 pack-cut bs at [] l = ap (λ (n : ℕ). leading bs n) (sym (add-zero at))
 pack-cut bs at (w ∷ ws) l =
-    ap (λ (n : ℕ). pack n ws (cut bs (at + w) ws)) (leading-field bs at w (omega arith)) ∙ pack-cut bs (at + w) ws (omega arith) ∙ ap (λ (n : ℕ). leading bs n) (add-assoc at w (total ws))
+    ap (λ (n : ℕ). pack n ws (cut bs (at + w) ws)) (leading-field bs at w (omega arith)) ∙ pack-cut bs (at + w) ws (omega arith)
+    ∙ ap (λ (n : ℕ). leading bs n) (add-assoc at w (total ws))
 
 -- ---- layouts of wholeBytes bytes
 
@@ -189,7 +201,8 @@ values-back n ws vs rest h t f =
     let b : v < 2 ^ (8 * n) = rw (zero-add, t) at (pack-lt 0 0 ws vs (lit< tt) f) in
     let z : 8 * n - (0 + total ws) ≡ 0 = omega arith in
     let e : leading xs (0 + total ws) ≡ pack 0 ws vs =
-    leading-take xs (0 + total ws) n o (omega arith) l ∙ ap (λ (ys : List ℕ). number ys / 2 ^ (8 * n - (0 + total ws))) (take-at (bytes n v) rest n (length-bytes n v))
+    leading-take xs (0 + total ws) n o (omega arith) l
+    ∙ ap (λ (ys : List ℕ). number ys / 2 ^ (8 * n - (0 + total ws))) (take-at (bytes n v) rest n (length-bytes n v))
     ∙ rw (number-bytes n v b, z) (div-one v) in
     cut-pack xs 0 0 ws vs f (omega arith) e
 

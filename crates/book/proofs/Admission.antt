@@ -26,7 +26,9 @@ module _ (code : ℕ) (issued : Shares) where
   none-outside [] e = rw (eq-eqb code code refl)
   none-outside (s ∷ l) e = go (s.code is code) refl (none-outside l)
     where
-      go : (b : Bool) → (s.code is code) ≡ b → (some (λ s. s.code is code) l ≡ false → total figure (l ++ (new 0 ∷ [])) ≡ 0) → figure s + total figure (l ++ (new 0 ∷ [])) ≡ 0
+      go :
+          (b : Bool) → (s.code is code) ≡ b → (some (λ s. s.code is code) l ≡ false → total figure (l ++ (new 0 ∷ [])) ≡ 0)
+          → figure s + total figure (l ++ (new 0 ∷ [])) ≡ 0
       go true t rest = absurd (true≢false (rw t at e))
       go false t rest = rw t (omega (arith, rest (rw t at e)))
 
@@ -34,7 +36,9 @@ module _ (code : ℕ) (issued : Shares) where
   none-changed v [] e = rw (eq-eqb code code refl)
   none-changed v (s ∷ l) e = go (s.code is code) refl (none-changed v l)
     where
-      go : (b : Bool) → (s.code is code) ≡ b → (some (λ s. s.code is code) l ≡ false → map (changed v) (l ++ (new 0 ∷ [])) ≡ l ++ (new v ∷ [])) → changed v s ∷ map (changed v) (l ++ (new 0 ∷ [])) ≡ s ∷ (l ++ (new v ∷ []))
+      go :
+          (b : Bool) → (s.code is code) ≡ b → (some (λ s. s.code is code) l ≡ false → map (changed v) (l ++ (new 0 ∷ [])) ≡ l ++ (new v ∷ []))
+          → changed v s ∷ map (changed v) (l ++ (new 0 ∷ [])) ≡ s ∷ (l ++ (new v ∷ []))
       go true t rest = absurd (true≢false (rw t at e))
       go false t rest = rw t (ap (λ (r : List Security). s ∷ r) (rest (rw t at e)))
 

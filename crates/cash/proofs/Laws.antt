@@ -48,7 +48,9 @@ module _ (cash : List ℕ) (long : length cash ≡ 128) (member currency : ℕ) 
           let f = fits-kept m c e in
           getD-set-other cash (place member currency) (place m c) v 0 (λ same. d (omega (arith, same, f)) (omega (arith, same, f)))
 
-      go : (k a b : Bool) → kept m c ≡ k → (member is m) ≡ a → (currency is c) ≡ b → (if k then getD r (place m c) 0 else 0) ≡ (if a && b then v else if k then getD cash (place m c) 0 else 0)
+      go :
+          (k a b : Bool) → kept m c ≡ k → (member is m) ≡ a → (currency is c) ≡ b → (if k then getD r (place m c) 0 else 0)
+          ≡ (if a && b then v else if k then getD cash (place m c) 0 else 0)
       go true true true e f g = rw (← eqb-true member m f, ← eqb-true currency c g) (getD-set-same cash (place member currency) v 0 there)
       go true true false e f g = apart e (λ p q. eqb-false currency c g q)
       go true false b e f g = apart e (λ p q. eqb-false member m f p)
@@ -61,7 +63,14 @@ module _ (cash : List ℕ) (long : length cash ≡ 128) (member currency : ℕ) 
 
   puts : (v w : ℕ) → v ≡ w → (h : Holdings) → withCash (set cash (place member currency) v) h ≡ putCash member currency w (withCash cash h)
   unfolding putCash
-  puts v w e h = λ i. record { securities = h.securities; balance = h.balance; accounts = h.accounts; cash = fun-ext (λ m. fun-ext (λ c. stored v m c ∙ ap (λ (x : ℕ). if member is m && currency is c then x else amountOf cash m c) e)) i }
+  puts v w e h =
+      λ i. record {
+        securities = h.securities;
+        balance = h.balance;
+        accounts = h.accounts;
+        cash = fun-ext
+            (λ m. fun-ext (λ c. stored v m c ∙ ap (λ (x : ℕ). if member is m && currency is c then x else amountOf cash m c) e)) i;
+      }
 
   module _ (at : ℕ) (there : at ≡ place member currency) where
     pub amount-at : getD cash at 0 ≡ amountOf cash member currency
@@ -84,9 +93,13 @@ total-none cash currency = refl
 module _ (cash : List ℕ) (long : length cash ≡ 128) (currency : ℕ) (least : 1 ≤ currency) (most : currency ≤ 2) (i : ℕ) (low : i < 64) where
   -- the next amount
   next : getD cash (2 * i + (currency - 1)) 0 ≡ amountOf cash (i + 1) currency
-  next = amount-at cash long (i + 1) currency (record { member-least = omega arith; member-most = omega arith; currency-least = least; currency-most = most }) (2 * i + (currency - 1)) (omega arith)
+  next =
+      amount-at cash long (i + 1) currency (record { member-least = omega arith; member-most = omega arith; currency-least = least; currency-most = most })
+      (2 * i + (currency - 1)) (omega arith)
 
-  pub total-more : (sum : ℕ) → sum ≡ sumBelow i (λ n. amountOf cash (n + 1) currency) → sum + getD cash (2 * i + (currency - 1)) 0 ≡ sumBelow (i + 1) (λ n. amountOf cash (n + 1) currency)
+  pub total-more :
+      (sum : ℕ) → sum ≡ sumBelow i (λ n. amountOf cash (n + 1) currency) → sum + getD cash (2 * i + (currency - 1)) 0
+      ≡ sumBelow (i + 1) (λ n. amountOf cash (n + 1) currency)
   total-more sum e = omega (arith, next, sum-last i (λ n. amountOf cash (n + 1) currency))
 
   pub total-fits : (sum : ℕ) → sum ≡ sumBelow i (λ n. amountOf cash (n + 1) currency) → sum + getD cash (2 * i + (currency - 1)) 0 ≤ totalIn cash currency

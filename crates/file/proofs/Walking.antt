@@ -32,7 +32,9 @@ unfolding nextAt endOf found
 walk-step file at = here (at below length file) refl (length file - at below 40) refl
   where
     here : (inside : Bool) → (at below length file) ≡ inside → (short : Bool) → (length file - at below 40) ≡ short
-        → recordsOf (drop at file) ≡ found file (λ place. recordsOf (drop place file)) (if inside then Record at (if short then length file else at + 40) (record { at = if short then length file else at + 40 }) else End)
+        → recordsOf (drop at file)
+        ≡ found file (λ place. recordsOf (drop place file))
+        (if inside then Record at (if short then length file else at + 40) (record { at = if short then length file else at + 40 }) else End)
     here false e short h =
         let none : length file - at ≡ 0 = omega (arith, ltb-false at (length file) e) in
         no-records (drop at file) (length-drop at file ∙ none)
@@ -42,7 +44,13 @@ walk-step file at = here (at below length file) refl (length file - at below 40)
         let under : length (drop at file) ≤ 40 = omega (arith, ltb-true (length file - at) 40 h) in
         let behind : length (drop 40 (drop at file)) ≡ 0 = omega (arith, length-drop 40 (drop at file)) in
         first-record (drop at file) (omega (arith, length-drop at file))
-        ∙ rw (take-all 40 (drop at file) under, take-all (length file - at) (drop at file) few, no-records (drop 40 (drop at file)) behind, no-records (drop (length file) file) (length-drop (length file) file ∙ omega arith))
+        ∙ rw (
+          take-all 40 (drop at file) under,
+          take-all (length file - at) (drop at file) few,
+          no-records (drop 40 (drop at file)) behind,
+          no-records
+              (drop (length file) file) (length-drop (length file) file ∙ omega arith),
+        )
     here true e false h =
         let some : at < length file = ltb-true at (length file) e in
         let wide : at + 40 - at ≡ 40 = omega arith in
@@ -54,7 +62,8 @@ unfolding nextAt endOf
 inside file at start end next e = here (at below length file) refl (length file - at below 40) refl e
   where
     here : (within : Bool) → (at below length file) ≡ within → (short : Bool) → (length file - at below 40) ≡ short
-        → (if within then Record at (if short then length file else at + 40) (record { at = if short then length file else at + 40 }) else End) ≡ Record start end next
+        → (if within then Record at (if short then length file else at + 40) (record { at = if short then length file else at + 40 }) else End)
+        ≡ Record start end next
         → (start ≤ end) × (end ≤ length file)
     here false a short b e = let z : _≡_ {A = ℕ} 0 1 = cc in absurd (omega arith)
     here true a true b e =

@@ -48,7 +48,8 @@ pub decimal-more : (n : ℕ) → 10 ≤ n → decimal n ≡ decimal (n / 10) ++ 
 unfolding decimal
 decimal-more n large = last-digit n n large ∙ rw (enough n (suc (n / 10)) (n / 10) (omega arith) (omega arith))
 
-module _ (P : ℕ → List ℕ → Type 0) (one : (n : ℕ) → n < 10 → P n (digit n)) (more : (n : ℕ) (front : List ℕ) → 10 ≤ n → P (n / 10) front → P n (front ++ digit (n % 10))) where
+module _ (P : ℕ → List ℕ → Type 0) (one : (n : ℕ) → n < 10 → P n (digit n))
+    (more : (n : ℕ) (front : List ℕ) → 10 ≤ n → P (n / 10) front → P n (front ++ digit (n % 10))) where
   of-decimal : (n : ℕ) → P n (decimal n)
   unfolding decimal
   of-decimal n = by-last P one more (suc n) n (omega arith)

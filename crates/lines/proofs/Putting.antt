@@ -60,7 +60,9 @@ pub one-more :
     → set now (at + i) (getD bytes i 0) ≡ paste out at bytes (i + 1)
 one-more out at bytes now i room more e = rw (e, paste-suc out at bytes i 0 (omega arith) more, add-one i)
 
-pub all-put : (out : List ℕ) (at : ℕ) (bytes now : List ℕ) (i : ℕ) → at + length bytes ≤ length out → i ≡ length bytes → now ≡ paste out at bytes i → Put out at bytes now (at + i)
+pub all-put :
+    (out : List ℕ) (at : ℕ) (bytes now : List ℕ) (i : ℕ) → at + length bytes ≤ length out → i ≡ length bytes → now ≡ paste out at bytes i
+    → Put out at bytes now (at + i)
 unfolding put
 all-put out at bytes now i room all e = record { room = room; contents = e ∙ whole; place = rw all }
   where

@@ -19,4 +19,5 @@ answerLine number answer = decimal number ++ figure " " (answerNumber answer) ++
 -- RULES 13.4
 unfoldable pub custodyLine : Security → Shares → List ℕ
 custodyLine security held =
-    figure "CUSTODY " (security .code) ++ figure " ISSUED " (security .issued .0) ++ figure " HELD " (held .0) ++ figure " OUTSIDE " (security .outside .0) ++ text "\n"
+    figure "CUSTODY " (security .code) ++ figure " ISSUED " (security .issued .0) ++ figure " HELD " (held .0) ++ figure " OUTSIDE " (security .outside .0) ++
+    text "\n"

@@ -20,7 +20,9 @@ use Rattle.record.specs.Answers.{ReadAs, WrittenAs}
 pub as-read : {octets : List ℕ} {answer : Read} → answer ≡ readOf octets → ReadAs octets answer
 as-read e = record { answered = e; number = ap readNumber e }
 
-pub as-written : {order : Order} {area area′ : List ℕ} {answer : Written} → (answer ≡ writtenOf order area) × (area′ ≡ areaWritten order area) → WrittenAs order area answer area′
+pub as-written :
+    {order : Order} {area area′ : List ℕ} {answer : Written} → (answer ≡ writtenOf order area) × (area′ ≡ areaWritten order area)
+    → WrittenAs order area answer area′
 as-written e = record { answered = e .0; number = ap writtenNumber (e .0); written = e .1 }
 
 module _ (octets : List ℕ) (number : ℕ) (l : length octets ≡ 40) (e : number ≡ fieldsRefusal (fieldsIn octets)) where

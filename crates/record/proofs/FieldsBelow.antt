@@ -97,4 +97,5 @@ getD-map f (x ∷ xs) (suc n) h = getD-map f xs n (omega arith)
 
 pub at-place : (f : ℕ → ℕ) (place : ℕ) → place < length places → getD (map f places) place 0 ≡ f place
 unfolding misplaced places
-at-place f place l = getD-map f places place l ∙ ap f (eqb-true (getD places place 0) place (not-false _ (none-passes (length places) misplaced none-misplaced place l)))
+at-place f place l =
+    getD-map f places place l ∙ ap f (eqb-true (getD places place 0) place (not-false _ (none-passes (length places) misplaced none-misplaced place l)))

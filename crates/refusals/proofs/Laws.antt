@@ -26,7 +26,9 @@ pub none-both : {A : Type 0} (one other : A → Bool) (l : List A) → some one 
 none-both one other [] e = refl
 none-both one other (x ∷ rest) e = go (one x) e (none-both one other rest)
   where
-    go : (t : Bool) → (t || some one rest) ≡ false → (some one rest ≡ false → some (λ y. one y && other y) rest ≡ false) → (t && other x || some (λ y. one y && other y) rest) ≡ false
+    go :
+        (t : Bool) → (t || some one rest) ≡ false → (some one rest ≡ false → some (λ y. one y && other y) rest ≡ false)
+        → (t && other x || some (λ y. one y && other y) rest) ≡ false
     go true p later = absurd (false≢true (sym p))
     go false p later = later p
 
@@ -61,8 +63,12 @@ module _ (b : Ledger) (p : Premise b) (s r i : ℕ) (at : Passes (sentBy s r) b.
       go false e Nothing q = sym (found-some both 0 b.waiting) ∙ ap isFound q
       go false e (At j) q =
           let there = found-passes both b.waiting j q in
-          let same : i ≡ j = reference-once b p s r i j x at.inside there.inside (at.passes x) (both-left (sentBy s r (getD b.waiting j x)) (notCancellable s (getD b.waiting j x)) (there.passes x)) in
-          let y : notCancellable s (getD b.waiting i x) ≡ true = subst (λ (k : ℕ). notCancellable s (getD b.waiting k x) ≡ true) (sym same) (both-right (sentBy s r (getD b.waiting j x)) (notCancellable s (getD b.waiting j x)) (there.passes x)) in
+          let same : i ≡ j =
+          reference-once b p s r i j x at.inside there.inside (at.passes x)
+          (both-left (sentBy s r (getD b.waiting j x)) (notCancellable s (getD b.waiting j x)) (there.passes x)) in
+          let y : notCancellable s (getD b.waiting i x) ≡ true =
+          subst (λ (k : ℕ). notCancellable s (getD b.waiting k x) ≡ true) (sym same)
+          (both-right (sentBy s r (getD b.waiting j x)) (notCancellable s (getD b.waiting j x)) (there.passes x)) in
           absurd (false≢true (sym e ∙ ap (notCancellable s) here ∙ y))
 
 -- ---- ranges of forms
@@ -83,19 +89,20 @@ not-waiting n e = go (leb 12 n) refl e
 
 -- ---- test 15, by what the search for the item finds
 
-module _ (b : Ledger) (o : Order) (s : ℕ) (f : Found) (form : o.form ≡ 15) (sender : s ≡ senderOf o) (found : f ≡ placeIn (sentBy s o.reference) b.waiting) where
-  pub cancel-nothing : f ≡ Nothing → wrongCancel b.waiting o ≡ false
-  unfolding wrongCancel
-  cancel-nothing e =
-      rw (eq-eqb o.form 15 form, ← sender)
-      (none-both (sentBy s o.reference) (notCancellable s) b.waiting (sym (found-some (sentBy s o.reference) 0 b.waiting) ∙ ap isFound (sym found ∙ e)))
-
-  module _ (i : ℕ) (e : f ≡ At i) where
-    pub cancel-inside : i < length b.waiting
-    cancel-inside = found-passes (sentBy s o.reference) b.waiting i (sym found ∙ e) .inside
-
-    pub cancel-at : Premise b → (x : Item) → x ≡ getD b.waiting i x → wrongCancel b.waiting o ≡ notCancellable s x
+module _ (b : Ledger) (o : Order) (s : ℕ) (f : Found) (form : o.form ≡ 15) (sender : s ≡ senderOf o) (found : f ≡ placeIn (sentBy s o.reference) b.waiting)
+  where
+    pub cancel-nothing : f ≡ Nothing → wrongCancel b.waiting o ≡ false
     unfolding wrongCancel
-    cancel-at p x here =
+    cancel-nothing e =
         rw (eq-eqb o.form 15 form, ← sender)
-        (cancel-one b p s o.reference i (found-passes (sentBy s o.reference) b.waiting i (sym found ∙ e)) x here)
+        (none-both (sentBy s o.reference) (notCancellable s) b.waiting (sym (found-some (sentBy s o.reference) 0 b.waiting) ∙ ap isFound (sym found ∙ e)))
+
+    module _ (i : ℕ) (e : f ≡ At i) where
+      pub cancel-inside : i < length b.waiting
+      cancel-inside = found-passes (sentBy s o.reference) b.waiting i (sym found ∙ e) .inside
+
+      pub cancel-at : Premise b → (x : Item) → x ≡ getD b.waiting i x → wrongCancel b.waiting o ≡ notCancellable s x
+      unfolding wrongCancel
+      cancel-at p x here =
+          rw (eq-eqb o.form 15 form, ← sender)
+          (cancel-one b p s o.reference i (found-passes (sentBy s o.reference) b.waiting i (sym found ∙ e)) x here)

@@ -59,7 +59,8 @@ module _ (b : Ledger) (o : Order) (w : WasRead o) (p : Premise b) (passed : Side
       on-5 true e three =
           let r = within-parts 5 9 o.form e in
           let l : 3 ≤ o.form = omega (arith, r .0) in
-          transfer-space b o (p .sizes) (r .0) (r .1) (some-quantity o w l (r .1)) (debit-enough b o (passed .enough) (wider o.form e)) (sides-apart b o (r .0) (r .1) (passed .types) (passed .parties))
+          transfer-space b o (p .sizes) (r .0) (r .1) (some-quantity o w l (r .1)) (debit-enough b o (passed .enough) (wider o.form e))
+          (sides-apart b o (r .0) (r .1) (passed .types) (passed .parties))
           ∙ simp (full, and-false)
       on-5 false e three = on-12 (within 12 13 o.form) refl three e
 

@@ -56,7 +56,9 @@ module _ (s : List ℕ) (kept : Kept s) (code : ℕ) where
   changed v x = if x.code is code then security x.code (x.issued .0) v else x
 
   -- r has the securities of s, but the code's has the outside count v
-  puts : (r : List ℕ) (v : ℕ) → rows r ≡ rows s → ((k : ℕ) → k < rows s → securityAt r k ≡ changed v (securityAt s k)) → (h : Holdings) → withSecurities r h ≡ putOutside code v (withSecurities s h)
+  puts :
+      (r : List ℕ) (v : ℕ) → rows r ≡ rows s → ((k : ℕ) → k < rows s → securityAt r k ≡ changed v (securityAt s k)) → (h : Holdings) → withSecurities r h
+      ≡ putOutside code v (withSecurities s h)
   unfolding putOutside putSecurities securitiesOf changed
   puts r v size each h =
       let list : listFrom (securityAt r) 0 (rows r) ≡ map (changed v) (listFrom (securityAt s) 0 (rows s)) =
@@ -85,7 +87,8 @@ module _ (s : List ℕ) (kept : Kept s) (code : ℕ) where
     pub outside-here : (h : Holdings) → getD s (j + OUTSIDE) 0 ≡ outsideOf code (withSecurities s h)
     outside-here h = sym (value-at s code OUTSIDE kept.once j low own) ∙ outside-value s code h
 
-    pub put-stored : (v : ℕ) → Kept (set s (j + OUTSIDE) v) × ((h : Holdings) → withSecurities (set s (j + OUTSIDE) v) h ≡ putOutside code v (withSecurities s h))
+    pub put-stored :
+        (v : ℕ) → Kept (set s (j + OUTSIDE) v) × ((h : Holdings) → withSecurities (set s (j + OUTSIDE) v) h ≡ putOutside code v (withSecurities s h))
     unfolding changed
     put-stored v = (record { long = length-set s (j + OUTSIDE) v ∙ kept.long; size = rw size kept.size; once = once }, puts r v size each)
       where
@@ -103,7 +106,8 @@ module _ (s : List ℕ) (kept : Kept s) (code : ℕ) where
 
         once : KeysOnce r
         once x =
-            let same : sumBelow (rows s) (λ i. if keyAt r i is x then 1 else 0) ≡ sumBelow (rows s) (λ i. if keyAt s i is x then 1 else 0) = sum-same (rows s) _ _ (λ k l. ap (λ (c : ℕ). if c is x then 1 else 0) (code-as k l)) in
+            let same : sumBelow (rows s) (λ i. if keyAt r i is x then 1 else 0) ≡ sumBelow (rows s) (λ i. if keyAt s i is x then 1 else 0) =
+            sum-same (rows s) _ _ (λ k l. ap (λ (c : ℕ). if c is x then 1 else 0) (code-as k l)) in
             rw (size, same) (kept.once x)
 
         each : (k : ℕ) → k < rows s → securityAt r k ≡ changed v (securityAt s k)
@@ -112,20 +116,27 @@ module _ (s : List ℕ) (kept : Kept s) (code : ℕ) where
             go : Dec (k ≡ j) → securityAt r k ≡ changed v (securityAt s k)
             go (yes e) =
                 let own-k : (keyAt s k is code) ≡ true = eq-eqb (keyAt s k) code (ap (keyAt s) e ∙ own) in
-                let new : getD r (k + OUTSIDE) 0 ≡ v = ap (λ (i : ℕ). getD r (i + OUTSIDE) 0) e ∙ getD-set-same s (j + OUTSIDE) v 0 (omega (arith, low, kept.size, kept.long)) in
+                let new : getD r (k + OUTSIDE) 0 ≡ v =
+                ap (λ (i : ℕ). getD r (i + OUTSIDE) 0) e ∙ getD-set-same s (j + OUTSIDE) v 0 (omega (arith, low, kept.size, kept.long)) in
                 (λ t. security (code-as k l t) (issued-as k l t) (new t)) ∙ rw own-k
             go (no d) =
                 let other : (keyAt s k is code) ≡ false = ne-eqb (keyAt s k) code (λ e. d (key-once s code kept.once j low own k l e)) in
                 let stays : getD r (k + OUTSIDE) 0 ≡ getD s (k + OUTSIDE) 0 = getD-set-other s (j + OUTSIDE) (k + OUTSIDE) v 0 (λ e. d (omega (arith, e))) in
                 (λ t. security (code-as k l t) (issued-as k l t) (stays t)) ∙ sym (changed-other v k other)
 
-    pub credited : (q : ℕ) → Kept (set s (j + OUTSIDE) (getD s (j + OUTSIDE) 0 + q)) × ((h : Holdings) → withSecurities (set s (j + OUTSIDE) (getD s (j + OUTSIDE) 0 + q)) h ≡ credit (type91 code) q (withSecurities s h))
+    pub credited :
+        (q : ℕ) → Kept (set s (j + OUTSIDE) (getD s (j + OUTSIDE) 0 + q))
+        × ((h : Holdings) → withSecurities (set s (j + OUTSIDE) (getD s (j + OUTSIDE) 0 + q)) h ≡ credit (type91 code) q (withSecurities s h))
     unfolding credit
-    credited q = let p = put-stored (getD s (j + OUTSIDE) 0 + q) in (p .0, λ h. p .1 h ∙ ap (λ (x : ℕ). putOutside code (x + q) (withSecurities s h)) (outside-here h))
+    credited q =
+        let p = put-stored (getD s (j + OUTSIDE) 0 + q) in (p .0, λ h. p .1 h ∙ ap (λ (x : ℕ). putOutside code (x + q) (withSecurities s h)) (outside-here h))
 
-    pub debited : (q : ℕ) → Kept (set s (j + OUTSIDE) (getD s (j + OUTSIDE) 0 - q)) × ((h : Holdings) → withSecurities (set s (j + OUTSIDE) (getD s (j + OUTSIDE) 0 - q)) h ≡ debit (type91 code) q (withSecurities s h))
+    pub debited :
+        (q : ℕ) → Kept (set s (j + OUTSIDE) (getD s (j + OUTSIDE) 0 - q))
+        × ((h : Holdings) → withSecurities (set s (j + OUTSIDE) (getD s (j + OUTSIDE) 0 - q)) h ≡ debit (type91 code) q (withSecurities s h))
     unfolding debit
-    debited q = let p = put-stored (getD s (j + OUTSIDE) 0 - q) in (p .0, λ h. p .1 h ∙ ap (λ (x : ℕ). putOutside code (x - q) (withSecurities s h)) (outside-here h))
+    debited q =
+        let p = put-stored (getD s (j + OUTSIDE) 0 - q) in (p .0, λ h. p .1 h ∙ ap (λ (x : ℕ). putOutside code (x - q) (withSecurities s h)) (outside-here h))
 
   -- where there is none with the code, a credit and a debit change nothing
   pub credited-nowhere : placeOf code s ≡ Nothing → (q : ℕ) (h : Holdings) → withSecurities s h ≡ credit (type91 code) q (withSecurities s h)
@@ -177,8 +188,10 @@ module _ (s : List ℕ) (kept : Kept s) (code : ℕ) where
     stays : (k : ℕ) → k < n → securityAt r k ≡ securityAt s k
     stays k l =
         let a : keyAt r k ≡ keyAt s k = word-as (k + 1) (λ e. omega (arith, e)) (λ e. omega (arith, e)) (λ e. omega (arith, e)) (λ e. omega (arith, e)) in
-        let b : getD r (k + ISSUED) 0 ≡ getD s (k + ISSUED) 0 = word-as (k + ISSUED) (λ e. omega (arith, e, room)) (λ e. omega (arith, e)) (λ e. omega (arith, e)) (λ e. omega (arith, e)) in
-        let c : getD r (k + OUTSIDE) 0 ≡ getD s (k + OUTSIDE) 0 = word-as (k + OUTSIDE) (λ e. omega (arith, e, room)) (λ e. omega (arith, e, room)) (λ e. omega (arith, e)) (λ e. omega (arith, e)) in
+        let b : getD r (k + ISSUED) 0 ≡ getD s (k + ISSUED) 0 =
+        word-as (k + ISSUED) (λ e. omega (arith, e, room)) (λ e. omega (arith, e)) (λ e. omega (arith, e)) (λ e. omega (arith, e)) in
+        let c : getD r (k + OUTSIDE) 0 ≡ getD s (k + OUTSIDE) 0 =
+        word-as (k + OUTSIDE) (λ e. omega (arith, e, room)) (λ e. omega (arith, e, room)) (λ e. omega (arith, e)) (λ e. omega (arith, e)) in
         λ t. security (a t) (b t) (c t)
 
     comes : securityAt r n ≡ security code q q
@@ -230,7 +243,9 @@ module _ (s : List ℕ) (kept : Kept s) (code : ℕ) where
     unfolding securitiesOf
     admits =
         let z : 0 + n ≡ n = omega arith in
-        let list : listFrom (securityAt r) 0 (suc n) ≡ listFrom (securityAt s) 0 n ++ (securityAt r (0 + n) ∷ []) = from-push (securityAt s) (securityAt r) 0 n (λ k l. stays (0 + k) (omega arith)) in (
+        let list : listFrom (securityAt r) 0 (suc n) ≡ listFrom (securityAt s) 0 n ++ (securityAt r (0 + n) ∷ []) =
+        from-push (securityAt s) (securityAt r) 0 n (λ k l. stays (0 + k) (omega arith)) in (
           record { long = length-set with-outside 0 (n + 1) ∙ outside-long; size = rw size (omega arith); once = once },
-          ap (listFrom (securityAt r) 0) (size ∙ add-one n) ∙ list ∙ ap (λ (x : Security). listFrom (securityAt s) 0 n ++ (x ∷ [])) (ap (securityAt r) z ∙ comes),
+          ap (listFrom (securityAt r) 0) (size ∙ add-one n) ∙ list
+              ∙ ap (λ (x : Security). listFrom (securityAt s) 0 n ++ (x ∷ [])) (ap (securityAt r) z ∙ comes),
         )

@@ -45,7 +45,9 @@ module _ (sender reference : ℕ) (r : List ℕ) (one : (reference is getD r 13 
     where
       go :
           (t u : Bool)
-          → sentBy sender reference (stated (itemOf r) (if t then Single (getD r 15 0 is 1) (getD r 13 0) else if u then Pair (getD r 13 0) (getD r 14 0) (getD r 15 0 % 2 is 1) (getD r 15 0 / 2 is 1) else Trade (getD r 13 0)))
+          → sentBy sender reference
+          (stated (itemOf r) (if t then Single (getD r 15 0 is 1) (getD r 13 0) else if u then Pair (getD r 13 0) (getD r 14 0) (getD r 15 0 % 2 is 1)
+          (getD r 15 0 / 2 is 1) else Trade (getD r 13 0)))
           ≡ false
       go true u = simp (one, and-false)
       go false true = simp (one, two, and-false)
@@ -54,7 +56,8 @@ module _ (sender reference : ℕ) (r : List ℕ) (one : (reference is getD r 13 
 -- ---- pairing
 
 -- singles of other quantities do not pair
-pub quantities-differ : (limit : ℕ) (a w : Item) → (w .quantity .0 is a .quantity .0) ≡ false → (a .quantity .0 is w .quantity .0) ≡ false → pairsWith limit a w ≡ false
+pub quantities-differ :
+    (limit : ℕ) (a w : Item) → (w .quantity .0 is a .quantity .0) ≡ false → (a .quantity .0 is w .quantity .0) ≡ false → pairsWith limit a w ≡ false
 unfolding pairsWith agree
 quantities-differ limit a w e f = simp (e, f, and-false)
 
@@ -63,14 +66,21 @@ pub no-single : (limit : ℕ) (a : Item) (r : List ℕ) → (getD r 12 0 is 0) �
 unfolding pairsWith isDeliver isReceive stateOf
 no-single limit a r e = go (getD r 12 0 is 1)
   where
-    go : (u : Bool) → pairsWith limit a (stated (itemOf r) (if getD r 12 0 is 0 then Single (getD r 15 0 is 1) (getD r 13 0) else if u then Pair (getD r 13 0) (getD r 14 0) (getD r 15 0 % 2 is 1) (getD r 15 0 / 2 is 1) else Trade (getD r 13 0))) ≡ false
+    go :
+        (u : Bool)
+        → pairsWith limit a (stated (itemOf r)
+        (if getD r 12 0 is 0 then Single (getD r 15 0 is 1) (getD r 13 0) else if u then Pair (getD r 13 0) (getD r 14 0) (getD r 15 0 % 2 is 1)
+        (getD r 15 0 / 2 is 1) else Trade (getD r 13 0)))
+        ≡ false
     go true = simp e
     go false = simp e
 
 -- ---- the same, of the item at i
 
 module _ (w : List ℕ) (i : ℕ) (low : i < rows w) where
-  pub bears-none : (reference : ℕ) → (reference is getD w (i * 16 + 1 + 13) 0) ≡ false → (reference is getD w (i * 16 + 1 + 14) 0) ≡ false → (d : Item) (sender : ℕ) → sentBy sender reference (getD (itemsOf w) i d) ≡ false
+  pub bears-none :
+      (reference : ℕ) → (reference is getD w (i * 16 + 1 + 13) 0) ≡ false → (reference is getD w (i * 16 + 1 + 14) 0) ≡ false → (d : Item) (sender : ℕ)
+      → sentBy sender reference (getD (itemsOf w) i d) ≡ false
   bears-none reference e f d sender =
       ap (sentBy sender reference) (sym (item-there w i d low))
       ∙ bears-not sender reference (rowAt w i) (rw (word-of w i 13 (omega arith)) e) (rw (word-of w i 14 (omega arith)) f)

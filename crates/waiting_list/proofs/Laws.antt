@@ -57,7 +57,9 @@ module _ (w : List ℕ) (long : length w ≡ 1025) (i : ℕ) (low : i < 64) (ite
     where
       go : (b : Bool) → ltb j i ≡ b → itemAt (putRow w i (wordsOf item)) j ≡ itemAt w j
       go true e = let l : j < i = ltb-true j i e in ap itemOf (part-before w (wordsOf item) (i * 16 + 1) 16 (omega arith) refl (j * 16 + 1) 16 (omega arith))
-      go false e = let l : i < j = omega (arith, ltb-false j i e, ne) in ap itemOf (part-behind w (wordsOf item) (i * 16 + 1) 16 (omega arith) refl (j * 16 + 1) 16 (omega arith))
+      go false e =
+          let l : i < j = omega (arith, ltb-false j i e, ne) in ap itemOf
+          (part-behind w (wordsOf item) (i * 16 + 1) 16 (omega arith) refl (j * 16 + 1) 16 (omega arith))
 
   pub put-long : length (putRow w i (wordsOf item)) ≡ 1025
   put-long = part-length w (wordsOf item) (i * 16 + 1) 16 (omega arith) refl ∙ long
@@ -68,7 +70,9 @@ counted w n j = ap (λ (l : List ℕ). itemOf (take 16 l)) (drop-set-lt (j * 16 
 
 -- ---- an item put in the place of another
 
-pub put-in : (w : List ℕ) (i : ℕ) (item : Item) → Sized w → i < rows w → Sized (putRow w i (wordsOf item)) × (itemsOf (putRow w i (wordsOf item)) ≡ set (itemsOf w) i item)
+pub put-in :
+    (w : List ℕ) (i : ℕ) (item : Item) → Sized w → i < rows w → Sized (putRow w i (wordsOf item))
+    × (itemsOf (putRow w i (wordsOf item)) ≡ set (itemsOf w) i item)
 unfolding itemsOf
 put-in w i item sized low =
     let put : List ℕ = putRow w i (wordsOf item) in
@@ -76,15 +80,19 @@ put-in w i item sized low =
     let size : rows put ≡ rows w = word-before w (wordsOf item) (i * 16 + 1) 16 (omega (arith, sized .long)) refl 0 (omega arith) in
     let z : 0 + i ≡ i = omega arith in
     let list : listFrom (itemAt put) 0 (rows w) ≡ set (listFrom (itemAt w) 0 (rows w)) i (itemAt put (0 + i)) =
-    from-set (itemAt w) (itemAt put) 0 (rows w) i low (λ k h ne. item-other w (sized .long) i in-rows item (0 + k) (omega (arith, sized .size)) (λ e. ne (omega (arith, e))))
+    from-set (itemAt w) (itemAt put) 0 (rows w) i low
+    (λ k h ne. item-other w (sized .long) i in-rows item (0 + k) (omega (arith, sized .size)) (λ e. ne (omega (arith, e))))
     in (
       record { long = put-long w (sized .long) i in-rows item; size = rw size (sized .size) },
-      ap (listFrom (itemAt put) 0) size ∙ list ∙ ap (λ (x : Item). set (listFrom (itemAt w) 0 (rows w)) i x) (ap (itemAt put) z ∙ item-put w (sized .long) i in-rows item),
+      ap (listFrom (itemAt put) 0) size ∙ list
+          ∙ ap (λ (x : Item). set (listFrom (itemAt w) 0 (rows w)) i x) (ap (itemAt put) z ∙ item-put w (sized .long) i in-rows item),
     )
 
 -- ---- a push
 
-pub pushed : (w : List ℕ) (item : Item) → Sized w → rows w < 64 → Sized (set (putRow w (rows w) (wordsOf item)) 0 (rows w + 1)) × (itemsOf (set (putRow w (rows w) (wordsOf item)) 0 (rows w + 1)) ≡ itemsOf w ++ (item ∷ []))
+pub pushed :
+    (w : List ℕ) (item : Item) → Sized w → rows w < 64 → Sized (set (putRow w (rows w) (wordsOf item)) 0 (rows w + 1))
+    × (itemsOf (set (putRow w (rows w) (wordsOf item)) 0 (rows w + 1)) ≡ itemsOf w ++ (item ∷ []))
 unfolding itemsOf
 pushed w item sized room =
     let put : List ℕ = putRow w (rows w) (wordsOf item) in
@@ -94,8 +102,10 @@ pushed w item sized room =
     let e : 0 + rows w ≡ rows w = omega arith in
     counted put (rows w + 1) (0 + rows w) ∙ ap (itemAt put) e ∙ item-put w (sized .long) (rows w) room item
     in
-    let list : listFrom (itemAt (set put 0 (rows w + 1))) 0 (suc (rows w)) ≡ listFrom (itemAt w) 0 (rows w) ++ (itemAt (set put 0 (rows w + 1)) (0 + rows w) ∷ []) =
-    from-push (itemAt w) (itemAt (set put 0 (rows w + 1))) 0 (rows w) (λ k h. counted put (rows w + 1) (0 + k) ∙ item-other w (sized .long) (rows w) room item (0 + k) (omega arith) (λ e. omega (arith, e)))
+    let list : listFrom (itemAt (set put 0 (rows w + 1))) 0 (suc (rows w))
+    ≡ listFrom (itemAt w) 0 (rows w) ++ (itemAt (set put 0 (rows w + 1)) (0 + rows w) ∷ []) =
+    from-push (itemAt w) (itemAt (set put 0 (rows w + 1))) 0 (rows w)
+    (λ k h. counted put (rows w + 1) (0 + k) ∙ item-other w (sized .long) (rows w) room item (0 + k) (omega arith) (λ e. omega (arith, e)))
     in (
       record { long = length-set put 0 (rows w + 1) ∙ long; size = rw size (omega arith) },
       ap (listFrom (itemAt (set put 0 (rows w + 1))) 0) (size ∙ add-one (rows w)) ∙ list ∙ ap (λ (x : Item). listFrom (itemAt w) 0 (rows w) ++ (x ∷ [])) last,
@@ -117,7 +127,8 @@ module _ (w : List ℕ) (sized : Sized w) (at : ℕ) (low : at < rows w) where
   fits = omega (arith, sized .long, sized .size)
 
   before : (k : ℕ) → k < at → rowAt (down w at) k ≡ rowAt w k
-  before k h = part-before w (take ((rows w - 1 - at) * 16) (drop (at * 16 + 1 + 16) w)) (at * 16 + 1) ((rows w - 1 - at) * 16) fits wide (k * 16 + 1) 16 (omega arith)
+  before k h =
+      part-before w (take ((rows w - 1 - at) * 16) (drop (at * 16 + 1 + 16) w)) (at * 16 + 1) ((rows w - 1 - at) * 16) fits wide (k * 16 + 1) 16 (omega arith)
 
   behind : (k : ℕ) → at ≤ k → k < rows w - 1 → rowAt (down w at) k ≡ rowAt w (suc k)
   behind k h l =
@@ -134,16 +145,20 @@ module _ (w : List ℕ) (sized : Sized w) (at : ℕ) (low : at < rows w) where
           let long : length (take n s) ≡ n = length-take-le n s l in
           let in-m : m ≤ length (take n s) = omega arith in
           let in-r : 16 ≤ length (drop m (take n s)) = rw length-drop (omega arith) in
-          sym (ap (λ (x : List ℕ). take 16 (drop m x)) (sym (take-append-drop n s)) ∙ ap (take 16) (drop-append-le m (take n s) (drop n s) in-m) ∙ take-append-le 16 (drop m (take n s)) (drop n s) in-r)
+          sym
+          (ap (λ (x : List ℕ). take 16 (drop m x)) (sym (take-append-drop n s)) ∙ ap (take 16) (drop-append-le m (take n s) (drop n s) in-m) ∙ take-append-le
+          16 (drop m (take n s)) (drop n s) in-r)
 
   pub removed : Sized (set (down w at) 0 (rows w - 1)) × (itemsOf (set (down w at) 0 (rows w - 1)) ≡ removeAt at (itemsOf w))
   unfolding itemsOf
   removed =
       let n : ℕ = rows w - 1 in
-      let long : length (down w at) ≡ 1025 = part-length w (take ((rows w - 1 - at) * 16) (drop (at * 16 + 1 + 16) w)) (at * 16 + 1) ((rows w - 1 - at) * 16) fits wide ∙ sized .long in
+      let long : length (down w at) ≡ 1025 =
+      part-length w (take ((rows w - 1 - at) * 16) (drop (at * 16 + 1 + 16) w)) (at * 16 + 1) ((rows w - 1 - at) * 16) fits wide ∙ sized .long in
       let size : getD (set (down w at) 0 n) 0 0 ≡ n = getD-set-same (down w at) 0 n 0 (omega (arith, long)) in
       let list : listFrom (itemAt (set (down w at) 0 n)) 0 n ≡ removeAt at (listFrom (itemAt w) 0 (suc n)) =
-      from-remove (itemAt w) (itemAt (set (down w at) 0 n)) 0 n at (omega arith) (λ k h. counted (down w at) n (0 + k) ∙ stay k h) (λ k h l. counted (down w at) n (0 + k) ∙ fall k h l)
+      from-remove (itemAt w) (itemAt (set (down w at) 0 n)) 0 n at (omega arith) (λ k h. counted (down w at) n (0 + k) ∙ stay k h)
+      (λ k h l. counted (down w at) n (0 + k) ∙ fall k h l)
       in
       let whole : suc n ≡ rows w = omega arith in (
         record { long = length-set (down w at) 0 n ∙ long; size = rw size (omega (arith, sized .size)) },
@@ -169,7 +184,8 @@ unfolding itemsOf
 cut-down w n sized low =
     let size : getD (set w 0 n) 0 0 ≡ n = getD-set-same w 0 n 0 (omega (arith, sized .long)) in (
       record { long = length-set w 0 n ∙ sized .long; size = rw size (omega (arith, sized .size)) },
-      ap (listFrom (itemAt (set w 0 n)) 0) size ∙ from-same (itemAt w) (itemAt (set w 0 n)) 0 0 n (λ k h. counted w n (0 + k)) ∙ sym (from-take (itemAt w) 0 (rows w) n low),
+      ap (listFrom (itemAt (set w 0 n)) 0) size ∙ from-same (itemAt w) (itemAt (set w 0 n)) 0 0 n (λ k h. counted w n (0 + k))
+          ∙ sym (from-take (itemAt w) 0 (rows w) n low),
     )
 
 pub how-many : (w : List ℕ) → length (itemsOf w) ≡ rows w

@@ -103,13 +103,15 @@ module _ {A : Type 0} where
       rw (first, from-same f g (suc i) (suc j) n next)
 
   -- one place stored to
-  pub from-set : (f g : ℕ → A) (i n j : ℕ) → j < n → ((k : ℕ) → k < n → (k ≡ j → ⊥) → g (i + k) ≡ f (i + k)) → listFrom g i n ≡ set (listFrom f i n) j (g (i + j))
+  pub from-set :
+      (f g : ℕ → A) (i n j : ℕ) → j < n → ((k : ℕ) → k < n → (k ≡ j → ⊥) → g (i + k) ≡ f (i + k)) → listFrom g i n ≡ set (listFrom f i n) j (g (i + j))
   unfolding listFrom
   from-set f g i zero j l h = absurd (omega arith)
   from-set f g i (suc n) zero l h =
       let a : i + 0 ≡ i = omega arith in
       let rest : listFrom g (suc i) n ≡ listFrom f (suc i) n =
-      from-same f g (suc i) (suc i) n (λ k m. let c : suc i + k ≡ i + suc k = omega arith in ap g c ∙ h (suc k) (omega arith) (λ z. omega (arith, z)) ∙ ap f (sym c))
+      from-same f g (suc i) (suc i) n
+      (λ k m. let c : suc i + k ≡ i + suc k = omega arith in ap g c ∙ h (suc k) (omega arith) (λ z. omega (arith, z)) ∙ ap f (sym c))
       in
       rw (a, rest)
   from-set f g i (suc n) (suc j) l h =
@@ -117,7 +119,8 @@ module _ {A : Type 0} where
       let z : g i ≡ f i = ap g (sym a) ∙ h 0 (omega arith) (λ z. omega (arith, z)) ∙ ap f a in
       let c : suc i + j ≡ i + suc j = omega arith in
       let rest : listFrom g (suc i) n ≡ set (listFrom f (suc i) n) j (g (suc i + j)) =
-      from-set f g (suc i) n j (omega arith) (λ k m ne. let d : suc i + k ≡ i + suc k = omega arith in ap g d ∙ h (suc k) (omega arith) (λ e. ne (omega (arith, e))) ∙ ap f (sym d))
+      from-set f g (suc i) n j (omega arith)
+      (λ k m ne. let d : suc i + k ≡ i + suc k = omega arith in ap g d ∙ h (suc k) (omega arith) (λ e. ne (omega (arith, e))) ∙ ap f (sym d))
       in
       rw (z, rest, c)
 
@@ -135,7 +138,9 @@ module _ {A : Type 0} where
       ap (λ (x : A). x ∷ listFrom g (suc i) (suc n)) z ∙ ap (λ (r : List A). f i ∷ r) (rest ∙ ap (λ (k : ℕ). listFrom f (suc i) n ++ (g k ∷ [])) c)
 
   -- one place taken out: those below stay, each later one comes one down
-  pub from-remove : (f g : ℕ → A) (i n j : ℕ) → j ≤ n → ((k : ℕ) → k < j → g (i + k) ≡ f (i + k)) → ((k : ℕ) → j ≤ k → k < n → g (i + k) ≡ f (i + suc k)) → listFrom g i n ≡ removeAt j (listFrom f i (suc n))
+  pub from-remove :
+      (f g : ℕ → A) (i n j : ℕ) → j ≤ n → ((k : ℕ) → k < j → g (i + k) ≡ f (i + k)) → ((k : ℕ) → j ≤ k → k < n → g (i + k) ≡ f (i + suc k)) → listFrom g i n
+      ≡ removeAt j (listFrom f i (suc n))
   unfolding listFrom
   from-remove f g i n zero l h m = from-same f g (suc i) i n (λ k q. let d : i + suc k ≡ suc i + k = omega arith in m k (omega arith) q ∙ ap f d)
   from-remove f g i zero (suc j) l h m = absurd (omega arith)
@@ -143,7 +148,9 @@ module _ {A : Type 0} where
       let a : i + 0 ≡ i = omega arith in
       let z : g i ≡ f i = ap g (sym a) ∙ h 0 (omega arith) ∙ ap f a in
       let rest : listFrom g (suc i) n ≡ removeAt j (listFrom f (suc i) (suc n)) =
-      from-remove f g (suc i) n j (omega arith) (λ k q. let d : suc i + k ≡ i + suc k = omega arith in ap g d ∙ h (suc k) (omega arith) ∙ ap f (sym d)) (λ k q r. let d : suc i + k ≡ i + suc k = omega arith in let e : i + suc (suc k) ≡ suc i + suc k = omega arith in ap g d ∙ m (suc k) (omega arith) (omega arith) ∙ ap f e)
+      from-remove f g (suc i) n j (omega arith) (λ k q. let d : suc i + k ≡ i + suc k = omega arith in ap g d ∙ h (suc k) (omega arith) ∙ ap f (sym d))
+      (λ k q r. let d : suc i + k ≡ i + suc k = omega arith in let e : i + suc (suc k) ≡ suc i + suc k = omega arith in ap g d ∙ m (suc k) (omega arith)
+      (omega arith) ∙ ap f e)
       in
       ap (λ (x : A). x ∷ listFrom g (suc i) n) z ∙ ap (λ (r : List A). f i ∷ r) rest
 
@@ -158,7 +165,9 @@ module _ {A : Type 0} where
   from-some test f i zero = refl
   from-some test f i (suc n) = go (test (f i)) (from-some test f (suc i) n)
     where
-      go : (b : Bool) → some test (listFrom f (suc i) n) ≡ isFound (firstFrom (λ k. test (f k)) (suc i) n) → (b || some test (listFrom f (suc i) n)) ≡ isFound (if b then At i else firstFrom (λ k. test (f k)) (suc i) n)
+      go :
+          (b : Bool) → some test (listFrom f (suc i) n) ≡ isFound (firstFrom (λ k. test (f k)) (suc i) n) → (b || some test (listFrom f (suc i) n))
+          ≡ isFound (if b then At i else firstFrom (λ k. test (f k)) (suc i) n)
       go true rest = refl
       go false rest = rest
 

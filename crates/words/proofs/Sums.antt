@@ -81,7 +81,8 @@ module _ (n : ℕ) (test : ℕ → Bool) (once : sumBelow n (λ k. if test k the
 
   pub sum-one : (f : ℕ → ℕ) → sumBelow n (λ k. if test k then f k else 0) ≡ f j
   sum-one f =
-      let a : sumBelow n (λ k. if test k then f k else 0) + 0 ≡ sumBelow n (λ k. 0) + (if test j then f j else 0) = sum-change n j (λ k. 0) (λ k. if test k then f k else 0) l other in
+      let a : sumBelow n (λ k. if test k then f k else 0) + 0 ≡ sumBelow n (λ k. 0) + (if test j then f j else 0) =
+      sum-change n j (λ k. 0) (λ k. if test k then f k else 0) l other in
       let b : (if test j then f j else 0) ≡ f j = rw here in
       omega (arith, a, b, sum-none n (λ k. 0) (λ k m. refl))
     where

@@ -45,7 +45,9 @@ module _ (table : List ℕ) (key : ℕ) where
     next : (k j : ℕ) → k < n → j ≡ k + 1 → (getD table j 0 ≡ key → ⊥) → from k ≡ from (k + 1)
     next k j l e d = first-next (isKey table key) n k l (ne-eqb (getD table (k + 1) 0) key (λ f. d (ap (λ (x : ℕ). getD table x 0) e ∙ f)))
 
-    pub four-passed : (i : ℕ) → i + 4 ≤ n → (getD table (i + 1) 0 ≡ key → ⊥) → (getD table (i + 2) 0 ≡ key → ⊥) → (getD table (i + 3) 0 ≡ key → ⊥) → (getD table (i + 4) 0 ≡ key → ⊥) → from i ≡ from (i + 4)
+    pub four-passed :
+        (i : ℕ) → i + 4 ≤ n → (getD table (i + 1) 0 ≡ key → ⊥) → (getD table (i + 2) 0 ≡ key → ⊥) → (getD table (i + 3) 0 ≡ key → ⊥)
+        → (getD table (i + 4) 0 ≡ key → ⊥) → from i ≡ from (i + 4)
     four-passed i l a b c d =
         let z : i + 1 + 1 + 1 + 1 ≡ i + 4 = omega arith in
         next i (i + 1) (omega arith) refl a

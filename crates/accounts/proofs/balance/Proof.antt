@@ -10,7 +10,8 @@ use Rattle.accounts.proofs.balance.Tie as tie
 returns : tie.Need-returns
 returns c =
     let s = c .before .before .before in
-    c .value .ensures ∙ ap (valueOf BALANCES (s .args .accounts .now)) (c .before .key-of .ensures) ∙ sym (balance-value (s .args .accounts .now) (s .pre .0) (s .args .account) (s .pre .1))
+    c .value .ensures ∙ ap (valueOf BALANCES (s .args .accounts .now)) (c .before .key-of .ensures)
+    ∙ sym (balance-value (s .args .accounts .now) (s .pre .0) (s .args .account) (s .pre .1))
 
 pub balance-spec : {M : Type 1} → statement M
 balance-spec = tie.close (tie.spec (λ c κs. search needs) (λ c κs. search needs) returns)

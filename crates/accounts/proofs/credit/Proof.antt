@@ -14,12 +14,18 @@ use Rattle.accounts.proofs.Map.{balance-none, balance-here, credited-at
 use Rattle.accounts.proofs.credit.Statement.{statement}
 use Rattle.accounts.proofs.credit.Tie as tie
 
-here : (c : tie.After-found) → (c .found .given .0 .0 < rows (c .before .before .before .before .before .args .accounts .now)) × (balanceOf (c .before .before .before .before .before .args .accounts .now) (c .before .before .before .before .before .args .account) ≡ balanceAt (c .before .before .before .before .before .args .accounts .now) (c .found .given .0 .0))
+here :
+    (c : tie.After-found) → (c .found .given .0 .0 < rows (c .before .before .before .before .before .args .accounts .now))
+    × (balanceOf (c .before .before .before .before .before .args .accounts .now) (c .before .before .before .before .before .args .account) ≡ balanceAt
+    (c .before .before .before .before .before .args .accounts .now) (c .found .given .0 .0))
 here c =
     let s = c .before .before .before .before .before in
-    balance-here (s .args .accounts .now) (s .pre .0) (s .args .account) (s .pre .1 .named) (c .found .given .0 .0) (sym (c .before .before .find .ensures) ∙ c .found .given .1)
+    balance-here (s .args .accounts .now) (s .pre .0) (s .args .account) (s .pre .1 .named) (c .found .given .0 .0)
+    (sym (c .before .before .find .ensures) ∙ c .found .given .1)
 
-nowhere : (c : tie.After-enum-told) → placeOf (keyOf (c .before .before .before .before .before .args .account)) (c .before .before .before .before .before .args .accounts .now) ≡ Nothing
+nowhere :
+    (c : tie.After-enum-told)
+    → placeOf (keyOf (c .before .before .before .before .before .args .account)) (c .before .before .before .before .before .args .accounts .now) ≡ Nothing
 nowhere c = sym (c .before .before .find .ensures) ∙ c .enum-told .given .1
 
 room : (c : tie.After-enum-told) → rows (c .before .before .before .before .before .args .accounts .now) < 256
@@ -31,13 +37,18 @@ returns : tie.Need-returns
 returns c =
     let f = c .before .before .before in
     let s = f .before .before .before .before .before in
-    credited-at (s .args .accounts .now) (s .pre .0) (s .args .account) (s .pre .1 .named) (s .args .quantity .0) (f .found .given .0 .0) (sym (f .before .before .find .ensures) ∙ f .found .given .1) (s .pre .1 .some)
+    credited-at (s .args .accounts .now) (s .pre .0) (s .args .account) (s .pre .1 .named) (s .args .quantity .0) (f .found .given .0 .0)
+    (sym (f .before .before .find .ensures) ∙ f .found .given .1) (s .pre .1 .some)
 
 returns-2 : tie.Need-returns-2
 returns-2 c =
     let t = c .before .before .before .before in
     let s = t .before .before .before .before .before in
-    subst (λ (r : List ℕ). Kept r × ((h : Holdings) → withAccounts r h ≡ movements.credit (movements.account (s .args .account)) (s .args .quantity .0) (withAccounts (s .args .accounts .now) h))) (sym (c .before .before .open-account .ensures))
+    subst
+    (λ (r : List ℕ). Kept r ×
+    ((h : Holdings) → withAccounts r h ≡ movements.credit (movements.account (s .args .account)) (s .args .quantity .0)
+    (withAccounts (s .args .accounts .now) h)))
+    (sym (c .before .before .open-account .ensures))
     (credited-new (s .args .accounts .now) (s .pre .0) (s .args .account) (s .pre .1 .named) (s .args .quantity .0) (nowhere t) (s .pre .1 .some) (room t))
 
 pub credit-spec : {M : Type 1} → statement M
@@ -46,7 +57,8 @@ credit-spec =
     (tie.spec (λ c κs. search needs) (λ c. search needs)
     (λ c. omega (arith, here (c .before) .0)) (λ c. omega (arith, here (c .before) .0)) (λ c. omega (arith, here (c .before .before) .0))
     (λ c. omega (arith, here (c .before .before .before) .1, c .before .before .before .before .before .before .before .before .pre .1 .word))
-    (λ c. omega (arith, here (c .before .before .before) .0)) (λ c. omega (arith, here (c .before .before .before) .0)) (λ c. omega (arith, here (c .before .before .before) .0))
+    (λ c. omega (arith, here (c .before .before .before) .0)) (λ c. omega (arith, here (c .before .before .before) .0))
+    (λ c. omega (arith, here (c .before .before .before) .0))
     (λ c. search needs)
     (λ c κs. let s = c .before .before .before .before .before .before in (s .pre .0 .long, room (c .before), s .pre .1 .named))
     (λ c. search needs) returns (λ c. search needs) returns-2)

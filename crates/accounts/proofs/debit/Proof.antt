@@ -18,11 +18,19 @@ use Rattle.accounts.proofs.debit.Tie as tie
 named : (s : tie.Start) → InRange (s .args .account)
 named s = balance-range (s .args .accounts .now) (s .args .account) (omega (arith, s .pre .1, s .pre .2))
 
-spot : (c : tie.After-found) → placeOf (keyOf (c .before .before .before .before .before .args .account)) (c .before .before .before .before .before .args .accounts .now) ≡ At (c .found .given .0 .0)
+spot :
+    (c : tie.After-found)
+    → placeOf (keyOf (c .before .before .before .before .before .args .account)) (c .before .before .before .before .before .args .accounts .now)
+    ≡ At (c .found .given .0 .0)
 spot c = sym (c .before .before .find .ensures) ∙ c .found .given .1
 
-here : (c : tie.After-found) → (c .found .given .0 .0 < rows (c .before .before .before .before .before .args .accounts .now)) × (balanceOf (c .before .before .before .before .before .args .accounts .now) (c .before .before .before .before .before .args .account) ≡ balanceAt (c .before .before .before .before .before .args .accounts .now) (c .found .given .0 .0))
-here c = let s = c .before .before .before .before .before in balance-here (s .args .accounts .now) (s .pre .0) (s .args .account) (named s) (c .found .given .0 .0) (spot c)
+here :
+    (c : tie.After-found) → (c .found .given .0 .0 < rows (c .before .before .before .before .before .args .accounts .now))
+    × (balanceOf (c .before .before .before .before .before .args .accounts .now) (c .before .before .before .before .before .args .account) ≡ balanceAt
+    (c .before .before .before .before .before .args .accounts .now) (c .found .given .0 .0))
+here c =
+    let s = c .before .before .before .before .before in balance-here (s .args .accounts .now) (s .pre .0) (s .args .account) (named s)
+    (c .found .given .0 .0) (spot c)
 
 remove-account-requires : tie.Need-remove-account-requires
 remove-account-requires c κs =
@@ -34,20 +42,33 @@ returns : tie.Need-returns
 returns c =
     let f = c .before .before .before .before .before .before .before .before in
     let s = f .before .before .before .before .before in
-    subst (λ (r : List ℕ). Kept r × ((h : Holdings) → withAccounts r h ≡ movements.debit (movements.account (s .args .account)) (s .args .quantity .0) (withAccounts (s .args .accounts .now) h))) (sym (c .before .before .remove-account .ensures))
-    (debited-whole (s .args .accounts .now) (s .pre .0) (s .args .account) (named s) (s .args .quantity .0) (f .found .given .0 .0) (spot f) (c .before .before .before .before .if1 .taken))
+    subst
+    (λ (r : List ℕ). Kept r ×
+    ((h : Holdings) → withAccounts r h ≡ movements.debit (movements.account (s .args .account)) (s .args .quantity .0)
+    (withAccounts (s .args .accounts .now) h)))
+    (sym (c .before .before .remove-account .ensures))
+    (debited-whole (s .args .accounts .now) (s .pre .0) (s .args .account) (named s) (s .args .quantity .0) (f .found .given .0 .0) (spot f)
+    (c .before .before .before .before .if1 .taken))
 
 returns-2 : tie.Need-returns-2
 returns-2 c =
     let f = c .before .before .before .before .before in
     let s = f .before .before .before .before .before in
-    debited-part (s .args .accounts .now) (s .pre .0) (s .args .account) (named s) (s .args .quantity .0) (f .found .given .0 .0) (spot f) (s .pre .2) (c .before .if1 .left)
+    debited-part (s .args .accounts .now) (s .pre .0) (s .args .account) (named s) (s .args .quantity .0) (f .found .given .0 .0) (spot f) (s .pre .2)
+    (c .before .if1 .left)
 
 -- an account that has a balance stands somewhere
 returns-3 : tie.Need-returns-3
 returns-3 c =
     let s = c .before .before .before .before .before in
-    absurd (omega (arith, s .pre .1, s .pre .2, balance-none (s .args .accounts .now) (s .pre .0) (s .args .account) (named s) (sym (c .before .before .find .ensures) ∙ c .enum-told .given .1)))
+    absurd
+    (omega (
+      arith,
+      s .pre .1,
+      s .pre .2,
+      balance-none (s .args .accounts .now) (s .pre .0) (s .args .account) (named s)
+          (sym (c .before .before .find .ensures) ∙ c .enum-told .given .1),
+    ))
 
 pub debit-spec : {M : Type 1} → statement M
 debit-spec =
@@ -55,6 +76,8 @@ debit-spec =
     (tie.spec (λ c κs. (c .before .before .pre .0, named (c .before .before))) (λ c. search needs)
     (λ c. omega (arith, here (c .before) .0)) (λ c. omega (arith, here (c .before) .0)) (λ c. omega (arith, here (c .before .before) .0))
     remove-account-requires
-    (λ c. omega (arith, here (c .before .before .before .before .before) .1, c .before .before .before .before .before .before .before .before .before .before .pre .2))
-    (λ c. omega (arith, here (c .before .before .before .before .before) .0)) (λ c. omega (arith, here (c .before .before .before .before .before) .0)) (λ c. omega (arith, here (c .before .before .before .before .before) .0))
+    (λ c. omega
+    (arith, here (c .before .before .before .before .before) .1, c .before .before .before .before .before .before .before .before .before .before .pre .2))
+    (λ c. omega (arith, here (c .before .before .before .before .before) .0)) (λ c. omega (arith, here (c .before .before .before .before .before) .0))
+    (λ c. omega (arith, here (c .before .before .before .before .before) .0))
     (λ c. search needs) (λ c. search needs) returns (λ c. search needs) returns-2 (λ c. search needs) returns-3)

@@ -19,7 +19,12 @@ add-sum-2 : tie.Need-add-sum-2 Inv-loop μ-loop
 add-sum-2 c =
     let l = c .before .before .before .before .loop in
     let s = c .before .before .before .before .before .before in
-    omega (arith, s .pre .1 (fresh .holdings), held-fits (s .args .accounts .now) (s .pre .0) (s .args .security) (l .i) (c .before .before .before .loop-test .taken) (l .sum) (l .inv .1) (fresh .holdings) (c .before .if1 .taken))
+    omega (
+      arith,
+      s .pre .1 (fresh .holdings),
+      held-fits (s .args .accounts .now) (s .pre .0) (s .args .security) (l .i)
+          (c .before .before .before .loop-test .taken) (l .sum) (l .inv .1) (fresh .holdings) (c .before .if1 .taken),
+    )
 
 loop-again : tie.Need-loop-again Inv-loop μ-loop
 loop-again c =
@@ -36,9 +41,12 @@ returns : tie.Need-returns Inv-loop μ-loop
 returns c =
     let s = c .before .before .before in
     let all : c .before .loop .i ≡ rows (s .args .accounts .now) = omega arith in
-    λ h. c .before .loop .inv .1 ∙ ap (heldTo (s .args .accounts .now) (s .args .security)) all ∙ rows-held (s .args .accounts .now) (s .pre .0) (s .args .security) h
+    λ h. c .before .loop .inv .1 ∙ ap (heldTo (s .args .accounts .now) (s .args .security)) all
+    ∙ rows-held (s .args .accounts .now) (s .pre .0) (s .args .security) h
 
 pub held-spec : {M : Type 1} → statement M
 held-spec =
     tie.close
-    (tie.spec Inv-loop μ-loop (λ c. omega arith) (λ c. (omega arith, held-none (c .before .args .accounts .now) (c .before .args .security))) (λ c. omega arith) (λ c. omega arith) (λ c. omega arith) (λ c. omega arith) (λ c. omega arith) (λ c. omega arith) add-sum-2 (λ c. omega arith) (λ c. omega arith) loop-again returns)
+    (tie.spec Inv-loop μ-loop (λ c. omega arith) (λ c. (omega arith, held-none (c .before .args .accounts .now) (c .before .args .security)))
+    (λ c. omega arith) (λ c. omega arith) (λ c. omega arith) (λ c. omega arith) (λ c. omega arith) (λ c. omega arith) add-sum-2 (λ c. omega arith)
+    (λ c. omega arith) loop-again returns)

@@ -14,16 +14,30 @@ abbrev μ-loop : tie.MeasureT-loop
 μ-loop d₀ at width value end last first below head word i₀ d i = last - i
 
 loop-holds : tie.Need-loop-holds Inv-loop μ-loop
-loop-holds c = (omega arith, omega arith, put-none _ _ _ _ _ (λ i. c .before .before .slice-known .given i .fits) (c .before .before .before .pre .0) (c .before .before .before .pre .1) (c .wide .ensures))
+loop-holds c = (
+  omega arith,
+  omega arith,
+  put-none _ _ _ _ _ (λ i. c .before .before .slice-known .given i .fits) (c .before .before .before .pre .0)
+      (c .before .before .before .pre .1) (c .wide .ensures),
+)
 
 cast-d : tie.Need-cast-d Inv-loop μ-loop
 cast-d c =
     let a : ℕ = c .before .before .before .before .before .args .at in
     let w : ℕ = c .before .before .before .before .before .args .width in
-    fits-mask (word (c .before .before .wide .result) a w (c .before .before .before .before .before .args .value) / 2 ^ (8 * (wholeBytes (a + w) - 1 - c .before .loop .i))) 8 tt
+    fits-mask
+    (word (c .before .before .wide .result) a w (c .before .before .before .before .before .args .value) / 2 ^
+    (8 * (wholeBytes (a + w) - 1 - c .before .loop .i)))
+    8 tt
 
 loop-again : tie.Need-loop-again Inv-loop μ-loop
-loop-again c = (omega arith, omega arith, put-more _ _ _ _ _ (λ i. c .before .before .before .before .slice-known .given i .fits) (c .before .before .before .before .before .pre .0) (c .before .before .before .before .before .pre .1) (c .before .before .wide .ensures) _ _ (c .before .loop .inv .2) (omega arith) (omega arith))
+loop-again c = (
+  omega arith,
+  omega arith,
+  put-more _ _ _ _ _ (λ i. c .before .before .before .before .slice-known .given i .fits)
+      (c .before .before .before .before .before .pre .0) (c .before .before .before .before .before .pre .1) (c .before .before .wide .ensures) _ _
+      (c .before .loop .inv .2) (omega arith) (omega arith),
+)
 
 same-length : tie.Need-same-length Inv-loop μ-loop
 same-length c = c .before .loop .inv .2 .long
@@ -34,4 +48,7 @@ returns c = put-all _ _ _ _ _ _ (c .before .loop .inv .2) (omega arith)
 pub put-bits-spec : {M : Type 1} → statement M
 put-bits-spec =
     tie.close
-    (tie.spec Inv-loop μ-loop (λ c. omega arith) (λ c. omega arith) (λ c. omega arith) (λ c. omega arith) (λ c κs. tt) (λ c. omega arith) (λ c. omega arith) (λ c. omega arith) (λ c. omega arith) (λ c. omega arith) (λ c. omega arith) (λ c. omega arith) (λ c. omega arith) (λ c. omega arith) loop-holds (λ c. omega arith) (λ c. omega arith) (λ c. omega arith) (λ c. omega arith) cast-d (λ c. omega arith) (λ c. omega arith) (λ c. omega arith) loop-again same-length returns)
+    (tie.spec Inv-loop μ-loop (λ c. omega arith) (λ c. omega arith) (λ c. omega arith) (λ c. omega arith) (λ c κs. tt) (λ c. omega arith) (λ c. omega arith)
+    (λ c. omega arith) (λ c. omega arith) (λ c. omega arith) (λ c. omega arith) (λ c. omega arith) (λ c. omega arith) (λ c. omega arith) loop-holds
+    (λ c. omega arith) (λ c. omega arith) (λ c. omega arith) (λ c. omega arith) cast-d (λ c. omega arith) (λ c. omega arith) (λ c. omega arith) loop-again
+    same-length returns)

@@ -13,7 +13,8 @@ use Rattle.book.proofs.admit.Tie as tie
 
 admit-requires : tie.Need-admit-requires
 unfolding holdingsOf admitted
-admit-requires c κs = let s = c .before .before in (s .pre .0 .parts .securities, omega (arith, how-many (part SECURITIES (s .args .book .now)), s .pre .1), λ h. s .pre .2)
+admit-requires c κs =
+    let s = c .before .before in (s .pre .0 .parts .securities, omega (arith, how-many (part SECURITIES (s .args .book .now)), s .pre .1), λ h. s .pre .2)
 
 returns : tie.Need-returns
 unfolding holdingsOf putSecurities

@@ -13,7 +13,9 @@ keep-first-requires c κs = let s = c .before .before in (s .pre .0 .parts .item
 
 returns : tie.Need-returns
 unfolding waitingOf
-returns c = let s = c .before .before .before .before .before in let e = c .before .before .keep-first .ensures in items-step (s .args .book .now) (s .pre .0) _ _ (e .0) (e .1)
+returns c =
+    let s = c .before .before .before .before .before in let e = c .before .before .keep-first .ensures in items-step (s .args .book .now) (s .pre .0) _ _
+    (e .0) (e .1)
 
 pub keep-first-spec : {M : Type 1} → statement M
 keep-first-spec = tie.close (tie.spec (λ c. search needs) (λ c. search needs) (λ c. search needs) keep-first-requires (λ c. search needs) returns)

@@ -11,7 +11,8 @@ returns : tie.Need-returns
 returns c =
     let s = c .before .before .before .before .before in
     let p = c .before .before .put-day-in in
-    day-step (s .args .book .now) (s .pre) (p .last .0) (s .args .day) (p .kept .0 ∙ part-long DAY (omega arith) (s .args .book .now) (s .pre)) (p .ensures .1) (p .ensures .0)
+    day-step (s .args .book .now) (s .pre) (p .last .0) (s .args .day) (p .kept .0 ∙ part-long DAY (omega arith) (s .args .book .now) (s .pre))
+    (p .ensures .1) (p .ensures .0)
 
 pub put-day-spec : {M : Type 1} → statement M
 put-day-spec = tie.close (tie.spec (λ c. search needs) (λ c. search needs) (λ c. search needs) (λ c κs. search needs) (λ c. search needs) returns)

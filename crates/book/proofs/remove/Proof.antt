@@ -13,7 +13,9 @@ remove-requires c κs = let s = c .before .before in (s .pre .0 .parts .items, o
 
 returns : tie.Need-returns
 unfolding waitingOf
-returns c = let s = c .before .before .before .before .before in let e = c .before .before .remove .ensures in items-step (s .args .book .now) (s .pre .0) _ _ (e .0) (e .1)
+returns c =
+    let s = c .before .before .before .before .before in let e = c .before .before .remove .ensures in items-step (s .args .book .now) (s .pre .0) _ _ (e .0)
+    (e .1)
 
 pub remove-spec : {M : Type 1} → statement M
 remove-spec = tie.close (tie.spec (λ c. search needs) (λ c. search needs) (λ c. search needs) remove-requires (λ c. search needs) returns)

@@ -8,7 +8,8 @@ use Rattle.book.proofs.security_at.Tie as tie
 
 security-at-requires : tie.Need-security-at-requires
 unfolding holdingsOf
-security-at-requires c κs = let s = c .before .before in (s .pre .0 .parts .securities, omega (arith, how-many (part SECURITIES (s .args .book .now)), s .pre .1))
+security-at-requires c κs =
+    let s = c .before .before in (s .pre .0 .parts .securities, omega (arith, how-many (part SECURITIES (s .args .book .now)), s .pre .1))
 
 returns : tie.Need-returns
 unfolding holdingsOf

@@ -19,13 +19,21 @@ add-sum-2 : tie.Need-add-sum-2 Inv-loop μ-loop
 add-sum-2 c =
     let s = c .before .before .before in
     let l = c .before .before .loop in
-    omega (arith, s .pre .3, total-fits (s .args .cash .now) (s .pre .0) (s .args .currency) (s .pre .1) (s .pre .2) (l .i) (c .before .loop-test .taken) (l .sum) (l .inv .1))
+    omega (
+      arith,
+      s .pre .3,
+      total-fits (s .args .cash .now) (s .pre .0) (s .args .currency) (s .pre .1) (s .pre .2) (l .i) (c .before .loop-test .taken) (l .sum)
+          (l .inv .1),
+    )
 
 loop-again : tie.Need-loop-again Inv-loop μ-loop
 loop-again c =
     let s = c .before .before .before in
-    let l = c .before .before .loop in
-    (omega arith, total-more (s .args .cash .now) (s .pre .0) (s .args .currency) (s .pre .1) (s .pre .2) (l .i) (c .before .loop-test .taken) (l .sum) (l .inv .1))
+    let l = c .before .before .loop in (
+      omega arith,
+      total-more (s .args .cash .now) (s .pre .0) (s .args .currency) (s .pre .1) (s .pre .2) (l .i) (c .before .loop-test .taken) (l .sum)
+          (l .inv .1),
+    )
 
 returns : tie.Need-returns Inv-loop μ-loop
 unfolding totalIn
@@ -37,4 +45,5 @@ returns c =
 pub total-spec : {M : Type 1} → statement M
 total-spec =
     tie.close
-    (tie.spec Inv-loop μ-loop (λ c. search needs) (λ c. (omega arith, total-none (c .args .cash .now) (c .args .currency))) (λ c. omega arith) (λ c. omega arith) (λ c. omega arith) (λ c. omega arith) add-sum-2 (λ c. omega arith) (λ c. omega arith) loop-again returns)
+    (tie.spec Inv-loop μ-loop (λ c. search needs) (λ c. (omega arith, total-none (c .args .cash .now) (c .args .currency))) (λ c. omega arith)
+    (λ c. omega arith) (λ c. omega arith) (λ c. omega arith) add-sum-2 (λ c. omega arith) (λ c. omega arith) loop-again returns)

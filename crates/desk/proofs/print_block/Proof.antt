@@ -42,7 +42,12 @@ print-answers-requires c κs =
 returns : tie.Need-returns
 returns c =
     let called = printed (c .before) in
-    record { size = filled (called .before .before) .fill .result .size; called = block-called (called .print-answers .ensures .put); whole = λ e. absurd (false≢true e) }
+    record {
+      size = filled (called .before .before) .fill .result .size;
+      called = block-called (called .print-answers .ensures .put);
+      whole = λ e. absurd
+          (false≢true e);
+    }
 
 returns-2 : tie.Need-returns-2
 returns-2 c =

@@ -23,7 +23,8 @@ record Whole (number : ℕ) (book lent : List ℕ) (number′ : ℕ) (book′ le
 
 abbrev Inv-loop : tie.InvT-loop
 Inv-loop book₀ area₀ input₀ out₀ number₀ book area input out number =
-    Whole number₀ book₀ area₀ number book area × (length book ≡ length book₀) × (length area ≡ length area₀) × (length input ≡ length input₀) × (length out ≡ length out₀)
+    Whole number₀ book₀ area₀ number book area × (length book ≡ length book₀) × (length area ≡ length area₀) × (length input ≡ length input₀)
+    × (length out ≡ length out₀)
 
 abbrev μ-loop : tie.MeasureT-loop
 μ-loop book₀ area₀ input₀ out₀ number₀ book area input out number = 2 ^ 64 - number
@@ -73,7 +74,9 @@ returns c =
     record { file = _; called = more (turn (p .before) .loop .inv .0) (p .print-block .ensures .called) }
 
 -- the block is full where the loop goes on
-full : (c : tie.Else1 Inv-loop μ-loop) → length (take (printed (c .before) .print-block .ensures .size) (printed (c .before) .print-block .last .1 .1 .0)) ≡ BLOCK
+full :
+    (c : tie.Else1 Inv-loop μ-loop) → length (take (printed (c .before) .print-block .ensures .size) (printed (c .before) .print-block .last .1 .1 .0))
+    ≡ BLOCK
 full c =
     let p = printed (c .before) in
     let at-loop = turn (p .before) in

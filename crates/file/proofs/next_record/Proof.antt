@@ -78,7 +78,8 @@ module _ {M : Type 1} (𝓤 : URA M) (H : Heap 𝓤) (A : Atoms 𝓤) (mem : Mem
   abbrev TakeNext : Contract 𝓤
   TakeNext = tripleOf 𝓤 H A next-fn.signature (next-fn.spec 𝓤 H A mem run)
 
-module _ {M : Type 1} (𝓤 : URA M) (H : Heap 𝓤) (A : Atoms 𝓤) (W : Given 𝓤 H A) (mem : Memory → SProp 𝓤) (run : Routine → Fun 𝓤) (κ : Lft) (q : Share) (s : RefT (List ℕ)) (k : Cursor) (is-k : Is K.the-row k (K′.lowered k ∷ [])) where
+module _ {M : Type 1} (𝓤 : URA M) (H : Heap 𝓤) (A : Atoms 𝓤) (W : Given 𝓤 H A) (mem : Memory → SProp 𝓤) (run : Routine → Fun 𝓤) (κ : Lft) (q : Share)
+    (s : RefT (List ℕ)) (k : Cursor) (is-k : Is K.the-row k (K′.lowered k ∷ [])) where
   -- the machine value of the slice
   abbrev v : Val
   v = sliceVal (s .ptr) (length (s .now))
@@ -120,7 +121,9 @@ module _ {M : Type 1} (𝓤 : URA M) (H : Heap 𝓤) (A : Atoms 𝓤) (W : Given
       nothing ! $ owned ! usize (Is usize) (uint-makes 𝓤 H A W w64) (k .at) _ (refl, typed .1 .0 .fits) $ fjoin ! $ move ! (1 ∷ 0 ∷ []) $ fjoin ! $
       move ! (2 ∷ 0 ∷ []) $ use2 W (raw (WalkFrom 𝓤 H A mem run .pre to-from)) asked $ frame ! $ done !
 
-  from-said : (w : Walk) → ent 𝓤 (ensured 𝓤 H A from-fn.ended (from-fn.clauses 𝓤 H A mem run) (κ, tt) (s, (k .at, tt)) tt w) (fact 𝓤 ((w .file ≡ s) × (w .at ≡ k .at)))
+  from-said :
+      (w : Walk)
+      → ent 𝓤 (ensured 𝓤 H A from-fn.ended (from-fn.clauses 𝓤 H A mem run) (κ, tt) (s, (k .at, tt)) tt w) (fact 𝓤 ((w .file ≡ s) × (w .at ≡ k .at)))
   from-said w = exE 𝓤 _ (λ ws. snd∗ 𝓤 (sem 𝓤 H A (lasts from-fn.ended (κ, tt) (s, (k .at, tt)) ws)) (fact 𝓤 ((w .file ≡ s) × (w .at ≡ k .at))))
 
   -- the call of `take_next`, at the struct w with the machine value u
@@ -128,34 +131,56 @@ module _ {M : Type 1} (𝓤 : URA M) (H : Heap 𝓤) (A : Atoms 𝓤) (W : Given
   to-next w u = (((κ, tt), (q, tt), tt, (w, tt), (u ∷ [], tt)), tt)
 
   goes-next : (w : Walk) (u : Val) → ent 𝓤 (⋆ 𝓤 H A (‵ (B (κ, tt) .own w (u ∷ [])) ∷ (‵ (flft κ q) ⊛ ‵ ftrue) ∷ [])) (TakeNext 𝓤 H A mem run .pre (to-next w u))
-  goes-next w u = qed W (‵ (B (κ, tt) .own w (u ∷ [])) ∷ (‵ (flft κ q) ⊛ ‵ ftrue) ∷ []) ∵ nothing ! $ move ! (1 ∷ 0 ∷ []) $ fjoin ! $ move ! (1 ∷ 0 ∷ []) $ join ! $ frame ! $ done !
+  goes-next w u =
+      qed W (‵ (B (κ, tt) .own w (u ∷ [])) ∷ (‵ (flft κ q) ⊛ ‵ ftrue) ∷ []) ∵ nothing ! $ move ! (1 ∷ 0 ∷ []) $ fjoin ! $ move ! (1 ∷ 0 ∷ []) $ join ! $ frame
+      ! $ done !
 
-  next-said : (w : Walk) (r : Next) → ent 𝓤 (ensured 𝓤 H A next-fn.ended (next-fn.clauses 𝓤 H A mem run) (κ, tt) (w, tt) tt r) (fact 𝓤 (r ≡ nextAt (now (w .file)) (w .at)))
+  next-said :
+      (w : Walk) (r : Next)
+      → ent 𝓤 (ensured 𝓤 H A next-fn.ended (next-fn.clauses 𝓤 H A mem run) (κ, tt) (w, tt) tt r) (fact 𝓤 (r ≡ nextAt (now (w .file)) (w .at)))
   next-said w r = exE 𝓤 _ (λ ws. snd∗ 𝓤 (sem 𝓤 H A (lasts next-fn.ended (κ, tt) (w, tt) ws)) (fact 𝓤 (r ≡ nextAt (now (w .file)) (w .at))))
 
   exits : (r : Next) (u : Val) → r ≡ answer → ent 𝓤 (⋆ 𝓤 H A (‵ (N.the-row .own r (u ∷ [])) ∷ (‵ (flft κ q) ⊛ ‵ ftrue) ∷ ‵ Own ∷ [])) (Post u)
   exits r u e =
       qed W (‵ (N.the-row .own r (u ∷ [])) ∷ (‵ (flft κ q) ⊛ ‵ ftrue) ∷ ‵ Own ∷ []) ∵
-      suffices ! _ (ends-at 𝓤 H A record-fn.ended stayed (record-fn.clauses 𝓤 H A mem run) W (((κ, tt), (q, tt), tt, (s, (k, tt)), at), tt) u r (tt, (tt, tt)) (tt, (tt, tt))) $ says ! e $
-      move ! (1 ∷ []) $ frame ! $ nothing ! $ owned ! K.the-row (Is K.the-row) (LL.makes K.the-type K′.the-plain 𝓤 H A) k _ is-k $ fjoin ! $ move ! (2 ∷ 0 ∷ []) $ fjoin ! $ frame ! $ done !
+      suffices ! _
+      (ends-at 𝓤 H A record-fn.ended stayed (record-fn.clauses 𝓤 H A mem run) W (((κ, tt), (q, tt), tt, (s, (k, tt)), at), tt) u r (tt, (tt, tt))
+      (tt, (tt, tt)))
+      $ says ! e $
+      move ! (1 ∷ []) $ frame ! $ nothing ! $ owned ! K.the-row (Is K.the-row) (LL.makes K.the-type K′.the-plain 𝓤 H A) k _ is-k $ fjoin ! $ move !
+      (2 ∷ 0 ∷ []) $ fjoin ! $ frame ! $ done !
 
-  module _ (C : Calls 𝓤 H) (Λ : Loops 𝓤 H) (fm : FmC 𝓤 H (W .laws) C) (known-from : Triple 𝓤 (C #file·walk-from) (WalkFrom 𝓤 H A mem run)) (known-next : Triple 𝓤 (C #file·take-next) (TakeNext 𝓤 H A mem run)) where
-    walk : Is (ShrSlice (named 0) κ u8) s (v ∷ []) → ent 𝓤 (onEntry 𝓤 H A record-fn.signature (κ, tt) (q, tt) (s, (k, tt)) at) (WpFn 𝓤 H C Λ code.function (v ∷ K′.lowered k ∷ []) Post)
+  module _ (C : Calls 𝓤 H) (Λ : Loops 𝓤 H) (fm : FmC 𝓤 H (W .laws) C) (known-from : Triple 𝓤 (C #file·walk-from) (WalkFrom 𝓤 H A mem run))
+      (known-next : Triple 𝓤 (C #file·take-next) (TakeNext 𝓤 H A mem run)) where
+    walk :
+        Is (ShrSlice (named 0) κ u8) s (v ∷ [])
+        → ent 𝓤 (onEntry 𝓤 H A record-fn.signature (κ, tt) (q, tt) (s, (k, tt)) at) (WpFn 𝓤 H C Λ code.function (v ∷ K′.lowered k ∷ []) Post)
     walk p =
         qed W (raw (onEntry 𝓤 H A record-fn.signature (κ, tt) (q, tt) (s, (k, tt)) at) ∷ []) ∵ enter ! C Λ code.function (v ∷ K′.lowered k ∷ []) _ $
         alloc1 ! (λ l₀. alloc1 ! (λ l₁. alloc1 ! (λ l₂. alloc1 ! (λ l₃. alloc0 ! $ params1 ! $
         pass1 ! (init ! 4 refl (shr-slice-lawful 𝓤 H A W (named 0) κ u8 .typed s (v ∷ []) p .0)) $ pass1 ! (init ! 2 refl typed) $ pass0 ! $
         move ! (8 ∷ []) $ use1 W (raw (WalkFrom 𝓤 H A mem run .pre to-from) ⊛ ‵ Own) goes-from $ split ! $
-        calls-at ! fm (WalkFrom 𝓤 H A mem run) known-from to-from (and-then ! (load ! (from ! (stop !)) (look ! 6 refl)) (and-then ! (load ! (from ! (fld ! refl (stop !))) (look-in ! 4 (sub ! 0 refl (whole !)))) (no-more !))) (λ u.
-        use1 W (later (some (λ (w : Walk). ((‵ (flft κ q) ⊛ ‵ ftrue) ⊛ ‵ (B (κ, tt) .own w (u ∷ []))) ⊛ raw (ensured 𝓤 H A from-fn.ended (from-fn.clauses 𝓤 H A mem run) (κ, tt) (s, (k .at, tt)) tt w)))) (id⊢ 𝓤 _) $ await ! tt $ pick ! (λ w.
-        split ! $ move ! (1 ∷ []) $ use1 W (raw (fact 𝓤 ((w .file ≡ s) × (w .at ≡ k .at)))) (from-said w) $ heard ! ((w .file ≡ s) × (w .at ≡ k .at)) (λ e. split ! $ move ! (1 ∷ []) $
+        calls-at ! fm (WalkFrom 𝓤 H A mem run) known-from to-from
+        (and-then ! (load ! (from ! (stop !)) (look ! 6 refl))
+        (and-then ! (load ! (from ! (fld ! refl (stop !))) (look-in ! 4 (sub ! 0 refl (whole !)))) (no-more !)))
+        (λ u.
+        use1 W
+        (later (some (λ (w : Walk). ((‵ (flft κ q) ⊛ ‵ ftrue) ⊛ ‵ (B (κ, tt) .own w (u ∷ []))) ⊛ raw
+        (ensured 𝓤 H A from-fn.ended (from-fn.clauses 𝓤 H A mem run) (κ, tt) (s, (k .at, tt)) tt w))))
+        (id⊢ 𝓤 _) $ await ! tt $ pick ! (λ w.
+        split ! $ move ! (1 ∷ []) $ use1 W (raw (fact 𝓤 ((w .file ≡ s) × (w .at ≡ k .at)))) (from-said w) $ heard ! ((w .file ≡ s) × (w .at ≡ k .at))
+        (λ e. split ! $ move ! (1 ∷ []) $
         -- [what the struct owns; the token; what the slice owns; room for _3; …; _2; …; _1; …; room for _0; …]
         peeks ! (B (κ, tt)) (Is (B (κ, tt))) (shows 𝓤 H A (B (κ, tt))) w (u ∷ []) (λ is.
         land ! (from ! (stop !)) (init ! 3 refl (LL.lawful (T.the-type αᵉ) (T′.the-laws αᵉ) 𝓤 H A W .typed w _ is .0)) $
         use2 W (raw (TakeNext 𝓤 H A mem run .pre (to-next w u))) (goes-next w u) $
         calls-at ! fm (TakeNext 𝓤 H A mem run) known-next (to-next w u) (and-then ! (load ! (from ! (stop !)) (look ! 2 refl)) (no-more !)) (λ u′.
-        use1 W (later (some (λ (r : Next). ((‵ (flft κ q) ⊛ ‵ ftrue) ⊛ ‵ (N.the-row .own r (u′ ∷ []))) ⊛ raw (ensured 𝓤 H A next-fn.ended (next-fn.clauses 𝓤 H A mem run) (κ, tt) (w, tt) tt r)))) (id⊢ 𝓤 _) $ await ! tt $ pick ! (λ r.
-        split ! $ move ! (1 ∷ []) $ use1 W (raw (fact 𝓤 (r ≡ nextAt (now (w .file)) (w .at)))) (next-said w r) $ heard ! (r ≡ nextAt (now (w .file)) (w .at)) (λ e′. split ! $ move ! (1 ∷ []) $
+        use1 W
+        (later (some (λ (r : Next). ((‵ (flft κ q) ⊛ ‵ ftrue) ⊛ ‵ (N.the-row .own r (u′ ∷ []))) ⊛ raw
+        (ensured 𝓤 H A next-fn.ended (next-fn.clauses 𝓤 H A mem run) (κ, tt) (w, tt) tt r))))
+        (id⊢ 𝓤 _) $ await ! tt $ pick ! (λ r.
+        split ! $ move ! (1 ∷ []) $ use1 W (raw (fact 𝓤 (r ≡ nextAt (now (w .file)) (w .at)))) (next-said w r) $ heard ! (r ≡ nextAt (now (w .file)) (w .at))
+        (λ e′. split ! $ move ! (1 ∷ []) $
         -- [the result; the token; what the slice owns; _3; …; _2; …; _1; …; room for _0; …]
         peeks ! N.the-row (Is N.the-row) (shows 𝓤 H A N.the-row) r (u′ ∷ []) (λ is′.
         land ! (from ! (stop !)) (init ! 9 refl (EL.lawful N.the-type N′.the-laws 𝓤 H A W tt .typed r _ is′ .0)) $
@@ -164,16 +189,23 @@ module _ {M : Type 1} (𝓤 : URA M) (H : Heap 𝓤) (A : Atoms 𝓤) (W : Given
         by ! (exits r u′ (e′ ∙ (ap (λ (x : RefT (List ℕ)). nextAt (now x) (w .at)) (e .0) ∙ ap (nextAt (now s)) (e .1))))))))))))))))
 
 module _ {M : Type 1} (𝓤 : URA M) (H : Heap 𝓤) (A : Atoms 𝓤) (W : Given 𝓤 H A) (mem : Memory → SProp 𝓤) (run : Routine → Fun 𝓤) where
-  next-record-walks : (C : Calls 𝓤 H) (Λ : Loops 𝓤 H) → FmC 𝓤 H (W .laws) C → Triple 𝓤 (C #file·walk-from) (WalkFrom 𝓤 H A mem run) → Triple 𝓤 (C #file·take-next) (TakeNext 𝓤 H A mem run)
+  next-record-walks :
+      (C : Calls 𝓤 H) (Λ : Loops 𝓤 H) → FmC 𝓤 H (W .laws) C → Triple 𝓤 (C #file·walk-from) (WalkFrom 𝓤 H A mem run)
+      → Triple 𝓤 (C #file·take-next) (TakeNext 𝓤 H A mem run)
       → Walks 𝓤 H A record-fn.ended stayed (WpFn 𝓤 H C Λ code.function) (record-fn.clauses 𝓤 H A mem run)
-  next-record-walks C Λ fm known-from known-next = walked 𝓤 H A record-fn.ended stayed (record-fn.clauses 𝓤 H A mem run) (WpFn 𝓤 H C Λ code.function) (λ κs. (slice-vals, (LL.vals K.the-type K′.the-laws, tt))) (λ κs. (shr-slice-tells (named 0) (κs .0) u8, (LL.tells K.the-type K′.the-laws, tt)))
-      (λ κs qs bounds a g are. via 𝓤 _ (fst∗ 𝓤 _ (emp 𝓤)) (walk 𝓤 H A W mem run (κs .0) (qs .0) (a .0) (a .1 .0) (are .1 .0) C Λ fm known-from known-next (are .0)))
+  next-record-walks C Λ fm known-from known-next =
+      walked 𝓤 H A record-fn.ended stayed (record-fn.clauses 𝓤 H A mem run) (WpFn 𝓤 H C Λ code.function)
+      (λ κs. (slice-vals, (LL.vals K.the-type K′.the-laws, tt))) (λ κs. (shr-slice-tells (named 0) (κs .0) u8, (LL.tells K.the-type K′.the-laws, tt)))
+      (λ κs qs bounds a g are. via 𝓤 _ (fst∗ 𝓤 _ (emp 𝓤))
+      (walk 𝓤 H A W mem run (κs .0) (qs .0) (a .0) (a .1 .0) (are .1 .0) C Λ fm known-from known-next (are .0)))
 
 next-record-meets : {M : Type 1} (𝓤 : URA M) (H : Heap 𝓤) (A : Atoms 𝓤) (W : Given 𝓤 H A) (mem : Memory → SProp 𝓤) (run : Routine → Fun 𝓤) (𝓣 : Tables 𝓤 H)
     → Triple 𝓤 (𝓣 .C #file·walk-from) (WalkFrom 𝓤 H A mem run) → Triple 𝓤 (𝓣 .C #file·take-next) (TakeNext 𝓤 H A mem run)
     → Meets 𝓤 H A record-fn.signature (WpFn 𝓤 H (𝓣 .C) (𝓣 .Λ) code.function) (record-fn.spec 𝓤 H A mem run)
 next-record-meets 𝓤 H A W mem run 𝓣 known-from known-next =
-    walk-meets 𝓤 H A record-fn.ended stayed W (goes-none-slice 𝓤 H A W 1 (0 ∷ []) tt (plain (λ _. u8)) yes, (goes-none 𝓤 H A W 1 (λ _. K.the-row) yes (λ κs x f. refl), tt)) (record-fn.clauses 𝓤 H A mem run) (WpFn 𝓤 H (𝓣 .C) (𝓣 .Λ) code.function) (WpFn-mono 𝓤 H (W .laws) 𝓣 code.function)
+    walk-meets 𝓤 H A record-fn.ended stayed W
+    (goes-none-slice 𝓤 H A W 1 (0 ∷ []) tt (plain (λ _. u8)) yes, (goes-none 𝓤 H A W 1 (λ _. K.the-row) yes (λ κs x f. refl), tt))
+    (record-fn.clauses 𝓤 H A mem run) (WpFn 𝓤 H (𝓣 .C) (𝓣 .Λ) code.function) (WpFn-mono 𝓤 H (W .laws) 𝓣 code.function)
     (next-record-walks 𝓤 H A W mem run (𝓣 .C) (𝓣 .Λ) (fmOf 𝓤 H (W .laws) 𝓣) known-from known-next)
 
 pub next-record-spec : {M : Type 1} → stated.statement M

@@ -42,5 +42,8 @@ pub +put-number-spec : {M : Type 1} → statement M
     (λ c.
     let start = c .before .before .before .before .before .before .before .before .before .before in
     let front = front-short (start .args .n) (start .fits .n .fits) (search needs) in
-    let both = put-then (c .before .before .before .before .before .before .put-number .ensures .0) (c .before .before .put-digit2 .ensures) in
-    (rw (decimal-more (start .args .n) (search needs)) both, omega (arith, c .before .before .before .before .before .before .put-number .ensures .0 .place, c .before .before .put-digit2 .ensures .place))))
+    let both = put-then (c .before .before .before .before .before .before .put-number .ensures .0) (c .before .before .put-digit2 .ensures) in (
+      rw (decimal-more (start .args .n) (search needs)) both,
+      omega
+          (arith, c .before .before .before .before .before .before .put-number .ensures .0 .place, c .before .before .put-digit2 .ensures .place),
+    )))

@@ -10,19 +10,40 @@ put-figure-requires-2 : tie.Need-put-figure-requires-2
 put-figure-requires-2 c κs = omega (arith, c .before .before .before .before .put-figure .kept .0)
 
 put-figure-requires-3 : tie.Need-put-figure-requires-3
-put-figure-requires-3 c κs = omega (arith, c .before .before .before .before .put-figure2 .kept .0, c .before .before .before .before .before .before .before .before .before .put-figure .kept .0)
+put-figure-requires-3 c κs =
+    omega (
+      arith,
+      c .before .before .before .before .put-figure2 .kept .0,
+      c .before .before .before .before .before .before .before .before .before .put-figure .kept .0,
+    )
 
 put-figure-requires-4 : tie.Need-put-figure-requires-4
-put-figure-requires-4 c κs = omega (arith, c .before .before .before .before .put-figure3 .kept .0, c .before .before .before .before .before .before .before .before .before .put-figure2 .kept .0, c .before .before .before .before .before .before .before .before .before .before .before .before .before .before .put-figure .kept .0)
+put-figure-requires-4 c κs =
+    omega (
+      arith,
+      c .before .before .before .before .put-figure3 .kept .0,
+      c .before .before .before .before .before .before .before .before .before .put-figure2 .kept .0,
+      c .before .before .before .before .before .before .before .before .before .before .before .before .before .before .put-figure .kept .0,
+    )
 
 put-bytes-requires : tie.Need-put-bytes-requires
 put-bytes-requires c κs =
-    omega (arith, c .before .before .before .before .put-figure4 .kept .0, c .before .before .before .before .before .before .before .before .before .put-figure3 .kept .0, c .before .before .before .before .before .before .before .before .before .before .before .before .before .before .put-figure2 .kept .0, c .before .before .before .before .before .before .before .before .before .before .before .before .before .before .before .before .before .before .before .put-figure .kept .0)
+    omega (
+      arith,
+      c .before .before .before .before .put-figure4 .kept .0,
+      c .before .before .before .before .before .before .before .before .before .put-figure3 .kept .0,
+      c .before .before .before .before .before .before .before .before .before .before .before .before .before .before .put-figure2 .kept .0,
+      c .before .before .before .before .before .before .before .before .before .before .before .before .before .before .before .before .before .before .before .put-figure .kept .0,
+    )
 
 returns : tie.Need-returns
 unfolding custodyLine
 returns c =
-    let issued = put-then (c .before .before .before .before .before .before .before .before .before .before .before .before .before .before .before .before .before .before .before .before .before .before .put-figure .ensures .0) (c .before .before .before .before .before .before .before .before .before .before .before .before .before .before .before .before .before .put-figure2 .ensures .0) in
+    let issued =
+    put-then
+    (c .before .before .before .before .before .before .before .before .before .before .before .before .before .before .before .before .before .before .before .before .before .before .put-figure .ensures .0)
+    (c .before .before .before .before .before .before .before .before .before .before .before .before .before .before .before .before .before .put-figure2 .ensures .0)
+    in
     let held = put-then issued (c .before .before .before .before .before .before .before .before .before .before .before .before .put-figure3 .ensures .0) in
     let outside = put-then held (c .before .before .before .before .before .before .before .put-figure4 .ensures .0) in
     (put-then outside (c .before .before .put-bytes .ensures), omega (arith, c .before .before .put-bytes .ensures .place))

@@ -27,7 +27,9 @@ pack-bits-requires c κs = (
   search needs,
   search needs,
   omega arith,
-  rw (c .before .before .before .before .before .before .fields-of .ensures) (write-fits _ (ap fieldsRefusal (sym (c .before .before .before .before .before .before .fields-of .ensures)) ∙ sym (c .before .before .before .before .refusal .ensures) ∙ c .before .before .before .if2 .taken)),
+  rw (c .before .before .before .before .before .before .fields-of .ensures)
+      (write-fits _ (ap fieldsRefusal (sym (c .before .before .before .before .before .before .fields-of .ensures)) ∙ sym
+      (c .before .before .before .before .refusal .ensures) ∙ c .before .before .before .if2 .taken)),
 )
 
 returns-2 : tie.Need-returns-2
@@ -35,13 +37,24 @@ unfolding recordOf widths
 returns-2 c =
     let order : Order = c .before .before .before .before .before .before .before .before .before .before .before .before .args .order in
     let area : List ℕ = c .before .before .before .before .before .before .before .before .before .before .before .before .args .area .now in
-    let done = write-record order area _ (c .before .before .before .before .before .before .before .before .before .before .if1 .left) (c .before .before .before .before .before .before .before .refusal .ensures ∙ ap fieldsRefusal (c .before .before .before .before .before .before .before .before .before .fields-of .ensures)) (c .before .before .before .before .before .before .if2 .taken) in
-    let packed : put area 0 320 (pack 0 widths (c .before .before .before .before .before .before .before .before .before .fields-of .result)) ≡ recordOf order ++ drop 40 area =
-    ap (λ (values : List ℕ). put area 0 320 (pack 0 widths values)) (c .before .before .before .before .before .before .before .before .before .fields-of .ensures) ∙ put-front area 40 (pack 0 widths (fieldsOf order)) (λ i. c .before .before .before .before .before .before .before .before .before .before .before .slice-known .given i .fits) in
+    let done =
+    write-record order area _ (c .before .before .before .before .before .before .before .before .before .before .if1 .left)
+    (c .before .before .before .before .before .before .before .refusal .ensures ∙ ap fieldsRefusal
+    (c .before .before .before .before .before .before .before .before .before .fields-of .ensures))
+    (c .before .before .before .before .before .before .if2 .taken) in
+    let packed : put area 0 320 (pack 0 widths (c .before .before .before .before .before .before .before .before .before .fields-of .result))
+    ≡ recordOf order ++ drop 40 area =
+    ap (λ (values : List ℕ). put area 0 320 (pack 0 widths values))
+    (c .before .before .before .before .before .before .before .before .before .fields-of .ensures)
+    ∙ put-front area 40 (pack 0 widths (fieldsOf order))
+    (λ i. c .before .before .before .before .before .before .before .before .before .before .before .slice-known .given i .fits) in
     as-written (done .0, c .before .before .pack-bits .ensures ∙ packed ∙ done .1)
 
 returns-3 : tie.Need-returns-3
-returns-3 c = as-written (write-refused _ _ _ (c .before .before .before .before .if1 .left) (c .before .refusal .ensures ∙ ap fieldsRefusal (c .before .before .before .fields-of .ensures)) (c .if2 .left))
+returns-3 c =
+    as-written
+    (write-refused _ _ _ (c .before .before .before .before .if1 .left)
+    (c .before .refusal .ensures ∙ ap fieldsRefusal (c .before .before .before .fields-of .ensures)) (c .if2 .left))
 
 pub write-spec : {M : Type 1} → statement M
 write-spec =

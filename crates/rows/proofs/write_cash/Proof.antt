@@ -19,7 +19,8 @@ write-movement-requires c κs =
 returns : tie.Need-returns
 returns c =
     let s = c .before .before .before .before .before .before .before in
-    movement-written (move (cashOf (s .args .from) (s .args .currency)) (cashOf (s .args .to) (s .args .currency)) (s .args .amount .0)) (s .args .area .now) _ _ _ (c .before .before .before .before .cash-row .ensures) (c .before .before .before .cash-row2 .ensures)
+    movement-written (move (cashOf (s .args .from) (s .args .currency)) (cashOf (s .args .to) (s .args .currency)) (s .args .amount .0)) (s .args .area .now)
+    _ _ _ (c .before .before .before .before .cash-row .ensures) (c .before .before .before .cash-row2 .ensures)
     (c .before .before .write-movement .ensures)
 
 pub write-cash-spec : {M : Type 1} → statement M

@@ -9,7 +9,9 @@ use Rattle.rows.proofs.write_movement.Tie as tie
 returns : tie.Need-returns
 returns c =
     let s = c .before .before .before .before .before .before .before .before .before in
-    behind (s .args .area .now) _ _ (postingBytes (s .args .debit)) (postingBytes (s .args .credit)) 16 16 (c .before .before .before .before .before .before .write-posting .ensures) (posting-length (s .args .debit)) (posting-length (s .args .credit)) (omega arith)
+    behind (s .args .area .now) _ _ (postingBytes (s .args .debit)) (postingBytes (s .args .credit)) 16 16
+    (c .before .before .before .before .before .before .write-posting .ensures) (posting-length (s .args .debit)) (posting-length (s .args .credit))
+    (omega arith)
     (c .before .before .write-posting2 .ensures)
 
 pub write-movement-spec : {M : Type 1} → statement M

@@ -19,7 +19,8 @@ write-movement-requires c κs =
 returns : tie.Need-returns
 returns c =
     let s = c .before .before .before .before .before .before .before in
-    movement-written (move (account (s .args .from)) (account (s .args .to)) (s .args .quantity .0)) (s .args .area .now) _ _ _ (c .before .before .before .before .shares-row .ensures) (c .before .before .before .shares-row2 .ensures)
+    movement-written (move (account (s .args .from)) (account (s .args .to)) (s .args .quantity .0)) (s .args .area .now) _ _ _
+    (c .before .before .before .before .shares-row .ensures) (c .before .before .before .shares-row2 .ensures)
     (c .before .before .write-movement .ensures)
 
 pub write-shares-spec : {M : Type 1} → statement M

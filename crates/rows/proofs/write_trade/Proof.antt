@@ -38,7 +38,8 @@ returns c =
     let s = named wrote .before .before .before in
     let t : Item = s .args .trade in
     let shares : Movement = move (account (seller t)) (account (buyer t)) t.quantity.0 in
-    let rows-of : Account → Account → List ℕ = λ from to. rowsBytes (postingRows (move (account from) (account to) t.quantity.0 ∷ [])) ++ drop 32 (s .args .area .now) in
+    let rows-of : Account → Account → List ℕ =
+    λ from to. rowsBytes (postingRows (move (account from) (account to) t.quantity.0 ∷ [])) ++ drop 32 (s .args .area .now) in
     let cash : Movement = move (cashOf t.credited.member t.currency) (cashOf t.debited.member t.currency) t.amount.0 in
     behind (s .args .area .now) _ _ (rowsBytes (postingRows (shares ∷ []))) (rowsBytes (postingRows (cash ∷ []))) 32 32
     (wrote .write-shares .ensures ∙ ap₂ rows-of (named wrote .before .seller-of .ensures) (named wrote .buyer-of .ensures))
@@ -51,4 +52,5 @@ returns c =
 pub write-trade-spec : {M : Type 1} → statement M
 write-trade-spec =
     tie.close
-    (tie.spec (λ c κs. search needs) (λ c κs. search needs) write-shares-requires (λ c. search needs) (λ c. search needs) (λ c. search needs) write-cash-requires (λ c. search needs) returns)
+    (tie.spec (λ c κs. search needs) (λ c κs. search needs) write-shares-requires (λ c. search needs) (λ c. search needs) (λ c. search needs)
+    write-cash-requires (λ c. search needs) returns)

@@ -11,7 +11,9 @@ use Rattle.securities.proofs.Laws.{outside-here, credited, credited-now
 use Rattle.securities.proofs.credit_outside.Statement.{statement}
 use Rattle.securities.proofs.credit_outside.Tie as tie
 
-spot : (c : tie.After-found) → placeOf (c .before .before .before .before .before .args .code) (c .before .before .before .before .before .args .securities .now) ≡ At (c .found .given .0 .0)
+spot :
+    (c : tie.After-found) → placeOf (c .before .before .before .before .before .args .code) (c .before .before .before .before .before .args .securities .now)
+    ≡ At (c .found .given .0 .0)
 spot c = sym (c .before .before .find .ensures) ∙ c .found .given .1
 
 low : (c : tie.After-found) → c .found .given .0 .0 < rows (c .before .before .before .before .before .args .securities .now)
@@ -25,12 +27,21 @@ returns c =
 
 returns-2 : tie.Need-returns-2
 returns-2 c =
-    let s = c .before .before .before .before .before in
-    (s .pre .0, credited-nowhere (s .args .securities .now) (s .pre .0) (s .args .code) (sym (c .before .before .find .ensures) ∙ c .enum-told .given .1) (s .args .quantity .0))
+    let s = c .before .before .before .before .before in (
+      s .pre .0,
+      credited-nowhere (s .args .securities .now) (s .pre .0) (s .args .code) (sym (c .before .before .find .ensures) ∙ c .enum-told .given .1)
+          (s .args .quantity .0),
+    )
 
 pub credit-outside-spec : {M : Type 1} → statement M
 credit-outside-spec = tie.close (tie.spec (λ c κs. search needs) (λ c. search needs)
     (λ c. omega (arith, low (c .before))) (λ c. omega (arith, low (c .before))) (λ c. omega (arith, low (c .before .before)))
-    (λ c. let f = c .before .before .before in let s = f .before .before .before .before .before in omega (arith, s .pre .1 (fresh .holdings), outside-here (s .args .securities .now) (s .pre .0) (s .args .code) (f .found .given .0 .0) (spot f) (fresh .holdings)))
-    (λ c. omega (arith, low (c .before .before .before))) (λ c. omega (arith, low (c .before .before .before))) (λ c. omega (arith, low (c .before .before .before)))
+    (λ c. let f = c .before .before .before in let s = f .before .before .before .before .before in omega (
+      arith,
+      s .pre .1 (fresh .holdings),
+      outside-here (s .args .securities .now) (s .pre .0) (s .args .code) (f .found .given .0 .0) (spot f)
+          (fresh .holdings),
+    ))
+    (λ c. omega (arith, low (c .before .before .before))) (λ c. omega (arith, low (c .before .before .before)))
+    (λ c. omega (arith, low (c .before .before .before)))
     (λ c. search needs) (λ c. search needs) returns (λ c. search needs) returns-2)

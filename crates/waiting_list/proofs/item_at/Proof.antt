@@ -13,9 +13,11 @@ returns : tie.Need-returns
 returns c =
     let a = c .before .before .before .args in
     let n : a .i * 16 + 1 + 16 - (a .i * 16 + 1) ≡ 16 = omega arith in
-    λ d. c .item-of .ensures ∙ ap (λ (k : ℕ). itemOf (take k (drop (a .i * 16 + 1) (a .items .now)))) n ∙ item-there (a .items .now) (a .i) d (c .before .before .before .pre .1)
+    λ d. c .item-of .ensures ∙ ap (λ (k : ℕ). itemOf (take k (drop (a .i * 16 + 1) (a .items .now)))) n
+    ∙ item-there (a .items .now) (a .i) d (c .before .before .before .pre .1)
 
 pub item-at-spec : {M : Type 1} → statement M
 item-at-spec =
     tie.close
-    (tie.spec (λ c. search needs) (λ c. search needs) (λ c. search needs) (λ c. search needs) (λ c. search needs) (λ c. search needs) (λ c. search needs) (λ c κs. search needs) returns)
+    (tie.spec (λ c. search needs) (λ c. search needs) (λ c. search needs) (λ c. search needs) (λ c. search needs) (λ c. search needs) (λ c. search needs)
+    (λ c κs. search needs) returns)

@@ -8,7 +8,9 @@ use Rattle.waiting_list.proofs.item_of.Tie as tie
 
 returns : tie.Need-returns
 returns c =
-    let r : List ℕ = c .before .before .before .before .before .before .before .before .before .before .before .before .before .before .before .before .before .before .args .r .now in
+    let r : List ℕ =
+    c .before .before .before .before .before .before .before .before .before .before .before .before .before .before .before .before .before .before .args .r .now
+    in
     λ k. record {
       security = getD r 0 0;
       currency = getD r 1 0;
@@ -24,4 +26,6 @@ returns c =
 pub item-of-spec : {M : Type 1} → statement M
 item-of-spec =
     tie.close
-    (tie.spec (λ c. search needs) (λ c. search needs) (λ c. search needs) (λ c. search needs) (λ c κs. search needs) (λ c. search needs) (λ c. search needs) (λ c. search needs) (λ c. search needs) (λ c. search needs) (λ c. search needs) (λ c. search needs) (λ c. search needs) (λ c. search needs) (λ c. search needs) (λ c. search needs) (λ c. search needs) returns)
+    (tie.spec (λ c. search needs) (λ c. search needs) (λ c. search needs) (λ c. search needs) (λ c κs. search needs) (λ c. search needs) (λ c. search needs)
+    (λ c. search needs) (λ c. search needs) (λ c. search needs) (λ c. search needs) (λ c. search needs) (λ c. search needs) (λ c. search needs)
+    (λ c. search needs) (λ c. search needs) (λ c. search needs) returns)

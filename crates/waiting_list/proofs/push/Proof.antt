@@ -15,7 +15,8 @@ returns c =
     let a = c .before .before .before .before .before .before .args in
     let p = c .before .before .before .before .before .before .pre in
     let l : List ℕ = a .items .now in
-    subst (λ (w : List ℕ). Sized (set w 0 (rows l + 1)) × (itemsOf (set w 0 (rows l + 1)) ≡ itemsOf l ++ (a .item ∷ []))) (sym (c .before .before .write-row .ensures)) (pushed l (a .item) (p .0) (p .1))
+    subst (λ (w : List ℕ). Sized (set w 0 (rows l + 1)) × (itemsOf (set w 0 (rows l + 1)) ≡ itemsOf l ++ (a .item ∷ [])))
+    (sym (c .before .before .write-row .ensures)) (pushed l (a .item) (p .0) (p .1))
 
 pub push-spec : {M : Type 1} → statement M
 push-spec =

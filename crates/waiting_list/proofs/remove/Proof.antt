@@ -16,9 +16,11 @@ returns c =
     let a = c .before .before .before .before .before .before .args in
     let p = c .before .before .before .before .before .before .pre in
     let l : List ℕ = a .items .now in
-    subst (λ (w : List ℕ). Sized (set w 0 (rows l - 1)) × (itemsOf (set w 0 (rows l - 1)) ≡ removeAt (a .i) (itemsOf l))) (sym (c .before .before .shift-down .ensures)) (removed l (p .0) (a .i) (p .1))
+    subst (λ (w : List ℕ). Sized (set w 0 (rows l - 1)) × (itemsOf (set w 0 (rows l - 1)) ≡ removeAt (a .i) (itemsOf l)))
+    (sym (c .before .before .shift-down .ensures)) (removed l (p .0) (a .i) (p .1))
 
 pub remove-spec : {M : Type 1} → statement M
 remove-spec =
     tie.close
-    (tie.spec (λ c. search needs) (λ c. search needs) (λ c. search needs) (λ c. search needs) (λ c. search needs) (λ c. search needs) (λ c κs. search needs) (λ c. search needs) (λ c. search needs) returns)
+    (tie.spec (λ c. search needs) (λ c. search needs) (λ c. search needs) (λ c. search needs) (λ c. search needs) (λ c. search needs) (λ c κs. search needs)
+    (λ c. search needs) (λ c. search needs) returns)

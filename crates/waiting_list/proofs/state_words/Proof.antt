@@ -19,7 +19,9 @@ returns-2 : tie.Need-returns-2
 unfolding words
 returns-2 c =
     let g = c .before .before .before .s2 .given in
-    let m : c .before .bit-of2 .result + 2 * c .bit-of3 .result ≡ bit (g .0 .1 .1 .0) + 2 * bit (g .0 .1 .1 .1 .0) = ap (λ (n : ℕ). n + 2 * c .bit-of3 .result) (c .before .bit-of2 .ensures .0) ∙ ap (λ (n : ℕ). bit (g .0 .1 .1 .0) + 2 * n) (c .bit-of3 .ensures .0) in
+    let m : c .before .bit-of2 .result + 2 * c .bit-of3 .result ≡ bit (g .0 .1 .1 .0) + 2 * bit (g .0 .1 .1 .1 .0) =
+    ap (λ (n : ℕ). n + 2 * c .bit-of3 .result) (c .before .bit-of2 .ensures .0)
+    ∙ ap (λ (n : ℕ). bit (g .0 .1 .1 .0) + 2 * n) (c .bit-of3 .ensures .0) in
     ap (words 1 (g .0 .0) (g .0 .1 .0)) m ∙ ap stateWords (sym (g .1))
 
 returns-3 : tie.Need-returns-3
@@ -28,4 +30,5 @@ returns-3 c = ap stateWords (sym (c .before .s3 .given .1))
 pub state-words-spec : {M : Type 1} → statement M
 state-words-spec =
     tie.close
-    (tie.spec (λ c. search needs) (λ c κs. search needs) (λ c. search needs) (λ c κs. search needs) (λ c κs. search needs) (λ c. search needs) (λ c. search needs) (λ c. search needs) returns returns-2 returns-3)
+    (tie.spec (λ c. search needs) (λ c κs. search needs) (λ c. search needs) (λ c κs. search needs) (λ c κs. search needs) (λ c. search needs)
+    (λ c. search needs) (λ c. search needs) returns returns-2 returns-3)

@@ -9,7 +9,8 @@ use Rattle.waiting_list.proofs.write_row.Tie as tie
 returns : tie.Need-returns
 returns c =
     let a = c .before .before .before .before .before .before .before .args in
-    c .before .before .write .ensures ∙ ap (λ (s : StateWords). putRow (a .items .now) (a .i) (rowOf (a .item) s)) (c .before .before .before .before .before .state-words .ensures)
+    c .before .before .write .ensures
+    ∙ ap (λ (s : StateWords). putRow (a .items .now) (a .i) (rowOf (a .item) s)) (c .before .before .before .before .before .state-words .ensures)
 
 pub write-row-spec : {M : Type 1} → statement M
 write-row-spec =

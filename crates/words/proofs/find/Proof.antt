@@ -31,9 +31,12 @@ loop-again c =
 
 returns-2 : tie.Need-returns-2 Inv-loop μ-loop
 unfolding placeOf
-returns-2 c = let a = c .before .before .before .before .before .args in sym (c .before .loop .inv .1 ∙ first-none (isKey (a .table .now) (a .key)) _ _ (c .loop-test .left))
+returns-2 c =
+    let a = c .before .before .before .before .before .args in sym
+    (c .before .loop .inv .1 ∙ first-none (isKey (a .table .now) (a .key)) _ _ (c .loop-test .left))
 
 pub find-spec : {M : Type 1} → statement M
 find-spec =
     tie.close
-    (tie.spec Inv-loop μ-loop (λ c. search needs) (λ c κs. search needs) (λ c. c .passed .ensures) (λ c. omega arith) (λ c. omega arith) (λ c. omega arith) returns (λ c. omega arith) (λ c. omega arith) loop-again returns-2)
+    (tie.spec Inv-loop μ-loop (λ c. search needs) (λ c κs. search needs) (λ c. c .passed .ensures) (λ c. omega arith) (λ c. omega arith) (λ c. omega arith)
+    returns (λ c. omega arith) (λ c. omega arith) loop-again returns-2)

@@ -18,10 +18,20 @@ abbrev μ-loop : tie.MeasureT-loop
 loop-again : tie.Need-loop-again Inv-loop μ-loop
 loop-again c =
     let l = c .before .before .before .before .before .before .before .before .before .loop in
-    let a = c .before .before .before .before .before .before .before .before .before .before .args in
-    (omega arith, l .inv .1 ∙ four-passed (a .table .now) (a .key) (a .n) (l .i) (c .before .before .before .before .before .before .before .before .loop-test .taken) (c .before .before .before .before .before .before .if1 .left) (c .before .before .before .before .if2 .left) (c .before .before .if3 .left) (c .if4 .left))
+    let a = c .before .before .before .before .before .before .before .before .before .before .args in (
+      omega arith,
+      l .inv .1
+          ∙ four-passed (a .table .now) (a .key) (a .n) (l .i) (c .before .before .before .before .before .before .before .before .loop-test .taken)
+          (c .before .before .before .before .before .before .if1 .left) (c .before .before .before .before .if2 .left) (c .before .before .if3 .left)
+          (c .if4 .left),
+    )
 
 pub passed-spec : {M : Type 1} → statement M
 passed-spec =
     tie.close
-    (tie.spec Inv-loop μ-loop (λ c. (omega arith, first-start (isKey (c .args .table .now) (c .args .key)) (c .args .n))) (λ c. omega arith) (λ c. omega arith) (λ c. omega arith) (λ c. omega arith) (λ c. c .before .before .before .loop .inv) (λ c. omega arith) (λ c. omega arith) (λ c. omega arith) (λ c. c .before .before .before .before .before .loop .inv) (λ c. omega arith) (λ c. omega arith) (λ c. omega arith) (λ c. c .before .before .before .before .before .before .before .loop .inv) (λ c. omega arith) (λ c. omega arith) (λ c. omega arith) (λ c. c .before .before .before .before .before .before .before .before .before .loop .inv) (λ c. omega arith) (λ c. omega arith) loop-again (λ c. c .before .loop .inv))
+    (tie.spec Inv-loop μ-loop (λ c. (omega arith, first-start (isKey (c .args .table .now) (c .args .key)) (c .args .n))) (λ c. omega arith)
+    (λ c. omega arith) (λ c. omega arith) (λ c. omega arith) (λ c. c .before .before .before .loop .inv) (λ c. omega arith) (λ c. omega arith)
+    (λ c. omega arith) (λ c. c .before .before .before .before .before .loop .inv) (λ c. omega arith) (λ c. omega arith) (λ c. omega arith)
+    (λ c. c .before .before .before .before .before .before .before .loop .inv) (λ c. omega arith) (λ c. omega arith) (λ c. omega arith)
+    (λ c. c .before .before .before .before .before .before .before .before .before .loop .inv) (λ c. omega arith) (λ c. omega arith) loop-again
+    (λ c. c .before .loop .inv))

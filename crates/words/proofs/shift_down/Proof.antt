@@ -24,7 +24,8 @@ loop-again c =
     let s : List ℕ = drop (a .at + a .gap) w in
     let long : l .j < length s = rw length-drop (omega arith) in
     let v : getD (l .w) (a .at + a .gap + l .j) 0 ≡ getD s (l .j) 0 =
-    copy-ahead w (l .w) (a .at) s (l .j) (a .at + a .gap + l .j) (omega arith) (omega arith) (omega (arith, long)) (l .inv .2) ∙ sym (getD-drop (a .at + a .gap) w (l .j) 0)
+    copy-ahead w (l .w) (a .at) s (l .j) (a .at + a .gap + l .j) (omega arith) (omega arith) (omega (arith, long)) (l .inv .2)
+    ∙ sym (getD-drop (a .at + a .gap) w (l .j) 0)
     in
     (omega arith, simp length-set (l .inv .1), ap (set (l .w) (a .at + l .j)) v ∙ copy-more w (l .w) (a .at) s (l .j) (omega arith) long (l .inv .2))
 
@@ -33,9 +34,13 @@ returns c =
     let a = c .before .before .args in
     let l = c .before .loop in
     let all : l .j ≡ a .n = omega arith in
-    l .inv .2 ∙ ap (paste (a .w .now) (a .at) (drop (a .at + a .gap) (a .w .now))) all ∙ paste-mid (a .w .now) (a .at) (drop (a .at + a .gap) (a .w .now)) (a .n)
+    l .inv .2 ∙ ap (paste (a .w .now) (a .at) (drop (a .at + a .gap) (a .w .now))) all
+    ∙ paste-mid (a .w .now) (a .at) (drop (a .at + a .gap) (a .w .now)) (a .n)
 
 pub shift-down-spec : {M : Type 1} → statement M
 shift-down-spec =
     tie.close
-    (tie.spec Inv-loop μ-loop (λ c. (omega arith, search needs, copy-none (c .args .w .now) (c .args .at) (drop (c .args .at + c .args .gap) (c .args .w .now)))) (λ c. omega arith) (λ c. omega arith) (λ c. omega arith) (λ c. omega arith) (λ c. omega arith) (λ c. omega arith) (λ c. omega arith) (λ c. omega arith) (λ c. omega arith) loop-again (λ c. search needs) returns)
+    (tie.spec Inv-loop μ-loop
+    (λ c. (omega arith, search needs, copy-none (c .args .w .now) (c .args .at) (drop (c .args .at + c .args .gap) (c .args .w .now)))) (λ c. omega arith)
+    (λ c. omega arith) (λ c. omega arith) (λ c. omega arith) (λ c. omega arith) (λ c. omega arith) (λ c. omega arith) (λ c. omega arith) (λ c. omega arith)
+    loop-again (λ c. search needs) returns)

@@ -8,8 +8,12 @@ use Rattle.words.proofs.Tables.{place-at, value-at, value-none}
 use Rattle.words.proofs.value.Statement.{statement}
 use Rattle.words.proofs.value.Tie as tie
 
-here : (c : tie.After-found) → (c .found .given .0 .0 < rows (c .before .before .before .before .args .table .now)) × (keyAt (c .before .before .before .before .args .table .now) (c .found .given .0 .0) ≡ c .before .before .before .before .args .key)
-here c = let a = c .before .before .before .before .args in place-at (a .table .now) (a .key) (c .found .given .0 .0) (sym (c .before .before .find .ensures) ∙ c .found .given .1)
+here :
+    (c : tie.After-found) → (c .found .given .0 .0 < rows (c .before .before .before .before .args .table .now))
+    × (keyAt (c .before .before .before .before .args .table .now) (c .found .given .0 .0) ≡ c .before .before .before .before .args .key)
+here c =
+    let a = c .before .before .before .before .args in place-at (a .table .now) (a .key) (c .found .given .0 .0)
+    (sym (c .before .before .find .ensures) ∙ c .found .given .1)
 
 returns : tie.Need-returns
 returns c =
@@ -25,4 +29,5 @@ returns-2 c =
 pub value-spec : {M : Type 1} → statement M
 value-spec =
     tie.close
-    (tie.spec (λ c κs. search needs) (λ c. search needs) (λ c. omega (arith, here (c .before) .0)) (λ c. omega (arith, here (c .before) .0)) (λ c. omega (arith, here (c .before .before) .0)) (λ c. search needs) returns returns-2)
+    (tie.spec (λ c κs. search needs) (λ c. search needs) (λ c. omega (arith, here (c .before) .0)) (λ c. omega (arith, here (c .before) .0))
+    (λ c. omega (arith, here (c .before .before) .0)) (λ c. search needs) returns returns-2)

@@ -27,9 +27,11 @@ returns c =
     let a = c .before .before .args in
     let l = c .before .loop in
     let all : l .j ≡ length (a .s .now) = omega arith in
-    l .inv .2 ∙ ap (paste (a .w .now) (a .at) (a .s .now)) all ∙ paste-mid (a .w .now) (a .at) (a .s .now) (length (a .s .now)) ∙ ap (putMid (a .at) (length (a .s .now)) (a .w .now)) (take-length (a .s .now))
+    l .inv .2 ∙ ap (paste (a .w .now) (a .at) (a .s .now)) all ∙ paste-mid (a .w .now) (a .at) (a .s .now) (length (a .s .now))
+    ∙ ap (putMid (a .at) (length (a .s .now)) (a .w .now)) (take-length (a .s .now))
 
 pub write-spec : {M : Type 1} → statement M
 write-spec =
     tie.close
-    (tie.spec Inv-loop μ-loop (λ c. (omega arith, search needs, copy-none (c .args .w .now) (c .args .at) (c .args .s .now))) (λ c. omega arith) (λ c. omega arith) (λ c. omega arith) (λ c. omega arith) (λ c. omega arith) (λ c. omega arith) (λ c. omega arith) loop-again (λ c. search needs) returns)
+    (tie.spec Inv-loop μ-loop (λ c. (omega arith, search needs, copy-none (c .args .w .now) (c .args .at) (c .args .s .now))) (λ c. omega arith)
+    (λ c. omega arith) (λ c. omega arith) (λ c. omega arith) (λ c. omega arith) (λ c. omega arith) (λ c. omega arith) loop-again (λ c. search needs) returns)

@@ -57,10 +57,13 @@ returns-3 c =
     let fields : List ℕ = first .args .fields .now in
     let done : c .before .loop .place ≡ 15 = search needs in
     let most-right : 0 ≡ below (first .args .form) fields 15 = c .before .loop .inv .1 ∙ ap (below (first .args .form) fields) done in
-    let zero : lastAreZero fields ≡ true = sym (c .before .before .before .before .last-are-zero .ensures) ∙ not-false _ (c .before .before .before .if1 .left) in
+    let zero : lastAreZero fields ≡ true =
+    sym (c .before .before .before .before .last-are-zero .ensures) ∙ not-false _ (c .before .before .before .if1 .left) in
     λ e. subst (λ (form : ℕ). 0 ≡ below form fields 19) (sym (first .pre .1)) (last-right (first .args .form) fields zero most-right)
 
 pub are-right-spec : {M : Type 1} → statement M
 are-right-spec =
     tie.close
-    (tie.spec Inv-loop μ-loop (λ c κs. search needs) returns (λ c κs. search needs) (λ c. (search needs, refl)) (λ c κs. search needs) (λ c κs. search needs) (λ c. search needs) (λ c. search needs) (λ c. search needs) (λ c. search needs) (λ c κs. search needs) returns-2 (λ c. search needs) (λ c. search needs) loop-again returns-3)
+    (tie.spec Inv-loop μ-loop (λ c κs. search needs) returns (λ c κs. search needs) (λ c. (search needs, refl)) (λ c κs. search needs) (λ c κs. search needs)
+    (λ c. search needs) (λ c. search needs) (λ c. search needs) (λ c. search needs) (λ c κs. search needs) returns-2 (λ c. search needs) (λ c. search needs)
+    loop-again returns-3)

@@ -18,7 +18,9 @@ lower n f = n isNot 1 && some (λ place. ruleIn (always ++ f.fields) place .most
 
 map-same : (f g : ℕ → ℕ) (l : List ℕ) → some (λ x. f x isNot g x) l ≡ false → map f l ≡ map g l
 map-same f g [] e = refl
-map-same f g (x ∷ rest) e = ap₂ _∷_ (eqb-true (f x) (g x) (first (f x is g x) (some (λ y. f y isNot g y) rest) e .0)) (map-same f g rest (first (f x is g x) (some (λ y. f y isNot g y) rest) e .1))
+map-same f g (x ∷ rest) e =
+    ap₂ _∷_ (eqb-true (f x) (g x) (first (f x is g x) (some (λ y. f y isNot g y) rest) e .0))
+    (map-same f g rest (first (f x is g x) (some (λ y. f y isNot g y) rest) e .1))
   where
     first : (a b : Bool) → (not a || b) ≡ false → (a ≡ true) × (b ≡ false)
     first true b h = (refl, h)

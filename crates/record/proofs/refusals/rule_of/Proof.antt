@@ -36,7 +36,9 @@ row-rule : (fields form : ℕ) (r : Rule) → (r .used ≡ fields) × (r .option
 unfolding wrong apart
 row-rule fields form r e w =
     let t = three (any (length places) (apart fields form)) (within 1 (length forms) form) (fields is 0) w in
-    let at : (place : ℕ) → place < length places → (differ (has fields place) (used form place) ≡ false) × ((leastIn 2 place is least form place) ≡ true) = λ place l. two (differ (has fields place) (used form place)) (leastIn 2 place is least form place) (none-passes (length places) (apart fields form) (t .0) place l) in
+    let at : (place : ℕ) → place < length places → (differ (has fields place) (used form place) ≡ false) × ((leastIn 2 place is least form place) ≡ true) =
+    λ place l. two (differ (has fields place) (used form place)) (leastIn 2 place is least form place)
+    (none-passes (length places) (apart fields form) (t .0) place l) in
     record {
       none = λ z. absurd (eqb-false _ 0 (t .2) (sym (e .0) ∙ z));
       some = λ _. (
@@ -111,7 +113,8 @@ returns-11 : tie.Need-returns-11
 unfolding wrong apart forms rowOf used least places
 returns-11 c =
     let rest = c .before .before .before .match .rest .0 .0 .0 .0 .0 .0 in
-    several 5 5 _ _ _ (past 4 _ (past 3 _ (past 2 _ (past 1 _ (c .before .before .if1 .left) (rest .0 .0 .0 .1)) (rest .0 .0 .1)) (rest .0 .1)) (rest .1)) (c .before .if2 .taken) (c .uses11 .ensures) refl
+    several 5 5 _ _ _ (past 4 _ (past 3 _ (past 2 _ (past 1 _ (c .before .before .if1 .left) (rest .0 .0 .0 .1)) (rest .0 .0 .1)) (rest .0 .1)) (rest .1))
+    (c .before .if2 .taken) (c .uses11 .ensures) refl
 
 returns-12 : tie.Need-returns-12
 unfolding wrong apart forms rowOf used least places

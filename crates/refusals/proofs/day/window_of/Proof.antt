@@ -57,7 +57,9 @@ returns-3 c =
     let two = here .before .before in
     let s = opened (moved two) in
     let e = sym (here .before .is-within2 .ensures) ∙ here .if3 .taken in
-    let w = picked (s .args .day) (s .args .order) (s .pre) 480 (paymentEnd (s .args .day) (s .args .order .«settlement_day»)) (simp (not-1 (moved two), not-3-9 two, e)) in
+    let w =
+    picked (s .args .day) (s .args .order) (s .pre) 480 (paymentEnd (s .args .day) (s .args .order .«settlement_day»))
+    (simp (not-1 (moved two), not-3-9 two, e)) in
     (c .between3 .ensures .0 ∙ w .0, c .between3 .ensures .1 ∙ c .before .payment-end .ensures ∙ w .1)
 
 returns-4 : tie.Need-returns-4

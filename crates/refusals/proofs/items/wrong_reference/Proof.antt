@@ -25,4 +25,5 @@ returns-2 c =
     rw (c .is-within2 .ensures, waits, sender)
 
 pub wrong-reference-spec : {M : Type 1} → statement M
-wrong-reference-spec = tie.close (tie.spec (λ c κs. search needs) returns (λ c κs. search needs) (λ c κs. search needs) (λ c κs. search needs) (λ c κs. search needs) returns-2)
+wrong-reference-spec =
+    tie.close (tie.spec (λ c κs. search needs) returns (λ c κs. search needs) (λ c κs. search needs) (λ c κs. search needs) (λ c κs. search needs) returns-2)

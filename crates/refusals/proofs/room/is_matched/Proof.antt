@@ -13,4 +13,5 @@ returns c =
     ∙ rw (c .before .before .tolerance-of .ensures, c .before .before .before .item-of .ensures)
 
 pub is-matched-spec : {M : Type 1} → statement M
-is-matched-spec = tie.close (tie.spec (λ c κs. search needs) (λ c κs. search needs) (λ c κs. c .before .before .before .before .pre .stored) (λ c κs. search needs) returns)
+is-matched-spec =
+    tie.close (tie.spec (λ c κs. search needs) (λ c κs. search needs) (λ c κs. c .before .before .before .before .pre .stored) (λ c κs. search needs) returns)

@@ -49,7 +49,9 @@ returns c =
 returns-2 : tie.Need-returns-2
 returns-2 c =
     let s = c .before .before .before .before in
-    sym (roomy (book s) (order s) (s .pre .1) (s .pre .0 .premise) (s .pre .2) (ne-eqb _ _ (c .before .before .if1 .left)) (sym (c .before .is-list-full .ensures) ∙ not-true _ (c .if2 .taken)))
+    sym
+    (roomy (book s) (order s) (s .pre .1) (s .pre .0 .premise) (s .pre .2) (ne-eqb _ _ (c .before .before .if1 .left))
+    (sym (c .before .is-list-full .ensures) ∙ not-true _ (c .if2 .taken)))
 
 -- the rest is for a book without
 full : (c : tie.Else2) → isListFull (book (start c)) ≡ true
@@ -95,7 +97,10 @@ returns-4 c =
     let l : 3 ≤ order s .form = omega (arith, r .0) in
     let passed = s .pre .2 in
     rw (to .balance2 .ensures, to .before .account-of2 .ensures, from .balance3 .ensures, from .before .account-of3 .ensures, c .is-full2 .ensures)
-    (sym (transfer-space (book s) (order s) (s .pre .0 .premise .sizes) (r .0) (r .1) (some-quantity _ (s .pre .1) l (r .1)) (debit-enough (book s) (order s) (passed .enough) (wider (order s .form) w)) (sides-apart (book s) (order s) (r .0) (r .1) (passed .types) (passed .parties))))
+    (sym
+    (transfer-space (book s) (order s) (s .pre .0 .premise .sizes) (r .0) (r .1) (some-quantity _ (s .pre .1) l (r .1))
+    (debit-enough (book s) (order s) (passed .enough) (wider (order s .form) w))
+    (sides-apart (book s) (order s) (r .0) (r .1) (passed .types) (passed .parties))))
 
 returns-5 : tie.Need-returns-5
 returns-5 c =
@@ -111,7 +116,9 @@ returns-6 c =
     let four = c .before .before in
     let three = four .before .before in
     let s = start (three .before) in
-    sym (last (book s) (order s) (s .pre .0 .premise) (full (three .before)) (ranges _ (s .pre .1) .form) (ne-eqb _ _ (three .before .before .before .if1 .left)) (ne-eqb _ _ (three .if3 .left)) (sym (four .before .is-within .ensures) ∙ four .if4 .left) (sym (c .before .is-within2 .ensures) ∙ c .if5 .left))
+    sym
+    (last (book s) (order s) (s .pre .0 .premise) (full (three .before)) (ranges _ (s .pre .1) .form) (ne-eqb _ _ (three .before .before .before .if1 .left))
+    (ne-eqb _ _ (three .if3 .left)) (sym (four .before .is-within .ensures) ∙ four .if4 .left) (sym (c .before .is-within2 .ensures) ∙ c .if5 .left))
 
 pub no-space-spec : {M : Type 1} → statement M
 no-space-spec =

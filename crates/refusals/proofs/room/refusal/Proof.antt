@@ -13,7 +13,9 @@ unfolding orderTests
 no-space-requires c κs =
     let s = c .before .before .before in
     let book = ledgerOf (s .args .book .now) in
-    let passed = none-applies (orderTests (book .holdings) (book .day .number) (s .args .order)) (order-numbered (book .holdings) (book .day .number) (s .args .order)) (s .pre .2) in
+    let passed =
+    none-applies (orderTests (book .holdings) (book .day .number) (s .args .order))
+    (order-numbered (book .holdings) (book .day .number) (s .args .order)) (s .pre .2) in
     (s .pre .0, s .pre .1, record { types = passed 11; parties = passed 12; enough = sym (c .before .too-little .ensures) ∙ c .if1 .left })
 
 over-ceiling-requires : tie.Need-over-ceiling-requires
@@ -25,7 +27,14 @@ unfolding roomTests
 returns-2 c =
     let space = c .before .before .before in
     let passed = space .before in
-    rw (c .refuse2 .ensures, c .before .over-ceiling .ensures, c .before .before .refuse .ensures, space .no-space .ensures, sym (passed .before .too-little .ensures) ∙ passed .if1 .left)
+    rw (
+      c .refuse2 .ensures,
+      c .before .over-ceiling .ensures,
+      c .before .before .refuse .ensures,
+      space .no-space .ensures,
+      sym
+          (passed .before .too-little .ensures) ∙ passed .if1 .left,
+    )
 
 pub refusal-spec : {M : Type 1} → statement M
 unfolding roomTests

@@ -54,4 +54,6 @@ returns-4 c =
     simp (ne-eqb f 3 (one .if1 .left), sym (two .before .is-within .ensures) ∙ two .if2 .left, ne-eqb f 11 (c .if3 .left))
 
 pub too-little-spec : {M : Type 1} → statement M
-too-little-spec = tie.close (tie.spec (λ c κs. search needs) returns (λ c κs. search needs) (λ c κs. search needs) balance-requires returns-2 cash-requires returns-3 returns-4)
+too-little-spec =
+    tie.close
+    (tie.spec (λ c κs. search needs) returns (λ c κs. search needs) (λ c κs. search needs) balance-requires returns-2 cash-requires returns-3 returns-4)
