@@ -5,7 +5,7 @@ use std::env;
 use std::path::{Path, PathBuf};
 use std::process::Command;
 
-/// All that the library shows to this program.
+/// All of the library that this program calls.
 const FUNCTIONS: [&str; 5] =
     ["depository_fresh", "depository_call", "depository_held", "depository_read", "depository_write"];
 

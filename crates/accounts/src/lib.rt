@@ -5,7 +5,7 @@ ghost use lib.ListN.{length};
 ghost use Rattle.rulebook.specs.Ledger as Ledger;
 ghost use Rattle.rulebook.specs.Ledger.{Holdings};
 ghost use Rattle.rulebook.specs.Movements as movements;
-ghost use Rattle.accounts.specs.Keys.{InRange, keyOf};
+ghost use Rattle.accounts.specs.Keys.{InRange, inRange, keyOf};
 ghost use Rattle.words.specs.Tables.{rows, placeOf};
 ghost use Rattle.accounts.specs.Map.{balanceOf, withAccounts, Kept, CreditFits, opened, removed};
 use rulebook::Account;
@@ -23,6 +23,16 @@ pub fn key_of(account: Account) -> u64
         + account.member * 274877906944
         + account.typ * 1073741824
         + account.shareholder
+}
+
+// Whether a posting row's fields can name the account.
+pub fn is_named(account: Account) -> bool
+    ensures { λ r. ⌜ r ≡ inRange account ⌝ }
+{
+    (account.security < 16384)
+        & (account.member < 1024)
+        & (account.typ < 256)
+        & (account.shareholder < 1073741824)
 }
 
 // Where the account stands.

@@ -6,16 +6,14 @@ use Prim.Native.Nat.{ℕ, zero, suc, _+_, _-_, _*_, _/_, _%_, _^_, _≤_, _<_}
 use native.Mathlib.Nat.{add-assoc, add-comm, add-zero, add-suc, zero-add, zero-mul, mul-assoc, add-mul, mul-one, div-one, mod-lt}
 use native.Mathlib.Numerals.{add-one}
 use native.Mathlib.Omega.{arith}
-use mathlib.Core.Bool.{Bool, true, false, _&&_}
-use lib.Dec.{lit<, ltb}
-use borrow.Author.Tests.{ltb-true, lt-ltb, le-ltb}
+use lib.Dec.{lit<}
 use lib.ListN.{length, getD, take, drop, length-append, length-drop, drop-of-length-le}
 use lib.Seq.{getD-drop, take-at, take-all, take-append-le, drop-append-add, drop-drop, drop-cons}
 use lib.Pow.{pow-pos, pow-add, shr-shr, shl-shr, shr-lt, shl-lt, high, low, split}
 use lib.Arith.{digits-lt, lt-one}
 use Rattle.bits.specs.Bits.{Octets, number, bytes, leading, field, put, wholeBytes, Inside}
-use Rattle.bits.specs.Layout.{pack, cut, total, Fit, Spans, puts, Words, fitting}
-use Rattle.bits.proofs.Laws.{target, ones-shr, number-snoc, number-lt, leading-take, length-bytes, bytes-number}
+use Rattle.bits.specs.Layout.{pack, cut, total, Fit, Spans, puts}
+use Rattle.bits.proofs.Laws.{target, number-snoc, number-lt, leading-take, length-bytes, bytes-number}
 
 -- ---- lists of bytes
 
@@ -275,54 +273,3 @@ module _ (all ds ws vs : List ℕ) (at j : ℕ) (r : Rest all ds ws vs at j) (l 
 
 pub rest-all : (all ds ws vs : List ℕ) (at j : ℕ) → Rest all ds ws vs at j → length ws ≤ j → ds ≡ all
 rest-all all ds ws vs at j r l = rw (drop-of-length-le ws l, drop-of-length-le vs {i = j} (omega arith)) at (r .is)
-
--- ---- the loop that tests: what is left to test decides
-
-pub fitting-fit : (ws vs : List ℕ) → fitting ws vs ≡ true → Fit ws vs
-fitting-fit [] [] e = tt
-fitting-fit [] (v ∷ vs) e = let z : _≡_ {A = ℕ} 0 1 = cc in omega arith
-fitting-fit (w ∷ ws) [] e = let z : _≡_ {A = ℕ} 0 1 = cc in omega arith
-fitting-fit (w ∷ ws) (v ∷ vs) e = both (ltb v (2 ^ w)) (fitting ws vs) e (λ a b. (ltb-true v (2 ^ w) a, fitting-fit ws vs b))
-  where
-    both : {X : Type 0} (a b : Bool) → (a && b) ≡ true → (a ≡ true → b ≡ true → X) → X
-    both true true e k = k refl refl
-    both true false e k = k refl e
-    both false b e k = k e (cc)
-
-pub record Tested (ws vs : List ℕ) (j : ℕ) : Type 0 where
-  pub upto : j ≤ length ws
-  pub same : length vs ≡ length ws
-  pub words : Words (drop j ws)
-  pub is : fitting (drop j ws) (drop j vs) ≡ fitting ws vs
-
-module _ (ws vs : List ℕ) (j : ℕ) (r : Tested ws vs j) (l : j < length ws) where
-  abbrev tail-ws : drop j ws ≡ getD ws j 0 ∷ drop (suc j) ws
-  tail-ws = drop-cons ws j 0 l
-
-  abbrev tail-vs : drop j vs ≡ getD vs j 0 ∷ drop (suc j) vs
-  tail-vs = drop-cons vs j 0 (omega arith)
-
-  pub tested-word : (1 ≤ getD ws j 0) × (getD ws j 0 ≤ 64)
-  tested-word = let s : Words (getD ws j 0 ∷ drop (suc j) ws) = rw tail-ws at (r .words) in (s .0, s .1)
-
-  abbrev step : (ltb (getD vs j 0) (2 ^ getD ws j 0) && fitting (drop (suc j) ws) (drop (suc j) vs)) ≡ fitting ws vs
-  step = rw (tail-ws, tail-vs) at (r .is)
-
-  pub tested-fails : (2 ^ 64 - 1) / 2 ^ (64 - getD ws j 0) < getD vs j 0 → false ≡ fitting ws vs
-  tested-fails h =
-      let g : 2 ^ getD ws j 0 - 1 < getD vs j 0 = rw (ones-shr (getD ws j 0) (tested-word .1)) at h in
-      rw (le-ltb (getD vs j 0) (2 ^ getD ws j 0) (omega (arith, pow-pos (getD ws j 0)))) at step
-
-  pub tested-more : getD vs j 0 ≤ (2 ^ 64 - 1) / 2 ^ (64 - getD ws j 0) → Tested ws vs (j + 1)
-  tested-more h =
-      let g : getD vs j 0 ≤ 2 ^ getD ws j 0 - 1 = rw (ones-shr (getD ws j 0) (tested-word .1)) at h in
-      let s : Words (getD ws j 0 ∷ drop (suc j) ws) = rw tail-ws at (r .words) in
-      rw (add-one j) (record {
-        upto = l;
-        same = r .same;
-        words = s .2;
-        is = rw (lt-ltb (getD vs j 0) (2 ^ getD ws j 0) (omega (arith, pow-pos (getD ws j 0)))) at step;
-      })
-
-pub tested-all : (ws vs : List ℕ) (j : ℕ) → Tested ws vs j → length ws ≤ j → true ≡ fitting ws vs
-tested-all ws vs j r l = rw (drop-of-length-le ws l, drop-of-length-le vs {i = j} (omega arith)) at (r .is)

@@ -1,8 +1,6 @@
 -- Values packed without gaps by a list of widths, and cut again.
 use Prim.Native.Nat.{ℕ, _+_, _*_, _/_, _^_, _≤_, _<_}
 use mathlib.Core.List.{List, [], _∷_}
-use mathlib.Core.Bool.{Bool, true, false, _&&_}
-use lib.Dec.{ltb}
 use Rattle.bits.specs.Bits.{field, put, wholeBytes}
 
 -- n with the values behind it, each in its width
@@ -40,15 +38,3 @@ puts ds at [] [] = ds
 puts ds at [] (v ∷ vs) = ds
 puts ds at (w ∷ ws) [] = ds
 puts ds at (w ∷ ws) (v ∷ vs) = puts (put ds at w v) (at + w) ws vs
-
--- each width is that of a word's part
-abbrev pub Words : List ℕ → Type 0
-Words [] = Unit
-Words (w ∷ ws) = (1 ≤ w) × (w ≤ 64) × Words ws
-
--- `Fit`, as a test
-abbrev pub fitting : List ℕ → List ℕ → Bool
-fitting [] [] = true
-fitting [] (v ∷ vs) = false
-fitting (w ∷ ws) [] = false
-fitting (w ∷ ws) (v ∷ vs) = ltb v (2 ^ w) && fitting ws vs

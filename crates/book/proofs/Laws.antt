@@ -27,9 +27,9 @@ use Rattle.book.specs.Stored.{StoredBy, Stored, Means}
 
 -- ---- the region law at this book's widths: part r is changed
 
-module _ (r : ℕ) (known : r < 5) (xs : List ℕ) (stored : Stored xs) (ys : List ℕ) (wide : length ys ≡ getD widths r 0) where
+module _ (r : ℕ) (known : r < length widths) (xs : List ℕ) (stored : Stored xs) (ys : List ℕ) (wide : length ys ≡ getD widths r 0) where
   -- part s of the book with ys in the place of part r
-  each : (s : ℕ) → s < 5 → part s (putRegion widths r xs ys) ≡ (if s is r then ys else part s xs)
+  each : (s : ℕ) → s < length widths → part s (putRegion widths r xs ys) ≡ (if s is r then ys else part s xs)
   each s h = region-put widths r s xs ys (omega (arith, stored.long)) known h wide
 
   pub put-ledger : ledgerOf (putRegion widths r xs ys) ≡ ledgerBy (λ s. if s is r then ys else part s xs)
@@ -59,43 +59,56 @@ module _ (r : ℕ) (known : r < 5) (xs : List ℕ) (stored : Stored xs) (ys : Li
   }
 
 -- a part is as long as its width
-pub part-long : (r : ℕ) → r < 5 → (xs : List ℕ) → Stored xs → length (part r xs) ≡ getD widths r 0
+pub part-long : (r : ℕ) → r < length widths → (xs : List ℕ) → Stored xs → length (part r xs) ≡ getD widths r 0
 part-long r known xs stored = length-take-le (getD widths r 0) _ (rw length-drop (omega (arith, end-within widths r known, stored.long)))
 
 -- ---- what a function of a part says, told of the whole book
 
 module _ (xs : List ℕ) (stored : Stored xs) (ys : List ℕ) where
-  step : (r : ℕ) → r < 5 → length ys ≡ getD widths r 0 → (b : Ledger) → StoredBy (λ s. if s is r then ys else part s xs) → ledgerBy (λ s. if s is r then ys else part s xs) ≡ b → Means (putRegion widths r xs ys) b
+  step :
+      (r : ℕ) → r < length widths → length ys ≡ getD widths r 0 → (b : Ledger) → StoredBy (λ s. if s is r then ys else part s xs)
+      → ledgerBy (λ s. if s is r then ys else part s xs) ≡ b → Means (putRegion widths r xs ys) b
   step r known wide b kept e = record { stored = put-stored r known xs stored ys wide kept; ledger = put-ledger r known xs stored ys wide ∙ e }
 
-  pub day-step : (d : Day) → length ys ≡ 8 → getD ys 1 0 ≤ 1 → dayIn ys ≡ d → Means (putRegion widths DAY xs ys) (putDay d (ledgerOf xs))
+  pub day-step : (d : Day) → length ys ≡ getD widths DAY 0 → getD ys 1 0 ≤ 1 → dayIn ys ≡ d → Means (putRegion widths DAY xs ys) (putDay d (ledgerOf xs))
   unfolding putDay holdingsOf waitingOf
   day-step d wide opened e =
-      step DAY (omega arith) wide (putDay d (ledgerOf xs)) (record { opened = opened; securities = stored.parts.securities; accounts = stored.parts.accounts; items = stored.parts.items })
+      step DAY (omega arith) wide (putDay d (ledgerOf xs))
+      (record { opened = opened; securities = stored.parts.securities; accounts = stored.parts.accounts; items = stored.parts.items })
       (λ i. record { day = e i; holdings = holdingsOf xs; waiting = waitingOf xs })
 
-  pub securities-step : (h : Holdings) → securities.Kept ys → withSecurities ys (holdingsOf xs) ≡ h → Means (putRegion widths SECURITIES xs ys) (putHoldings h (ledgerOf xs))
+  pub securities-step :
+      (h : Holdings) → securities.Kept ys → withSecurities ys (holdingsOf xs) ≡ h
+      → Means (putRegion widths SECURITIES xs ys) (putHoldings h (ledgerOf xs))
   unfolding putHoldings holdingsOf waitingOf
   securities-step h kept e =
-      step SECURITIES (omega arith) kept.long (putHoldings h (ledgerOf xs)) (record { opened = stored.parts.opened; securities = kept; accounts = stored.parts.accounts; items = stored.parts.items })
+      step SECURITIES (omega arith) kept.long (putHoldings h (ledgerOf xs))
+      (record { opened = stored.parts.opened; securities = kept; accounts = stored.parts.accounts; items = stored.parts.items })
       (ap (λ (x : Holdings). putHoldings x (ledgerOf xs)) e)
 
-  pub accounts-step : (h : Holdings) → accounts.Kept ys → withAccounts ys (holdingsOf xs) ≡ h → Means (putRegion widths ACCOUNTS xs ys) (putHoldings h (ledgerOf xs))
+  pub accounts-step :
+      (h : Holdings) → accounts.Kept ys → withAccounts ys (holdingsOf xs) ≡ h
+      → Means (putRegion widths ACCOUNTS xs ys) (putHoldings h (ledgerOf xs))
   unfolding putHoldings holdingsOf waitingOf
   accounts-step h kept e =
-      step ACCOUNTS (omega arith) kept.long (putHoldings h (ledgerOf xs)) (record { opened = stored.parts.opened; securities = stored.parts.securities; accounts = kept; items = stored.parts.items })
+      step ACCOUNTS (omega arith) kept.long (putHoldings h (ledgerOf xs))
+      (record { opened = stored.parts.opened; securities = stored.parts.securities; accounts = kept; items = stored.parts.items })
       (ap (λ (x : Holdings). putHoldings x (ledgerOf xs)) e)
 
-  pub cash-step : (h : Holdings) → length ys ≡ 128 → withCash ys (holdingsOf xs) ≡ h → Means (putRegion widths CASH xs ys) (putHoldings h (ledgerOf xs))
+  pub cash-step :
+      (h : Holdings) → length ys ≡ getD widths CASH 0 → withCash ys (holdingsOf xs) ≡ h
+      → Means (putRegion widths CASH xs ys) (putHoldings h (ledgerOf xs))
   unfolding putHoldings holdingsOf waitingOf
   cash-step h wide e =
-      step CASH (omega arith) wide (putHoldings h (ledgerOf xs)) (record { opened = stored.parts.opened; securities = stored.parts.securities; accounts = stored.parts.accounts; items = stored.parts.items })
+      step CASH (omega arith) wide (putHoldings h (ledgerOf xs))
+      (record { opened = stored.parts.opened; securities = stored.parts.securities; accounts = stored.parts.accounts; items = stored.parts.items })
       (ap (λ (x : Holdings). putHoldings x (ledgerOf xs)) e)
 
   pub items-step : (l : List Item) → items.Sized ys → itemsOf ys ≡ l → Means (putRegion widths ITEMS xs ys) (putWaiting l (ledgerOf xs))
   unfolding putWaiting holdingsOf waitingOf
   items-step l sized e =
-      step ITEMS (omega arith) sized.long (putWaiting l (ledgerOf xs)) (record { opened = stored.parts.opened; securities = stored.parts.securities; accounts = stored.parts.accounts; items = sized })
+      step ITEMS (omega arith) sized.long (putWaiting l (ledgerOf xs))
+      (record { opened = stored.parts.opened; securities = stored.parts.securities; accounts = stored.parts.accounts; items = sized })
       (ap (λ (x : List Item). putWaiting x (ledgerOf xs)) e)
 
 -- ---- one function after another: what the second makes of the book that the first left

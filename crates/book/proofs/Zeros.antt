@@ -18,9 +18,11 @@ use Rattle.accounts.specs.Keys.{inRange}
 use Rattle.accounts.specs.Map.{balanceOf}
 use Rattle.cash.specs.Amounts.{kept, place, amountOf}
 use Rattle.waiting_list.specs.Waiting.{itemsOf}
-use Rattle.book.specs.Meaning.{ACCOUNTS, CASH, part, holdingsOf, waitingOf, ledgerOf}
+use Rattle.book.specs.Meaning.{bookLength, ACCOUNTS, CASH, part, holdingsOf, waitingOf, ledgerOf}
 use Rattle.book.specs.Stored.{Stored, Kept, Means}
-use Rattle.book.specs.Zeros.{zeros}
+
+abbrev pub zeros : List ℕ
+zeros = replicate bookLength 0
 
 zero-word : (n i : ℕ) → _≡_ {A = ℕ} (getD (replicate n 0) i 0) 0
 zero-word zero i = refl

@@ -1,5 +1,5 @@
 -- What a book of words means, and what is kept true of it.
 pub mod Meaning
 pub mod Stored
-pub mod Zeros
+pub mod Fresh
 pub mod Handled

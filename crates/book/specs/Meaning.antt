@@ -6,17 +6,22 @@ use Rattle.rulebook.specs.Lists.{_is_}
 use Rattle.rulebook.specs.Ledger.{Ledger, Holdings}
 use Rattle.rulebook.specs.declared.Day.{Day}
 use Rattle.rulebook.specs.declared.Item.{Item}
-use Rattle.words.specs.Regions.{region}
+use Rattle.words.specs.Regions.{region, whole}
 use Rattle.words.specs.Tables.{rows}
 use Rattle.securities.specs.Admitted.{securitiesOf}
 use Rattle.accounts.specs.Map.{balanceOf}
 use Rattle.cash.specs.Amounts.{amountOf}
 use Rattle.waiting_list.specs.Waiting.{itemsOf}
 
--- the day, the securities, the accounts, the members' cash, the waiting list
+-- the regions of a book and how many words each has: the day, the securities, the accounts, the members' cash, the waiting list
 abbrev pub widths : List ℕ
 widths = 8 ∷ 97 ∷ 513 ∷ 128 ∷ 1025 ∷ []
 
+-- how many words a book has
+abbrev pub bookLength : ℕ
+bookLength = whole widths
+
+-- the regions by their places in that list
 abbrev pub DAY : ℕ
 DAY = 0
 
@@ -39,7 +44,7 @@ part r book = region widths r book
 abbrev pub dayIn : List ℕ → Day
 dayIn d = record { number = getD d 0 0; opened = getD d 1 0 is 1; kind = getD d 2 0; cycles = getD d 3 0; minute = getD d 4 0 }
 
--- what five parts mean together
+-- what the parts mean together
 abbrev pub holdingsBy : (ℕ → List ℕ) → Holdings
 holdingsBy p =
     record {

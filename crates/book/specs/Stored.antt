@@ -1,14 +1,16 @@
 -- What is kept true of a book of words.
 use Prim.Native.Nat.{ℕ, _≤_}
-use mathlib.Core.List.{List}
+use mathlib.Core.List.{List, [], _∷_, _++_}
 use mathlib.Core.Path.{_≡_}
 use lib.ListN.{length, getD}
-use Rattle.rulebook.specs.Ledger.{Ledger}
+use Rattle.rulebook.specs.Ledger.{Ledger, Holdings, putHoldings, putWaiting, putSecurities}
 use Rattle.rulebook.specs.Premise.{Premise}
+use Rattle.rulebook.specs.declared.Item.{Item}
+use Rattle.rulebook.specs.declared.Shares.{Shares}
 use Rattle.securities.specs.Admitted as securities
 use Rattle.accounts.specs.Map as accounts
 use Rattle.waiting_list.specs.Waiting as items
-use Rattle.book.specs.Meaning.{DAY, SECURITIES, ACCOUNTS, ITEMS, part, ledgerOf}
+use Rattle.book.specs.Meaning.{bookLength, DAY, SECURITIES, ACCOUNTS, ITEMS, part, ledgerOf}
 
 -- of its parts
 pub record StoredBy (p : ℕ → List ℕ) : Type 0 where
@@ -19,7 +21,7 @@ pub record StoredBy (p : ℕ → List ℕ) : Type 0 where
 
 -- what every function on a book requires and keeps
 pub record Stored (book : List ℕ) : Type 0 where
-  pub long : length book ≡ 1771
+  pub long : length book ≡ bookLength
   pub parts : StoredBy (λ r. part r book)
 
 -- what the fresh book is and every call keeps
@@ -31,3 +33,17 @@ pub record Kept (book : List ℕ) : Type 0 where
 pub record Means (book : List ℕ) (b : Ledger) : Type 0 where
   pub stored : Stored book
   pub ledger : ledgerOf book ≡ b
+
+-- what a function makes of a book's ledger, of its holdings alone, of its waiting list alone
+abbrev pub Becomes : (Ledger → Ledger) → (before after : List ℕ) → Type 0
+Becomes f before after = Means after (f (ledgerOf before))
+
+abbrev pub HoldingsBecome : (Holdings → Holdings) → (before after : List ℕ) → Type 0
+HoldingsBecome f = Becomes (λ b. putHoldings (f b.holdings) b)
+
+abbrev pub WaitingBecomes : (List Item → List Item) → (before after : List ℕ) → Type 0
+WaitingBecomes f = Becomes (λ b. putWaiting (f b.waiting) b)
+
+-- the holdings with a security more, all of it outside
+abbrev pub withSecurity : ℕ → Shares → Holdings → Holdings
+withSecurity code quantity h = putSecurities (h.securities ++ (record { code = code; issued = quantity; outside = quantity } ∷ [])) h

@@ -1,11 +1,11 @@
-// The book: one buffer of 1771 words that the caller owns and lends, in five regions. A region's functions are lent that region alone.
+// The book: one buffer of words that the caller owns and lends, in regions. A region's functions are lent that region alone.
 ghost use mathlib.Core.Path.{_≡_};
 ghost use mathlib.Core.Bool.{false};
 ghost use mathlib.Core.List.{_++_, _∷_, []};
 ghost use Prim.Native.Nat.{ℕ, _+_, _^_, _≤_, _<_};
 ghost use lib.ListN.{length, getD, set, take};
 ghost use Rattle.rulebook.specs.Ledger as Ledger;
-ghost use Rattle.rulebook.specs.Ledger.{putDay, putHoldings, putWaiting, putSecurities, admitted, issuedOf, outsideOf, cashTotal};
+ghost use Rattle.rulebook.specs.Ledger.{putDay, admitted, outsideOf, cashTotal};
 ghost use Rattle.rulebook.specs.Matching.{pairsWith};
 ghost use Rattle.rulebook.specs.Movements as movements;
 ghost use Rattle.rulebook.specs.Premise.{CashFits};
@@ -13,9 +13,9 @@ ghost use Rattle.rulebook.specs.Waiting.{sentBy};
 ghost use Rattle.words.specs.Places.{removeAt};
 ghost use Rattle.accounts.specs.Keys.{InRange};
 ghost use Rattle.accounts.specs.Map.{CreditFits};
-ghost use Rattle.book.specs.Meaning.{dayIn, ledgerOf};
-ghost use Rattle.book.specs.Stored.{Stored, Means};
-ghost use Rattle.book.specs.Zeros.{Freshened};
+ghost use Rattle.book.specs.Meaning.{dayIn, ledgerOf, holdingsOf, waitingOf};
+ghost use Rattle.book.specs.Stored.{Stored, Becomes, HoldingsBecome, WaitingBecomes, withSecurity};
+ghost use Rattle.book.specs.Fresh.{Freshened};
 use rulebook::Account;
 use rulebook::Cents;
 use rulebook::Day;
@@ -23,17 +23,21 @@ use rulebook::Item;
 use rulebook::Security;
 use rulebook::Shares;
 
+// Where each region starts: behind the one before it.
 const DAY: usize = 0;
 
-const SECURITIES: usize = 8;
+const SECURITIES: usize = DAY + 8;
 
-const ACCOUNTS: usize = 105;
+const ACCOUNTS: usize = SECURITIES + 97;
 
-const CASH: usize = 618;
+const CASH: usize = ACCOUNTS + 513;
 
-const ITEMS: usize = 746;
+const ITEMS: usize = CASH + 128;
 
-const END: usize = 1771;
+const END: usize = ITEMS + 1025;
+
+// How many words a book has.
+pub const WORDS: usize = END;
 
 // ---- the day
 
@@ -73,7 +77,7 @@ pub fn day(book: &[u64]) -> Day
 // The book's day becomes `day`.
 pub fn put_day(book: &mut [u64], day: Day)
     requires { ⌜ Stored (now book) ⌝ }
-    ensures { λ u. ⌜ Means (now (book .exit)) (putDay day (ledgerOf (now (book .entry)))) ⌝ }
+    ensures { λ u. ⌜ Becomes (putDay day) (now (book .entry)) (now (book .exit)) ⌝ }
 {
     put_day_in(&mut book[DAY..SECURITIES], day);
 }
@@ -83,7 +87,7 @@ pub fn put_day(book: &mut [u64], day: Day)
 // How many accounts there are.
 pub fn accounts(book: &[u64]) -> u64
     requires { ⌜ Stored (now book) ⌝ }
-    ensures { λ r. ⌜ r ≡ ledgerOf (now (book .entry)) .holdings .accounts ⌝ }
+    ensures { λ r. ⌜ r ≡ holdingsOf (now (book .entry)) .accounts ⌝ }
 {
     words::rows(&book[ACCOUNTS..CASH])
 }
@@ -91,31 +95,31 @@ pub fn accounts(book: &[u64]) -> u64
 // The account's balance.
 pub fn balance(book: &[u64], account: Account) -> Shares
     requires { ⌜ Stored (now book) × InRange account ⌝ }
-    ensures { λ r. ⌜ r .0 ≡ ledgerOf (now (book .entry)) .holdings .balance account ⌝ }
+    ensures { λ r. ⌜ r .0 ≡ holdingsOf (now (book .entry)) .balance account ⌝ }
 {
     accounts::balance(&book[ACCOUNTS..CASH], account)
 }
 
 // Held: the sum of a security's accounts.
 pub fn held(book: &[u64], security: u64) -> Shares
-    requires { ⌜ Stored (now book) × (Ledger.held security (ledgerOf (now book) .holdings) < 2 ^ 64) ⌝ }
-    ensures { λ r. ⌜ r .0 ≡ Ledger.held security (ledgerOf (now (book .entry)) .holdings) ⌝ }
+    requires { ⌜ Stored (now book) × (Ledger.held security (holdingsOf (now book)) < 2 ^ 64) ⌝ }
+    ensures { λ r. ⌜ r .0 ≡ Ledger.held security (holdingsOf (now (book .entry))) ⌝ }
 {
     accounts::held(&book[ACCOUNTS..CASH], security)
 }
 
 // More in the account.
 pub fn credit(book: &mut [u64], account: Account, quantity: Shares)
-    requires { ⌜ Stored (now book) × CreditFits account (ledgerOf (now book) .holdings .balance account) (ledgerOf (now book) .holdings .accounts) (quantity .0) ⌝ }
-    ensures { λ u. ⌜ Means (now (book .exit)) (putHoldings (movements.credit (movements.account account) (quantity .0) (ledgerOf (now (book .entry)) .holdings)) (ledgerOf (now (book .entry)))) ⌝ }
+    requires { ⌜ Stored (now book) × CreditFits account (holdingsOf (now book) .balance account) (holdingsOf (now book) .accounts) (quantity .0) ⌝ }
+    ensures { λ u. ⌜ HoldingsBecome (movements.credit (movements.account account) (quantity .0)) (now (book .entry)) (now (book .exit)) ⌝ }
 {
     accounts::credit(&mut book[ACCOUNTS..CASH], account, quantity);
 }
 
 // Less in the account.
 pub fn debit(book: &mut [u64], account: Account, quantity: Shares)
-    requires { ⌜ Stored (now book) × (0 < quantity .0) × (quantity .0 ≤ ledgerOf (now book) .holdings .balance account) ⌝ }
-    ensures { λ u. ⌜ Means (now (book .exit)) (putHoldings (movements.debit (movements.account account) (quantity .0) (ledgerOf (now (book .entry)) .holdings)) (ledgerOf (now (book .entry)))) ⌝ }
+    requires { ⌜ Stored (now book) × (0 < quantity .0) × (quantity .0 ≤ holdingsOf (now book) .balance account) ⌝ }
+    ensures { λ u. ⌜ HoldingsBecome (movements.debit (movements.account account) (quantity .0)) (now (book .entry)) (now (book .exit)) ⌝ }
 {
     accounts::debit(&mut book[ACCOUNTS..CASH], account, quantity);
 }
@@ -125,63 +129,66 @@ pub fn debit(book: &mut [u64], account: Account, quantity: Shares)
 // How many items wait.
 pub fn items(book: &[u64]) -> usize
     requires { ⌜ Stored (now book) ⌝ }
-    ensures { λ r. ⌜ r ≡ length (ledgerOf (now (book .entry)) .waiting) ⌝ }
+    ensures { λ r. ⌜ r ≡ length (waitingOf (now (book .entry))) ⌝ }
 {
     words::rows(&book[ITEMS..END]) as usize
 }
 
 // The item at `i`.
 pub fn item_at(book: &[u64], i: usize) -> Item
-    requires { ⌜ Stored (now book) × (i < length (ledgerOf (now book) .waiting)) ⌝ }
-    ensures { λ r. ⌜ ((d : Item) → r ≡ getD (ledgerOf (now (book .entry)) .waiting) i d) ⌝ }
+    requires { ⌜ Stored (now book) × (i < length (waitingOf (now book))) ⌝ }
+    ensures { λ r. ⌜ ((d : Item) → r ≡ getD (waitingOf (now (book .entry))) i d) ⌝ }
 {
     waiting_list::item_at(&book[ITEMS..END], i)
 }
 
 // Whether the item at `i` may wait under a reference: false where neither of its references is that one.
 pub fn may_bear(book: &[u64], i: usize, reference: u64) -> bool
-    requires { ⌜ Stored (now book) × (i < length (ledgerOf (now book) .waiting)) ⌝ }
-    ensures { λ r. ⌜ ((d : Item) (sender : ℕ) → r ≡ false → sentBy sender reference (getD (ledgerOf (now (book .entry)) .waiting) i d) ≡ false) ⌝ }
+    requires { ⌜ Stored (now book) × (i < length (waitingOf (now book))) ⌝ }
+    ensures { λ r. ⌜ ((d : Item) (sender : ℕ) → r ≡ false → sentBy sender reference (getD (waitingOf (now (book .entry))) i d) ≡ false) ⌝ }
 {
     waiting_list::may_bear(&book[ITEMS..END], i, reference)
 }
 
 // Whether the item at `i` may pair with one of that quantity: false where it is no single of that quantity.
 pub fn may_pair(book: &[u64], i: usize, quantity: Shares) -> bool
-    requires { ⌜ Stored (now book) × (i < length (ledgerOf (now book) .waiting)) ⌝ }
-    ensures { λ r. ⌜ ((d arriving : Item) (limit : ℕ) → arriving .quantity ≡ quantity → r ≡ false → pairsWith limit arriving (getD (ledgerOf (now (book .entry)) .waiting) i d) ≡ false) ⌝ }
+    requires { ⌜ Stored (now book) × (i < length (waitingOf (now book))) ⌝ }
+    ensures { λ r. ⌜
+        ((d arriving : Item) (limit : ℕ) → arriving .quantity ≡ quantity → r ≡ false
+        → pairsWith limit arriving (getD (waitingOf (now (book .entry))) i d) ≡ false)
+        ⌝ }
 {
     waiting_list::may_pair(&book[ITEMS..END], i, quantity)
 }
 
 // The item takes the place of the one at `i`.
 pub fn put_item(book: &mut [u64], i: usize, item: Item)
-    requires { ⌜ Stored (now book) × (i < length (ledgerOf (now book) .waiting)) ⌝ }
-    ensures { λ u. ⌜ Means (now (book .exit)) (putWaiting (set (ledgerOf (now (book .entry)) .waiting) i item) (ledgerOf (now (book .entry)))) ⌝ }
+    requires { ⌜ Stored (now book) × (i < length (waitingOf (now book))) ⌝ }
+    ensures { λ u. ⌜ WaitingBecomes (λ items. set items i item) (now (book .entry)) (now (book .exit)) ⌝ }
 {
     waiting_list::put_item(&mut book[ITEMS..END], i, item);
 }
 
 // The item goes last.
 pub fn push(book: &mut [u64], item: Item)
-    requires { ⌜ Stored (now book) × (length (ledgerOf (now book) .waiting) < 64) ⌝ }
-    ensures { λ u. ⌜ Means (now (book .exit)) (putWaiting (ledgerOf (now (book .entry)) .waiting ++ (item ∷ [])) (ledgerOf (now (book .entry)))) ⌝ }
+    requires { ⌜ Stored (now book) × (length (waitingOf (now book)) < 64) ⌝ }
+    ensures { λ u. ⌜ WaitingBecomes (λ items. items ++ (item ∷ [])) (now (book .entry)) (now (book .exit)) ⌝ }
 {
     waiting_list::push(&mut book[ITEMS..END], item);
 }
 
 // The item at `i` is removed, the others stay in their order.
 pub fn remove(book: &mut [u64], i: usize)
-    requires { ⌜ Stored (now book) × (i < length (ledgerOf (now book) .waiting)) ⌝ }
-    ensures { λ u. ⌜ Means (now (book .exit)) (putWaiting (removeAt i (ledgerOf (now (book .entry)) .waiting)) (ledgerOf (now (book .entry)))) ⌝ }
+    requires { ⌜ Stored (now book) × (i < length (waitingOf (now book))) ⌝ }
+    ensures { λ u. ⌜ WaitingBecomes (removeAt i) (now (book .entry)) (now (book .exit)) ⌝ }
 {
     waiting_list::remove(&mut book[ITEMS..END], i);
 }
 
 // The first `n` items alone.
 pub fn keep_first(book: &mut [u64], n: usize)
-    requires { ⌜ Stored (now book) × (n ≤ length (ledgerOf (now book) .waiting)) ⌝ }
-    ensures { λ u. ⌜ Means (now (book .exit)) (putWaiting (take n (ledgerOf (now (book .entry)) .waiting)) (ledgerOf (now (book .entry)))) ⌝ }
+    requires { ⌜ Stored (now book) × (n ≤ length (waitingOf (now book))) ⌝ }
+    ensures { λ u. ⌜ WaitingBecomes (take n) (now (book .entry)) (now (book .exit)) ⌝ }
 {
     waiting_list::keep_first(&mut book[ITEMS..END], n);
 }
@@ -191,31 +198,31 @@ pub fn keep_first(book: &mut [u64], n: usize)
 // The member's cash in a currency.
 pub fn cash(book: &[u64], member: u64, currency: u64) -> Cents
     requires { ⌜ Stored (now book) × CashFits member currency ⌝ }
-    ensures { λ r. ⌜ r .0 ≡ ledgerOf (now (book .entry)) .holdings .cash member currency ⌝ }
+    ensures { λ r. ⌜ r .0 ≡ holdingsOf (now (book .entry)) .cash member currency ⌝ }
 {
     cash::amount(&book[CASH..ITEMS], member, currency)
 }
 
 // More cash for the member.
 pub fn credit_cash(book: &mut [u64], member: u64, currency: u64, amount: Cents)
-    requires { ⌜ Stored (now book) × CashFits member currency × (ledgerOf (now book) .holdings .cash member currency + amount .0 < 2 ^ 64) ⌝ }
-    ensures { λ u. ⌜ Means (now (book .exit)) (putHoldings (movements.credit (movements.cashOf member currency) (amount .0) (ledgerOf (now (book .entry)) .holdings)) (ledgerOf (now (book .entry)))) ⌝ }
+    requires { ⌜ Stored (now book) × CashFits member currency × (holdingsOf (now book) .cash member currency + amount .0 < 2 ^ 64) ⌝ }
+    ensures { λ u. ⌜ HoldingsBecome (movements.credit (movements.cashOf member currency) (amount .0)) (now (book .entry)) (now (book .exit)) ⌝ }
 {
     cash::credit(&mut book[CASH..ITEMS], member, currency, amount);
 }
 
 // Less cash for the member.
 pub fn debit_cash(book: &mut [u64], member: u64, currency: u64, amount: Cents)
-    requires { ⌜ Stored (now book) × CashFits member currency × (amount .0 ≤ ledgerOf (now book) .holdings .cash member currency) ⌝ }
-    ensures { λ u. ⌜ Means (now (book .exit)) (putHoldings (movements.debit (movements.cashOf member currency) (amount .0) (ledgerOf (now (book .entry)) .holdings)) (ledgerOf (now (book .entry)))) ⌝ }
+    requires { ⌜ Stored (now book) × CashFits member currency × (amount .0 ≤ holdingsOf (now book) .cash member currency) ⌝ }
+    ensures { λ u. ⌜ HoldingsBecome (movements.debit (movements.cashOf member currency) (amount .0)) (now (book .entry)) (now (book .exit)) ⌝ }
 {
     cash::debit(&mut book[CASH..ITEMS], member, currency, amount);
 }
 
 // A currency's total over all members.
 pub fn cash_total(book: &[u64], currency: u64) -> Cents
-    requires { ⌜ Stored (now book) × (1 ≤ currency) × (currency ≤ 2) × (cashTotal currency (ledgerOf (now book) .holdings) < 2 ^ 64) ⌝ }
-    ensures { λ r. ⌜ r .0 ≡ cashTotal currency (ledgerOf (now (book .entry)) .holdings) ⌝ }
+    requires { ⌜ Stored (now book) × (1 ≤ currency) × (currency ≤ 2) × (cashTotal currency (holdingsOf (now book)) < 2 ^ 64) ⌝ }
+    ensures { λ r. ⌜ r .0 ≡ cashTotal currency (holdingsOf (now (book .entry))) ⌝ }
 {
     cash::total(&book[CASH..ITEMS], currency)
 }
@@ -225,15 +232,15 @@ pub fn cash_total(book: &[u64], currency: u64) -> Cents
 // How many securities are admitted.
 pub fn securities(book: &[u64]) -> usize
     requires { ⌜ Stored (now book) ⌝ }
-    ensures { λ r. ⌜ r ≡ length (ledgerOf (now (book .entry)) .holdings .securities) ⌝ }
+    ensures { λ r. ⌜ r ≡ length (holdingsOf (now (book .entry)) .securities) ⌝ }
 {
     words::rows(&book[SECURITIES..ACCOUNTS]) as usize
 }
 
 // The security at `i`, in order of admission.
 pub fn security_at(book: &[u64], i: usize) -> Security
-    requires { ⌜ Stored (now book) × (i < length (ledgerOf (now book) .holdings .securities)) ⌝ }
-    ensures { λ r. ⌜ ((d : Security) → r ≡ getD (ledgerOf (now (book .entry)) .holdings .securities) i d) ⌝ }
+    requires { ⌜ Stored (now book) × (i < length (holdingsOf (now book) .securities)) ⌝ }
+    ensures { λ r. ⌜ ((d : Security) → r ≡ getD (holdingsOf (now (book .entry)) .securities) i d) ⌝ }
 {
     securities::security_at(&book[SECURITIES..ACCOUNTS], i)
 }
@@ -241,54 +248,46 @@ pub fn security_at(book: &[u64], i: usize) -> Security
 // Whether the security is admitted.
 pub fn admitted(book: &[u64], security: u64) -> bool
     requires { ⌜ Stored (now book) ⌝ }
-    ensures { λ r. ⌜ r ≡ admitted security (ledgerOf (now (book .entry)) .holdings) ⌝ }
+    ensures { λ r. ⌜ r ≡ admitted security (holdingsOf (now (book .entry))) ⌝ }
 {
     securities::admitted(&book[SECURITIES..ACCOUNTS], security)
-}
-
-// The security's issued count.
-pub fn issued(book: &[u64], security: u64) -> Shares
-    requires { ⌜ Stored (now book) ⌝ }
-    ensures { λ r. ⌜ r .0 ≡ issuedOf security (ledgerOf (now (book .entry)) .holdings) ⌝ }
-{
-    securities::issued(&book[SECURITIES..ACCOUNTS], security)
 }
 
 // The security's outside count.
 pub fn outside(book: &[u64], security: u64) -> Shares
     requires { ⌜ Stored (now book) ⌝ }
-    ensures { λ r. ⌜ r .0 ≡ outsideOf security (ledgerOf (now (book .entry)) .holdings) ⌝ }
+    ensures { λ r. ⌜ r .0 ≡ outsideOf security (holdingsOf (now (book .entry))) ⌝ }
 {
     securities::outside(&book[SECURITIES..ACCOUNTS], security)
 }
 
 // The security is admitted, all of it outside.
 pub fn admit(book: &mut [u64], security: u64, quantity: Shares)
-    requires { ⌜ Stored (now book) × (length (ledgerOf (now book) .holdings .securities) < 32) × (admitted security (ledgerOf (now book) .holdings) ≡ false) ⌝ }
-    ensures { λ u. ⌜ Means (now (book .exit)) (putHoldings (putSecurities (ledgerOf (now (book .entry)) .holdings .securities ++ (record { code = security; issued = quantity; outside = quantity } ∷ [])) (ledgerOf (now (book .entry)) .holdings)) (ledgerOf (now (book .entry)))) ⌝ }
+    requires { ⌜ Stored (now book) × (length (holdingsOf (now book) .securities) < 32) × (admitted security (holdingsOf (now book)) ≡ false) ⌝ }
+    ensures { λ u. ⌜ HoldingsBecome (withSecurity security quantity) (now (book .entry)) (now (book .exit)) ⌝ }
 {
     securities::admit(&mut book[SECURITIES..ACCOUNTS], security, quantity);
 }
 
 // More of the security outside.
 pub fn credit_outside(book: &mut [u64], security: u64, quantity: Shares)
-    requires { ⌜ Stored (now book) × (outsideOf security (ledgerOf (now book) .holdings) + quantity .0 < 2 ^ 64) ⌝ }
-    ensures { λ u. ⌜ Means (now (book .exit)) (putHoldings (movements.credit (movements.type91 security) (quantity .0) (ledgerOf (now (book .entry)) .holdings)) (ledgerOf (now (book .entry)))) ⌝ }
+    requires { ⌜ Stored (now book) × (outsideOf security (holdingsOf (now book)) + quantity .0 < 2 ^ 64) ⌝ }
+    ensures { λ u. ⌜ HoldingsBecome (movements.credit (movements.type91 security) (quantity .0)) (now (book .entry)) (now (book .exit)) ⌝ }
 {
     securities::credit_outside(&mut book[SECURITIES..ACCOUNTS], security, quantity);
 }
 
 // Less of the security outside.
 pub fn debit_outside(book: &mut [u64], security: u64, quantity: Shares)
-    requires { ⌜ Stored (now book) × (quantity .0 ≤ outsideOf security (ledgerOf (now book) .holdings)) ⌝ }
-    ensures { λ u. ⌜ Means (now (book .exit)) (putHoldings (movements.debit (movements.type91 security) (quantity .0) (ledgerOf (now (book .entry)) .holdings)) (ledgerOf (now (book .entry)))) ⌝ }
+    requires { ⌜ Stored (now book) × (quantity .0 ≤ outsideOf security (holdingsOf (now book))) ⌝ }
+    ensures { λ u. ⌜ HoldingsBecome (movements.debit (movements.type91 security) (quantity .0)) (now (book .entry)) (now (book .exit)) ⌝ }
 {
     securities::debit_outside(&mut book[SECURITIES..ACCOUNTS], security, quantity);
 }
 
 // ---- the fresh book
 
-// The fresh book, in a buffer of 1771 words. Another one is left as it is.
+// The fresh book, in a buffer of a book's length. Another one is left as it is.
 pub fn fresh(book: &mut [u64]) -> bool
     ensures { λ r. ⌜ Freshened (now (book .entry)) r (now (book .exit)) ⌝ }
 {

@@ -5,7 +5,7 @@ ghost use lib.ListN.{length};
 ghost use Rattle.rulebook.specs.Ledger.{Holdings};
 ghost use Rattle.rulebook.specs.Movements as movements;
 ghost use Rattle.rulebook.specs.Premise.{CashFits};
-ghost use Rattle.cash.specs.Amounts.{place, amountOf, withCash, totalIn};
+ghost use Rattle.cash.specs.Amounts.{kept, place, amountOf, withCash, totalIn};
 use rulebook::Cents;
 
 fn place_of(member: u64, currency: u64) -> usize
@@ -13,6 +13,13 @@ fn place_of(member: u64, currency: u64) -> usize
     ensures { λ r. ⌜ r ≡ place member currency ⌝ }
 {
     (2 * (member - 1) + (currency - 1)) as usize
+}
+
+// Whether the book keeps such cash.
+pub fn is_kept(member: u64, currency: u64) -> bool
+    ensures { λ r. ⌜ r ≡ kept member currency ⌝ }
+{
+    ((1 <= member) & (member <= 64)) & ((1 <= currency) & (currency <= 2))
 }
 
 // A member's cash in a currency.

@@ -2,11 +2,10 @@
 ghost use mathlib.Core.Path.{_≡_};
 ghost use mathlib.Core.Bool.{false};
 ghost use mathlib.Core.List.{_∷_, []};
-ghost use Rattle.rulebook.specs.Ledger.{putHoldings};
 ghost use Rattle.rulebook.specs.Movements.{credits, debits, booked};
 ghost use Rattle.rulebook.specs.Cycle.{anyShort, withMark, legs};
-ghost use Rattle.book.specs.Meaning.{ledgerOf};
-ghost use Rattle.book.specs.Stored.{Stored, Means};
+ghost use Rattle.book.specs.Meaning.{ledgerOf, holdingsOf, waitingOf};
+ghost use Rattle.book.specs.Stored.{Stored, HoldingsBecome};
 ghost use Rattle.netting.specs.Marks.{markedOf};
 ghost use Rattle.netting.specs.Ready.{Ready};
 ghost use Rattle.cycle.specs.Booking.{CanCredit, CanDebit, Covered};
@@ -15,8 +14,8 @@ use rulebook::Item;
 
 // What a trade brings: shares to the buyer's account, cash to the seller.
 fn credit_trade(book: &mut [u64], trade: Item)
-    requires { ⌜ Stored (now book) × CanCredit trade (ledgerOf (now book) .holdings) ⌝ }
-    ensures { λ u. ⌜ Means (now (book .exit)) (putHoldings (credits (legs (trade ∷ [])) (ledgerOf (now (book .entry)) .holdings)) (ledgerOf (now (book .entry)))) ⌝ }
+    requires { ⌜ Stored (now book) × CanCredit trade (holdingsOf (now book)) ⌝ }
+    ensures { λ u. ⌜ HoldingsBecome (credits (legs (trade ∷ []))) (now (book .entry)) (now (book .exit)) ⌝ }
 {
     book::credit(book, parties::buyer_of(trade), trade.quantity);
     book::credit_cash(book, trade.debited.member, trade.currency, trade.amount);
@@ -24,8 +23,8 @@ fn credit_trade(book: &mut [u64], trade: Item)
 
 // What a trade takes: shares from the seller's account, cash from the buyer.
 fn debit_trade(book: &mut [u64], trade: Item)
-    requires { ⌜ Stored (now book) × CanDebit trade (ledgerOf (now book) .holdings) ⌝ }
-    ensures { λ u. ⌜ Means (now (book .exit)) (putHoldings (debits (legs (trade ∷ [])) (ledgerOf (now (book .entry)) .holdings)) (ledgerOf (now (book .entry)))) ⌝ }
+    requires { ⌜ Stored (now book) × CanDebit trade (holdingsOf (now book)) ⌝ }
+    ensures { λ u. ⌜ HoldingsBecome (debits (legs (trade ∷ []))) (now (book .entry)) (now (book .exit)) ⌝ }
 {
     book::debit(book, parties::seller_of(trade), trade.quantity);
     book::debit_cash(book, trade.credited.member, trade.currency, trade.amount);
@@ -34,7 +33,7 @@ fn debit_trade(book: &mut [u64], trade: Item)
 // What the marked trades bring.
 fn credit_marked(book: &mut [u64], marks: u64)
     requires { ⌜ Stored (now book) × Ready (ledgerOf (now book)) ⌝ }
-    ensures { λ u. ⌜ Means (now (book .exit)) (putHoldings (credits (legs (withMark (markedOf marks (ledgerOf (now (book .entry)) .waiting)))) (ledgerOf (now (book .entry)) .holdings)) (ledgerOf (now (book .entry)))) ⌝ }
+    ensures { λ u. ⌜ HoldingsBecome (credits (legs (withMark (markedOf marks (waitingOf (now (book .entry))))))) (now (book .entry)) (now (book .exit)) ⌝ }
 {
     let n = book::items(book);
     let mut i: usize = 0;
@@ -49,8 +48,8 @@ fn credit_marked(book: &mut [u64], marks: u64)
 
 // What the marked trades take.
 fn debit_marked(book: &mut [u64], marks: u64)
-    requires { ⌜ Stored (now book) × Covered (ledgerOf (now book)) (markedOf marks (ledgerOf (now book) .waiting)) ⌝ }
-    ensures { λ u. ⌜ Means (now (book .exit)) (putHoldings (debits (legs (withMark (markedOf marks (ledgerOf (now (book .entry)) .waiting)))) (ledgerOf (now (book .entry)) .holdings)) (ledgerOf (now (book .entry)))) ⌝ }
+    requires { ⌜ Stored (now book) × Covered (ledgerOf (now book)) (markedOf marks (waitingOf (now book))) ⌝ }
+    ensures { λ u. ⌜ HoldingsBecome (debits (legs (withMark (markedOf marks (waitingOf (now (book .entry))))))) (now (book .entry)) (now (book .exit)) ⌝ }
 {
     let n = book::items(book);
     let mut i: usize = 0;
@@ -65,8 +64,8 @@ fn debit_marked(book: &mut [u64], marks: u64)
 
 // The marked trades settle.
 pub fn book_marked(book: &mut [u64], marks: u64)
-    requires { ⌜ Stored (now book) × Ready (ledgerOf (now book)) × (anyShort (ledgerOf (now book) .holdings) (markedOf marks (ledgerOf (now book) .waiting)) ≡ false) ⌝ }
-    ensures { λ u. ⌜ Means (now (book .exit)) (putHoldings (booked (legs (withMark (markedOf marks (ledgerOf (now (book .entry)) .waiting)))) (ledgerOf (now (book .entry)) .holdings)) (ledgerOf (now (book .entry)))) ⌝ }
+    requires { ⌜ Stored (now book) × Ready (ledgerOf (now book)) × (anyShort (holdingsOf (now book)) (markedOf marks (waitingOf (now book))) ≡ false) ⌝ }
+    ensures { λ u. ⌜ HoldingsBecome (booked (legs (withMark (markedOf marks (waitingOf (now (book .entry))))))) (now (book .entry)) (now (book .exit)) ⌝ }
 {
     credit_marked(book, marks);
     debit_marked(book, marks);

@@ -1,17 +1,16 @@
 // The waiting list without the settled trades.
 ghost use Prim.Native.Nat.{_≤_};
 ghost use lib.ListN.{length};
-ghost use Rattle.rulebook.specs.Ledger.{putWaiting};
 ghost use Rattle.rulebook.specs.Cycle.{withoutMark};
-ghost use Rattle.book.specs.Meaning.{ledgerOf};
-ghost use Rattle.book.specs.Stored.{Stored, Means};
+ghost use Rattle.book.specs.Meaning.{waitingOf};
+ghost use Rattle.book.specs.Stored.{Stored, WaitingBecomes};
 ghost use Rattle.netting.specs.Marks.{markedOf};
 use netting::marks;
 
 // The items without a mark stay, in their order.
 pub fn leave_marked(book: &mut [u64], marks: u64)
-    requires { ⌜ Stored (now book) × (length (ledgerOf (now book) .waiting) ≤ 64) ⌝ }
-    ensures { λ u. ⌜ Means (now (book .exit)) (putWaiting (withoutMark (markedOf marks (ledgerOf (now (book .entry)) .waiting))) (ledgerOf (now (book .entry)))) ⌝ }
+    requires { ⌜ Stored (now book) × (length (waitingOf (now book)) ≤ 64) ⌝ }
+    ensures { λ u. ⌜ WaitingBecomes (λ items. withoutMark (markedOf marks items)) (now (book .entry)) (now (book .exit)) ⌝ }
 {
     let n = book::items(book);
     let mut j: usize = 0;

@@ -90,7 +90,7 @@ fn main() {
         );
         return;
     }
-    let mut book = [0u64; 1771];
+    let mut book = [0u64; ledger::BOOK_WORDS];
     let mut area = [0u8; 4096];
     let mut input = input_buffer();
     let mut out = io::large_buffer();

@@ -1,51 +1,219 @@
--- Answers as numbers and words. Assumes nothing.
-use Prim.Native.Nat.{ℕ, _+_, _≤_}
-use mathlib.Core.Path.{_≡_, refl, sym, ap, subst, _∙_}
-use mathlib.Core.Bool.{Bool}
-use mathlib.Core.List.{List, _++_, append-nil}
+-- Lengths and answers as numbers, and what is left in the lent words. Assumes nothing.
+use Prim.Native.Nat.{ℕ, _+_, _≤_, _<_}
+use mathlib.Core.Path.{_≡_, refl, sym, ap, _∙_}
+use mathlib.Core.Bool.{Bool, true, false, true≢false, not}
+use mathlib.Core.List.{List, [], _∷_, _++_, append-nil}
 use native.Mathlib.Omega.{arith}
-use lib.ListN.{length, drop, drop-of-length-le}
+use lib.Dec.{eqb}
+use lib.ListN.{length, getD, set, drop, drop-of-length-le}
+use borrow.Author.Tests.{eq-eqb, ne-eqb, eqb-true, lt-ltb, le-ltb}
 use borrow.Rule.Slice.PartMut.{putMid}
-use Rattle.rulebook.specs.Record.{readOf, readNumber, orderOf, writtenOf, writtenNumber, areaWritten}
+use Rattle.rulebook.specs.Lists.{if_then_else_, _is_}
+use Rattle.rulebook.specs.Record.{readNumber, orderOf, recordOf, writeRefusal, writtenOf, writtenNumber, areaWritten}
 use Rattle.rulebook.specs.Call.{answerNumber}
 use Rattle.rulebook.specs.declared.Answer.{Answer}
 use Rattle.rulebook.specs.declared.Counts.{Counts}
 use Rattle.rulebook.specs.declared.Order.{Order}
 use Rattle.rulebook.specs.declared.Read.{Read}
 use Rattle.rulebook.specs.declared.Written.{Written}
-use Rattle.book.specs.Zeros.{Freshened}
-use Rattle.exports.specs.Words.{countsOf, fieldsRead}
+use Rattle.record.specs.Answers.{ReadAs, WrittenAs}
+use Rattle.book.specs.Meaning.{bookLength}
+use Rattle.book.specs.Fresh.{Freshened}
+use Rattle.ledger.specs.Called.{Called}
+use Rattle.exports.specs.Lent.{wrongBook, wrongCounts, wrongFields, wrongValues, noSuchPlace, countWords, fieldWords, Lent, freshNumber, FreshIn}
+use Rattle.exports.specs.Words.{countsOf, callNumber, CalledWith, fieldsRead, readingNumber, ReadInto, writingNumber, WrittenFrom}
+use Rattle.exports.specs.Figures.{lengthsNumber, Tells, placeNumber, TellsAt}
 
 -- words that are written over a whole buffer
 pub whole : (xs ys : List ℕ) (n : ℕ) → length xs ≡ n → putMid 0 n xs ys ≡ ys
 whole xs ys n e = let l : length xs ≤ n = omega arith in rw (drop-of-length-le xs l) (append-nil ys)
 
-pub fresh-told : {xs ys : List ℕ} {t u : Bool} → t ≡ u → Freshened xs t ys → Freshened xs u ys
-fresh-told {xs} {ys} e f = subst (λ (t : Bool). Freshened xs t ys) e f
+-- one word that is written
+pub one-word : (xs : List ℕ) (v w : ℕ) → length xs ≡ 1 → v ≡ w → set xs 0 v ≡ w ∷ []
+one-word [] v w l e = absurd (omega (arith, l))
+one-word (x ∷ []) v w l e = ap (λ (n : ℕ). n ∷ []) e
+one-word (x ∷ y ∷ xs) v w l e = absurd (omega (arith, l))
 
-module _ (a : Answer) (before : List ℕ) where
-  pub accepted-told : (c : Counts) (after : List ℕ) → a ≡ Answer.Accepted c → after ≡ countsOf (Answer.Accepted c) before → (0 ≡ answerNumber a) × (after ≡ countsOf a before)
-  unfolding answerNumber
-  accepted-told c after e f = rw e (refl, f)
+-- ---- a fresh book
 
-  pub refused-told : (n : ℕ) → a ≡ Answer.Refused n → (n ≡ answerNumber a) × (before ≡ countsOf a before)
-  unfolding answerNumber countsOf
-  refused-told n e = rw e (refl, refl)
+module _ (xs ys : List ℕ) (made : Bool) (f : Freshened xs made ys) where
+  pub fresh-made : made ≡ true → FreshIn xs 0 ys
+  unfolding freshNumber
+  fresh-made t = record {
+    numbered = rw (sym (f .answers) ∙ t);
+    ledger = λ e. f .ledger t;
+    kept = λ e. f .kept t;
+    untouched = λ n. absurd (n refl);
+  }
 
-module _ (r : Read) (octets before : List ℕ) (is-read : r ≡ readOf octets) where
-  pub order-told : (o : Order) (after : List ℕ) → r ≡ Read.Order o → after ≡ fieldsRead (Read.Order o) before → (0 ≡ readNumber (readOf octets)) × (after ≡ fieldsRead (readOf octets) before)
-  unfolding readNumber
-  order-told o after e f = rw (sym is-read ∙ e) (refl, f)
+  pub fresh-wrong : made ≡ false → FreshIn xs wrongBook ys
+  unfolding freshNumber
+  fresh-wrong t =
+      let other : length xs ≡ bookLength → ⊥ = λ l. let z : _≡_ {A = Bool} true false = sym (eq-eqb _ _ l) ∙ sym (f .answers) ∙ t in absurd (true≢false z) in
+      record {
+        numbered = rw (sym (f .answers) ∙ t);
+        ledger = λ e. absurd (omega (arith, e));
+        kept = λ e. absurd (other (ap length (sym (f .untouched t)) ∙ e));
+        untouched = λ n. f .untouched t;
+      }
 
-  pub unread-told : (n : ℕ) → r ≡ Read.Refused n → (n ≡ readNumber (readOf octets)) × (before ≡ fieldsRead (readOf octets) before)
-  unfolding readNumber fieldsRead
-  unread-told n e = rw (sym is-read ∙ e) (refl, refl)
+-- ---- a call
 
-module _ (w : Written) (o : Order) (fields area area′ : List ℕ) (is-order : o ≡ orderOf fields) (answered : (w ≡ writtenOf o area) × (area′ ≡ areaWritten o area)) where
-  pub record-told : w ≡ Written.Record → (0 ≡ writtenNumber (writtenOf (orderOf fields) area)) × (area′ ≡ areaWritten (orderOf fields) area)
-  unfolding writtenNumber
-  record-told e = (ap writtenNumber (sym e ∙ answered .0) ∙ ap (λ (x : Order). writtenNumber (writtenOf x area)) is-order, answered .1 ∙ ap (λ (x : Order). areaWritten x area) is-order)
+module _ (book octets area counts : List ℕ) where
+  pub call-wrong-book : (length book ≡ bookLength → ⊥) → CalledWith book octets area counts wrongBook book area counts
+  unfolding callNumber
+  call-wrong-book n = record {
+    numbered = rw (ne-eqb _ _ n);
+    ledger = λ e. absurd (omega (arith, e));
+    written = λ e. absurd (omega (arith, e));
+    counted = λ e. absurd (omega (arith, e));
+    untouched = λ e. (refl, refl, refl);
+    kept = λ e. absurd (n e);
+  }
 
-  pub unwritten-told : (n : ℕ) → w ≡ Written.Refused n → (n ≡ writtenNumber (writtenOf (orderOf fields) area)) × (area′ ≡ areaWritten (orderOf fields) area)
-  unfolding writtenNumber
-  unwritten-told n e = (ap writtenNumber (sym e ∙ answered .0) ∙ ap (λ (x : Order). writtenNumber (writtenOf x area)) is-order, answered .1 ∙ ap (λ (x : Order). areaWritten x area) is-order)
+  module _ (long : length book ≡ bookLength) (lent : Lent book) where
+    pub call-wrong-counts : (length counts ≡ countWords → ⊥) → CalledWith book octets area counts wrongCounts book area counts
+    unfolding callNumber
+    call-wrong-counts n = record {
+      numbered = rw (eq-eqb _ _ long, ne-eqb _ _ n);
+      ledger = λ e. absurd (omega (arith, e));
+      written = λ e. absurd (omega (arith, e));
+      counted = λ e. absurd (omega (arith, e));
+      untouched = λ e. (refl, refl, refl);
+      kept = lent;
+    }
+
+    module _ (wide : length counts ≡ countWords) (a : Answer) (book′ area′ : List ℕ) (called : Called book octets area a book′ area′) where
+      number-is : callNumber book octets area counts ≡ answerNumber a
+      unfolding callNumber
+      number-is = rw (eq-eqb _ _ long, eq-eqb _ _ wide) (sym (called .number))
+
+      pub call-accepted :
+          (c : Counts) (counts′ : List ℕ) → a ≡ Answer.Accepted c → counts′ ≡ countsOf (Answer.Accepted c) counts
+          → CalledWith book octets area counts 0 book′ area′ counts′
+      unfolding answerNumber
+      call-accepted c counts′ e f = record {
+        numbered = sym (number-is ∙ ap answerNumber e);
+        ledger = λ z. called .ledger;
+        written = λ z. called .written;
+        counted = λ z. f ∙ ap (λ (x : Answer). countsOf x counts) (sym e ∙ called .answered);
+        untouched = λ n. absurd (n refl);
+        kept = λ l. called .kept;
+      }
+
+      pub call-refused : (n : ℕ) → a ≡ Answer.Refused n → CalledWith book octets area counts n book′ area′ counts
+      unfolding answerNumber countsOf
+      call-refused n e = record {
+        numbered = sym (number-is ∙ ap answerNumber e);
+        ledger = λ z. called .ledger;
+        written = λ z. called .written;
+        counted = λ z. ap (λ (x : Answer). countsOf x counts) (sym e ∙ called .answered);
+        untouched = λ z. (called .refused n e .0, called .refused n e .1, refl);
+        kept = λ l. called .kept;
+      }
+
+-- ---- the record reader
+
+module _ (octets fields : List ℕ) where
+  pub read-wrong : (length fields ≡ fieldWords → ⊥) → ReadInto octets fields wrongFields fields
+  unfolding readingNumber
+  read-wrong n = record { numbered = rw (ne-eqb _ _ n); told = λ e. absurd (omega (arith, e)); untouched = λ e. refl }
+
+  module _ (wide : length fields ≡ fieldWords) (r : Read) (told : ReadAs octets r) where
+    reading-is : readingNumber octets fields ≡ readNumber r
+    unfolding readingNumber
+    reading-is = rw (eq-eqb _ _ wide) (sym (told .number))
+
+    pub read-order : (o : Order) (fields′ : List ℕ) → r ≡ Read.Order o → fields′ ≡ fieldsRead (Read.Order o) fields → ReadInto octets fields 0 fields′
+    unfolding readNumber
+    read-order o fields′ e f = record {
+      numbered = sym (reading-is ∙ ap readNumber e);
+      told = λ z. f ∙ ap (λ (x : Read). fieldsRead x fields) (sym e ∙ told .answered);
+      untouched = λ n. absurd (n refl);
+    }
+
+    pub read-refused : (n : ℕ) → r ≡ Read.Refused n → ReadInto octets fields n fields
+    unfolding readNumber fieldsRead
+    read-refused n e = record {
+      numbered = sym (reading-is ∙ ap readNumber e);
+      told = λ z. ap (λ (x : Read). fieldsRead x fields) (sym e ∙ told .answered);
+      untouched = λ z. refl;
+    }
+
+-- ---- the record writer
+
+-- a refusal leaves the area
+kept-area : (o : Order) (area : List ℕ) → (writtenNumber (writtenOf o area) ≡ 0 → ⊥) → areaWritten o area ≡ area
+unfolding writtenNumber writtenOf areaWritten
+kept-area o area n = go (writeRefusal o area is 0) n
+  where
+    go :
+        (b : Bool) → (writtenNumber (if b then Written.Record else Written.Refused (writeRefusal o area)) ≡ 0 → ⊥)
+        → (if b then recordOf o ++ drop 40 area else area) ≡ area
+    go true n = absurd (n refl)
+    go false n = refl
+
+module _ (fields area : List ℕ) where
+  pub write-wrong : (length fields ≡ fieldWords → ⊥) → WrittenFrom fields area wrongFields area
+  unfolding writingNumber
+  write-wrong n = record { numbered = rw (ne-eqb _ _ n); written = λ e. absurd (omega (arith, e)); untouched = λ e. refl }
+
+  pub write-answered :
+      length fields ≡ fieldWords → (o : Order) (w : Written) (area′ : List ℕ) (number : ℕ) → o ≡ orderOf fields → WrittenAs o area w area′
+      → writtenNumber w ≡ number → WrittenFrom fields area number area′
+  unfolding writingNumber
+  write-answered wide o w area′ number e told f =
+      let n : number ≡ writtenNumber (writtenOf (orderOf fields) area) = sym f ∙ told .number ∙ ap (λ (x : Order). writtenNumber (writtenOf x area)) e in
+      let a : area′ ≡ areaWritten (orderOf fields) area = told .written ∙ ap (λ (x : Order). areaWritten x area) e in
+      record {
+        numbered = rw (eq-eqb _ _ wide) n;
+        written = λ z. a;
+        untouched = λ z. a ∙ kept-area (orderOf fields) area (λ k. z (n ∙ k));
+      }
+
+-- ---- what a book says
+
+-- lengths that are not answered by a number are right
+pub lengths-right : (b v n : ℕ) → lengthsNumber b v n ≡ 0 → (b ≡ bookLength) × (v ≡ n)
+unfolding lengthsNumber
+lengths-right b v n e = go (eqb b bookLength) (eqb v n) refl refl e
+  where
+    go : (x y : Bool) → eqb b bookLength ≡ x → eqb v n ≡ y → (if not x then wrongBook else if not y then wrongValues else 0) ≡ 0 → (b ≡ bookLength) × (v ≡ n)
+    go true true p q z = (eqb-true b bookLength p, eqb-true v n q)
+    go true false p q z = absurd (omega (arith, z))
+    go false y p q z = absurd (omega (arith, z))
+
+module _ (book values : List ℕ) (wrong : ℕ) where
+  pub tells-wrong :
+      (figures : List ℕ) → wrong ≡ lengthsNumber (length book) (length values) (length figures)
+      → (wrong ≡ 0 → ⊥) → Tells book values figures wrong values
+  tells-wrong figures e n = record { numbered = e; told = λ z. absurd (n z); untouched = λ z. refl }
+
+  pub tells :
+      (figures values′ : List ℕ) → wrong ≡ lengthsNumber (length book) (length values) (length figures)
+      → wrong ≡ 0 → values′ ≡ figures → Tells book values figures 0 values′
+  tells figures values′ e z f = record { numbered = sym z ∙ e; told = λ n. f; untouched = λ n. absurd (n refl) }
+
+  module _ {A : Type 0} (width : ℕ) (figures : A → List ℕ) (place : ℕ) (rows : List A) (e : wrong ≡ lengthsNumber (length book) (length values) width) where
+    pub tells-at-wrong : (wrong ≡ 0 → ⊥) → TellsAt book values width figures place rows wrong values
+    unfolding placeNumber
+    tells-at-wrong n = record { numbered = rw (← e, ne-eqb wrong 0 n); told = λ z. absurd (n z); untouched = λ z. refl }
+
+    module _ (right : wrong ≡ 0) where
+      pub tells-none : length rows ≤ place → TellsAt book values width figures place rows noSuchPlace values
+      unfolding placeNumber
+      tells-none l = record {
+        numbered = rw (← e, eq-eqb wrong 0 right, le-ltb place (length rows) l);
+        told = λ z. absurd (omega (arith, z));
+        untouched = λ z. refl;
+      }
+
+      pub tells-at :
+          (values′ : List ℕ) → place < length rows → ((other : A) → values′ ≡ figures (getD rows place other))
+          → TellsAt book values width figures place rows 0 values′
+      unfolding placeNumber
+      tells-at values′ l f = record {
+        numbered = rw (← e, eq-eqb wrong 0 right, lt-ltb place (length rows) l);
+        told = λ z. f;
+        untouched = λ n. absurd (n refl);
+      }

@@ -1,41 +1,47 @@
 // What C and Rust programs call: numbers, and slices as a pointer and a length. include/depository.h declares these functions.
+mod figures;
+
 ghost use mathlib.Core.Path.{_≡_};
+ghost use mathlib.Core.List.{_∷_, []};
 ghost use lib.ListN.{length};
-ghost use Rattle.rulebook.specs.Lists.{_is_};
 ghost use Rattle.rulebook.specs.Ledger as Ledger;
-ghost use Rattle.rulebook.specs.Record.{readOf, readNumber, orderOf, writtenOf, writtenNumber, areaWritten};
 ghost use Rattle.book.specs.Meaning.{ledgerOf};
-ghost use Rattle.book.specs.Stored.{Kept};
-ghost use Rattle.book.specs.Zeros.{Freshened};
-ghost use Rattle.exports.specs.Words.{countsOf, fieldsRead, CalledWith};
+ghost use Rattle.exports.specs.Lent.{fieldWords, Lent, FreshIn};
+ghost use Rattle.exports.specs.Words.{countsOf, fieldsRead, CalledWith, ReadInto, WrittenFrom};
+ghost use Rattle.exports.specs.Figures.{lengthsNumber, Tells, TellsAt, dayFigures, sizeFigures, securityFigures, itemFigures};
+use rulebook::Account;
 use rulebook::Answer;
-use rulebook::Cents;
 use rulebook::Counts;
 use rulebook::Order;
-use rulebook::Party;
 use rulebook::Read;
-use rulebook::Shares;
 use rulebook::Written;
 
-// 1 where the buffer has the right length and now holds a fresh book; else 0, and the buffer is as it was.
+// What is answered for a buffer of a wrong length, and for a place behind the last: numbers above every refusal.
+const WRONG_BOOK: u64 = 1001;
+
+const WRONG_COUNTS: u64 = 1002;
+
+const WRONG_FIELDS: u64 = 1003;
+
+const WRONG_VALUES: u64 = 1004;
+
+const NO_SUCH_PLACE: u64 = 1005;
+
+const COUNT_WORDS: usize = 6;
+
+const FIELD_WORDS: usize = 18;
+
+// ---- the ledger's calls
+
+// 0 where the buffer has a book's length and now holds a fresh book; else the buffer is as it was.
 #[no_mangle]
 pub extern "C" fn depository_fresh(book: &mut [u64]) -> u64
-    ensures { λ r. ⌜ Freshened (now (book .entry)) (r is 1) (now (book .exit)) ⌝ }
+    ensures { λ r. ⌜ FreshIn (now (book .entry)) r (now (book .exit)) ⌝ }
 {
     if ledger::fresh(book) {
-        return 1;
+        return 0;
     }
-    0
-}
-
-// What a security's accounts hold.
-#[no_mangle]
-pub extern "C" fn depository_held(book: &[u64], security: u64) -> u64
-    requires { ⌜ Kept (now book) ⌝ }
-    ensures { λ r. ⌜ r ≡ Ledger.held security (ledgerOf (now (book .entry)) .holdings) ⌝ }
-{
-    let held = ledger::held(book, security);
-    held.0
+    WRONG_BOOK
 }
 
 // The six counts as words.
@@ -54,7 +60,7 @@ fn put_counts(words: &mut [u64], c: Counts)
     words::write(words, 0, &values);
 }
 
-// One call. 0 where it is accepted, with its six counts; else the refusal's number, and counts, book and area are as they were.
+// One call. 0 where it is accepted, with its six counts; else the number, and counts, book and area are as they were.
 #[no_mangle]
 pub extern "C" fn depository_call(
     book: &mut [u64],
@@ -62,9 +68,18 @@ pub extern "C" fn depository_call(
     area: &mut [u8],
     counts: &mut [u64],
 ) -> u64
-    requires { ⌜ Kept (now book) × (length (now counts) ≡ 6) ⌝ }
-    ensures { λ r. ⌜ CalledWith (now (book .entry)) (now («record» .entry)) (now (area .entry)) (now (counts .entry)) r (now (book .exit)) (now (area .exit)) (now (counts .exit)) ⌝ }
+    requires { ⌜ Lent (now book) ⌝ }
+    ensures { λ r. ⌜
+        CalledWith (now (book .entry)) (now («record» .entry)) (now (area .entry)) (now (counts .entry)) r
+        (now (book .exit)) (now (area .exit)) (now (counts .exit))
+        ⌝ }
 {
+    if book.len() != ledger::BOOK_WORDS {
+        return WRONG_BOOK;
+    }
+    if counts.len() != COUNT_WORDS {
+        return WRONG_COUNTS;
+    }
     let answer = ledger::call(book, record, area);
     match answer {
         Answer::Accepted(c) => {
@@ -75,37 +90,25 @@ pub extern "C" fn depository_call(
     }
 }
 
-// The fifteen fields as words, in the record's order.
-fn put_fields(words: &mut [u64], o: Order)
-    requires { ⌜ length (now words) ≡ 15 ⌝ }
-    ensures { λ u. ⌜ now (words .exit) ≡ fieldsRead (Read.Order o) (now (words .entry)) ⌝ }
+// ---- records alone
+
+// An order's fields as words, in the record's order.
+fn put_fields(words: &mut [u64], order: Order)
+    requires { ⌜ length (now words) ≡ fieldWords ⌝ }
+    ensures { λ u. ⌜ now (words .exit) ≡ fieldsRead (Read.Order order) (now (words .entry)) ⌝ }
 {
-    let values = [
-        o.form,
-        o.minute,
-        o.security,
-        o.currency,
-        o.debited.member,
-        o.debited.typ,
-        o.credited.member,
-        o.credited.typ,
-        o.debited.shareholder,
-        o.credited.shareholder,
-        o.quantity.0,
-        o.amount.0,
-        o.trade_day,
-        o.settlement_day,
-        o.reference,
-    ];
-    words::write(words, 0, &values);
+    let fields = record::layout::fields_of(order);
+    words::write(words, 0, &fields[..FIELD_WORDS]);
 }
 
-// 0 and the record's fifteen fields; else the refusal's number, and the fields are as they were.
+// 0 and the record's fields; else the number, and the fields are as they were.
 #[no_mangle]
 pub extern "C" fn depository_read(record: &[u8], fields: &mut [u64]) -> u64
-    requires { ⌜ length (now fields) ≡ 15 ⌝ }
-    ensures { λ r. ⌜ (r ≡ readNumber (readOf (now («record» .entry)))) × (now (fields .exit) ≡ fieldsRead (readOf (now («record» .entry))) (now (fields .entry))) ⌝ }
+    ensures { λ r. ⌜ ReadInto (now («record» .entry)) (now (fields .entry)) r (now (fields .exit)) ⌝ }
 {
+    if fields.len() != FIELD_WORDS {
+        return WRONG_FIELDS;
+    }
     let read = record::read(record);
     match read {
         Read::Order(order) => {
@@ -116,46 +119,179 @@ pub extern "C" fn depository_read(record: &[u8], fields: &mut [u64]) -> u64
     }
 }
 
-// The order of fifteen fields; it has no operation, and its pairs are of the first edition.
-fn order_in(fields: &[u64]) -> Order
-    requires { ⌜ length (now fields) ≡ 15 ⌝ }
-    ensures { λ r. ⌜ r ≡ orderOf (now (fields .entry)) ⌝ }
-{
-    Order {
-        form: fields[0],
-        minute: fields[1],
-        security: fields[2],
-        currency: fields[3],
-        debited: Party {
-            member: fields[4],
-            typ: fields[5],
-            shareholder: fields[8],
-        },
-        credited: Party {
-            member: fields[6],
-            typ: fields[7],
-            shareholder: fields[9],
-        },
-        quantity: Shares(fields[10]),
-        amount: Cents(fields[11]),
-        trade_day: fields[12],
-        settlement_day: fields[13],
-        reference: fields[14],
-        operation: 0,
-        original: 0,
-        edition: 0,
-    }
-}
-
-// 0 and the order's 40 bytes at the area's start; else the refusal's number, and the area is as it was.
+// 0 and the order's 40 bytes at the area's start; else the number, and the area is as it was.
 #[no_mangle]
 pub extern "C" fn depository_write(fields: &[u64], area: &mut [u8]) -> u64
-    requires { ⌜ length (now fields) ≡ 15 ⌝ }
-    ensures { λ r. ⌜ (r ≡ writtenNumber (writtenOf (orderOf (now (fields .entry))) (now (area .entry)))) × (now (area .exit) ≡ areaWritten (orderOf (now (fields .entry))) (now (area .entry))) ⌝ }
+    ensures { λ r. ⌜ WrittenFrom (now (fields .entry)) (now (area .entry)) r (now (area .exit)) ⌝ }
 {
-    let written = record::write(order_in(fields), area);
+    if fields.len() != FIELD_WORDS {
+        return WRONG_FIELDS;
+    }
+    let written = record::write(record::layout::order_of(fields), area);
     match written {
         Written::Record => 0,
         Written::Refused(number) => number,
     }
+}
+
+// ---- what a book says
+
+// 0 where the book and the values have their lengths; else the number of the first that has not.
+fn lengths(book: usize, values: usize, width: usize) -> u64
+    ensures { λ r. ⌜ r ≡ lengthsNumber book values width ⌝ }
+{
+    if book != ledger::BOOK_WORDS {
+        return WRONG_BOOK;
+    }
+    if values != width {
+        return WRONG_VALUES;
+    }
+    0
+}
+
+// The day: number, 1 where it is open, kind, cycles run, last minute.
+#[no_mangle]
+pub extern "C" fn depository_day(book: &[u64], values: &mut [u64]) -> u64
+    requires { ⌜ Lent (now book) ⌝ }
+    ensures { λ r. ⌜ Tells (now (book .entry)) (now (values .entry)) (dayFigures (ledgerOf (now (book .entry)) .day)) r (now (values .exit)) ⌝ }
+{
+    let wrong = lengths(book.len(), values.len(), 5);
+    if wrong != 0 {
+        return wrong;
+    }
+    figures::put_day(values, ledger::day(book));
+    0
+}
+
+// How many securities are admitted, how many accounts there are, how many items wait.
+#[no_mangle]
+pub extern "C" fn depository_sizes(book: &[u64], values: &mut [u64]) -> u64
+    requires { ⌜ Lent (now book) ⌝ }
+    ensures { λ r. ⌜ Tells (now (book .entry)) (now (values .entry)) (sizeFigures (ledgerOf (now (book .entry)))) r (now (values .exit)) ⌝ }
+{
+    let wrong = lengths(book.len(), values.len(), 3);
+    if wrong != 0 {
+        return wrong;
+    }
+    let securities = ledger::securities(book) as u64;
+    let accounts = ledger::accounts(book);
+    let items = ledger::items(book) as u64;
+    let figures = [securities, accounts, items];
+    words::write(values, 0, &figures);
+    0
+}
+
+// The security at a place, in order of admission: code, issued, held, outside.
+#[no_mangle]
+pub extern "C" fn depository_security(book: &[u64], place: usize, values: &mut [u64]) -> u64
+    requires { ⌜ Lent (now book) ⌝ }
+    ensures { λ r. ⌜
+        TellsAt (now (book .entry)) (now (values .entry)) 4 (securityFigures (ledgerOf (now (book .entry)) .holdings))
+        place (ledgerOf (now (book .entry)) .holdings .securities) r (now (values .exit))
+        ⌝ }
+{
+    let wrong = lengths(book.len(), values.len(), 4);
+    if wrong != 0 {
+        return wrong;
+    }
+    if ledger::securities(book) <= place {
+        return NO_SUCH_PLACE;
+    }
+    let security = ledger::security_at(book, place);
+    let held = ledger::held(book, security.code);
+    figures::put_security(values, security, held);
+    0
+}
+
+// What a security's accounts hold.
+#[no_mangle]
+pub extern "C" fn depository_held(book: &[u64], security: u64, values: &mut [u64]) -> u64
+    requires { ⌜ Lent (now book) ⌝ }
+    ensures { λ r. ⌜
+        Tells (now (book .entry)) (now (values .entry)) (Ledger.held security (ledgerOf (now (book .entry)) .holdings) ∷ [])
+        r (now (values .exit))
+        ⌝ }
+{
+    let wrong = lengths(book.len(), values.len(), 1);
+    if wrong != 0 {
+        return wrong;
+    }
+    let held = ledger::held(book, security);
+    values[0] = held.0;
+    0
+}
+
+// An account's balance.
+#[no_mangle]
+pub extern "C" fn depository_balance(
+    book: &[u64],
+    security: u64,
+    member: u64,
+    typ: u64,
+    shareholder: u64,
+    values: &mut [u64],
+) -> u64
+    requires { ⌜ Lent (now book) ⌝ }
+    ensures { λ r. ⌜
+        Tells (now (book .entry)) (now (values .entry))
+        (ledgerOf (now (book .entry)) .holdings .balance (record { security = security; member = member; typ = typ; shareholder = shareholder }) ∷ [])
+        r (now (values .exit))
+        ⌝ }
+{
+    let wrong = lengths(book.len(), values.len(), 1);
+    if wrong != 0 {
+        return wrong;
+    }
+    let account = Account {
+        security: security,
+        member: member,
+        typ: typ,
+        shareholder: shareholder,
+    };
+    let balance = ledger::balance(book, account);
+    values[0] = balance.0;
+    0
+}
+
+// A member's cash in a currency.
+#[no_mangle]
+pub extern "C" fn depository_cash(
+    book: &[u64],
+    member: u64,
+    currency: u64,
+    values: &mut [u64],
+) -> u64
+    requires { ⌜ Lent (now book) ⌝ }
+    ensures { λ r. ⌜
+        Tells (now (book .entry)) (now (values .entry)) (ledgerOf (now (book .entry)) .holdings .cash member currency ∷ [])
+        r (now (values .exit))
+        ⌝ }
+{
+    let wrong = lengths(book.len(), values.len(), 1);
+    if wrong != 0 {
+        return wrong;
+    }
+    let cash = ledger::cash(book, member, currency);
+    values[0] = cash.0;
+    0
+}
+
+// The waiting item at a place, in order of arrival.
+#[no_mangle]
+pub extern "C" fn depository_item(book: &[u64], place: usize, values: &mut [u64]) -> u64
+    requires { ⌜ Lent (now book) ⌝ }
+    ensures { λ r. ⌜
+        TellsAt (now (book .entry)) (now (values .entry)) 17 itemFigures place (ledgerOf (now (book .entry)) .waiting)
+        r (now (values .exit))
+        ⌝ }
+{
+    let wrong = lengths(book.len(), values.len(), 17);
+    if wrong != 0 {
+        return wrong;
+    }
+    if ledger::items(book) <= place {
+        return NO_SUCH_PLACE;
+    }
+    figures::put_item(values, ledger::item_at(book, place));
+    0
 }

@@ -9,9 +9,9 @@ use Rattle.rulebook.specs.Lists.{first}
 use Rattle.rulebook.specs.Ledger.{Ledger}
 use Rattle.rulebook.specs.Premise.{Premise}
 use Rattle.rulebook.specs.Record.{readOf, readNumber}
-use Rattle.rulebook.specs.Forms.{Outcome, effect}
+use Rattle.rulebook.specs.Forms.{effect}
 use Rattle.rulebook.specs.Refusals.{refusals}
-use Rattle.rulebook.specs.Call.{Result, refused, accepted, orderCall, readCall, callOf, putMinute}
+use Rattle.rulebook.specs.Call.{Result, answerNumber, refused, accepted, orderCall, readCall, callOf, putMinute}
 use Rattle.rulebook.specs.Calls.{call, resultOf}
 use Rattle.rulebook.specs.declared.Answer.{Answer}
 use Rattle.rulebook.specs.declared.Counts.{Counts}
@@ -32,6 +32,7 @@ module _ (book octets area : List ℕ) (kept : Kept book) where
   unfolding refused
   unchanged n e = record {
     answered = sym (ap (λ (r : Result). r .answer) e);
+    number = sym (ap (λ (r : Result). answerNumber (r .answer)) e);
     ledger = sym (ap (λ (r : Result). r .book) e);
     written = sym (ap (λ (r : Result). r .area) e);
     kept = kept;
@@ -72,8 +73,11 @@ module _ (book octets area : List ℕ) (kept : Kept book) where
           let is : callOf b octets area ≡ accepted (effect b o) o.minute area = reads (Read.Order o) read ∙ (unfold readCall orderCall in rw (eq-eqb (first (refusals b o)) 0 e)) in
           let ledger : ledgerOf last ≡ callOf b octets area .book =
           means.ledger ∙ ap (putMinute o.minute) handled.ledger ∙ sym (ap (λ (r : Result). r .book) is ∙ (unfold accepted in refl)) in
+          let answered : Answer.Accepted c ≡ callOf b octets area .answer =
+          ap Answer.Accepted handled.counted ∙ sym (ap (λ (r : Result). r .answer) is ∙ (unfold accepted in refl)) in
           record {
-            answered = ap Answer.Accepted handled.counted ∙ sym (ap (λ (r : Result). r .answer) is ∙ (unfold accepted in refl));
+            answered = answered;
+            number = ap answerNumber answered;
             ledger = ledger;
             written = handled.written ∙ sym (ap (λ (r : Result). r .area) is ∙ (unfold accepted in refl));
             kept = record { stored = means.stored; premise = subst Premise (sym ledger) (unfold resultOf in call-premise b (call octets area) kept.premise) };

@@ -1,17 +1,13 @@
 -- Demand 3 of the code's own books: from the rulebook's theorem, and from what `fresh` and `call` promise. Assumes nothing.
 use Prim.Native.Nat.{ℕ}
 use mathlib.Core.Path.{_≡_, refl, sym, ap, subst, _∙_}
-use mathlib.Core.Bool.{true}
 use mathlib.Core.List.{List, [], _∷_, _++_}
 use Rattle.rulebook.specs.Ledger.{Ledger, fresh}
 use Rattle.rulebook.specs.Call.{Result, callOf}
 use Rattle.rulebook.specs.Calls.{Call, call, Made, resultOf, callsOn, bookAfter, Balanced, Demand3}
-use Rattle.rulebook.specs.declared.Answer.{Answer}
 use Rattle.rulebook.proofs.Demand3.{demand3}
 use Rattle.book.specs.Meaning.{ledgerOf}
 use Rattle.book.specs.Stored.{Kept}
-use Rattle.book.proofs.Zeros.{zeros-mean, zeros-kept}
-use Rattle.ledger.specs.Called.{Called}
 use Rattle.ledger.specs.Reached.{Reached, made, called}
 
 -- a list of calls with one more
@@ -34,9 +30,7 @@ pub record Follows (book : List ℕ) (history : List Made) : Type 0 where
 
 pub follows : {book : List ℕ} {history : List Made} → Reached book history → Follows book history
 unfolding bookAfter callsOn resultOf
-follows (made {book = book} f) =
-    let e = f .fresh refl in
-    record { calls = []; kept = subst Kept (sym e) zeros-kept; ledger = ap ledgerOf e ∙ zeros-mean .ledger; made = refl }
+follows (made f) = record { calls = []; kept = f .kept refl; ledger = f .ledger refl; made = refl }
 follows (called {book} {book′} {history} octets area {answer} {area′} r c) =
     let before = follows r in
     let at : Ledger → Result = λ (b : Ledger). callOf b octets area in

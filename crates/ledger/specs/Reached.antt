@@ -2,10 +2,9 @@
 use Prim.Native.Nat.{ℕ}
 use mathlib.Core.Bool.{true}
 use mathlib.Core.List.{List, [], _∷_, _++_}
-use mathlib.Core.Path.{_≡_}
-use Rattle.rulebook.specs.Calls.{Call, call, Made}
+use Rattle.rulebook.specs.Calls.{call, Made}
 use Rattle.rulebook.specs.declared.Answer.{Answer}
-use Rattle.book.specs.Zeros.{Freshened}
+use Rattle.book.specs.Fresh.{Freshened}
 use Rattle.ledger.specs.Called.{Called}
 
 pub data Reached : List ℕ → List Made → Type 0 where

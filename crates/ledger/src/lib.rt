@@ -1,34 +1,38 @@
-// The depository ledger: a fresh book, one call, and what a security's accounts hold.
+// The depository ledger: a fresh book, one call, and what a book says.
+mod reading;
+
 ghost use mathlib.Core.Path.{_≡_};
-ghost use Rattle.rulebook.specs.Ledger as Ledger;
 ghost use Rattle.rulebook.specs.Record.{readNumber};
 ghost use Rattle.rulebook.specs.Forms.{effect};
 ghost use Rattle.book.specs.Meaning.{ledgerOf};
 ghost use Rattle.book.specs.Stored.{Stored, Kept, Means};
-ghost use Rattle.book.specs.Zeros.{Freshened};
+ghost use Rattle.book.specs.Fresh.{Freshened};
 ghost use Rattle.book.specs.Handled.{Accepted, Handled};
 ghost use Rattle.ledger.specs.Called.{Called};
 ghost use Rattle.rulebook.specs.Call.{putMinute};
+pub use reading::accounts;
+pub use reading::balance;
+pub use reading::cash;
+pub use reading::day;
+pub use reading::held;
+pub use reading::item_at;
+pub use reading::items;
+pub use reading::securities;
+pub use reading::security_at;
 use rulebook::Answer;
 use rulebook::Counts;
 use rulebook::Day;
 use rulebook::Order;
 use rulebook::Read;
-use rulebook::Shares;
 
-// A fresh book, in a buffer of 1771 words. The answer says whether the buffer has that length; another one is left as it is.
+// How many words a book has.
+pub const BOOK_WORDS: usize = book::WORDS;
+
+// A fresh book, in a buffer of `BOOK_WORDS` words. The answer says whether the buffer has that length; another one is left as it is.
 pub fn fresh(book: &mut [u64]) -> bool
     ensures { λ r. ⌜ Freshened (now (book .entry)) r (now (book .exit)) ⌝ }
 {
     book::fresh(book)
-}
-
-// What a security's accounts hold.
-pub fn held(book: &[u64], security: u64) -> Shares
-    requires { ⌜ Kept (now book) ⌝ }
-    ensures { λ r. ⌜ r .0 ≡ Ledger.held security (ledgerOf (now (book .entry)) .holdings) ⌝ }
-{
-    book::held(book, security)
 }
 
 // What an accepted order does, by its form.

@@ -14,7 +14,7 @@ fn put_security(out: &mut [u8], at: usize, book: &[u64], i: usize) -> usize
     ensures { λ r. ⌜ ((d : Security) → Put (now (out .entry)) at (custodyOf (ledgerOf (now (book .entry)) .holdings) (getD (ledgerOf (now (book .entry)) .holdings .securities) i d)) (now (out .exit)) r) ⌝ }
     ensures { λ r. ⌜ r ≤ at + 112 ⌝ }
 {
-    let security = book::security_at(book, i);
+    let security = ledger::security_at(book, i);
     let held = ledger::held(book, security.code);
     lines::put_custody_line(out, at, security, held)
 }
@@ -24,7 +24,7 @@ pub fn put_custody(out: &mut [u8], at: usize, book: &[u64]) -> usize
     requires { ⌜ Kept (now book) × (at + 3584 ≤ length (now out)) ⌝ }
     ensures { λ r. ⌜ Put (now (out .entry)) at (custodyLines (ledgerOf (now (book .entry)) .holdings)) (now (out .exit)) r ⌝ }
 {
-    let n = book::securities(book);
+    let n = ledger::securities(book);
     let mut next = at;
     let mut i: usize = 0;
     while i < n {

@@ -1,5 +1,5 @@
 -- What reader and writer answer, by the refusal of the fields. Assumes nothing.
-use mathlib.Core.Path.{_≡_, refl, sym}
+use mathlib.Core.Path.{_≡_, refl, sym, ap}
 use mathlib.Core.Bool.{Bool, true, false}
 use mathlib.Core.List.{List, [], _∷_, _++_}
 use Prim.Native.Nat.{ℕ, _≤_}
@@ -8,12 +8,20 @@ use lib.ListN.{length, drop}
 use Rattle.bits.specs.Layout.{Fit}
 use Rattle.rulebook.specs.Lists.{if_then_else_, _below_, first}
 use Rattle.rulebook.specs.Field.{widths}
-use Rattle.rulebook.specs.Record.{fieldsIn, fieldsOf, orderOf, recordOf, readRefusal, readOf, writeRefusal, writtenOf, areaWritten, noForm, unusedNotZero, usedOutOfRange}
+use Rattle.rulebook.specs.Record.{fieldsIn, fieldsOf, orderOf, recordOf, readRefusal, readOf, readNumber, writeRefusal, writtenOf, writtenNumber, areaWritten, noForm, unusedNotZero, usedOutOfRange}
 use Rattle.rulebook.specs.declared.Order.{Order}
 use Rattle.rulebook.specs.declared.Read.{Read}
 use Rattle.rulebook.specs.declared.Written.{Written}
 use Rattle.rulebook.proofs.RoundTrips.{fields-fit}
 use Rattle.record.specs.Fields.{fieldsRefusal}
+use Rattle.record.specs.Answers.{ReadAs, WrittenAs}
+
+-- the number of an answer follows from the answer
+pub as-read : {octets : List ℕ} {answer : Read} → answer ≡ readOf octets → ReadAs octets answer
+as-read e = record { answered = e; number = ap readNumber e }
+
+pub as-written : {order : Order} {area area′ : List ℕ} {answer : Written} → (answer ≡ writtenOf order area) × (area′ ≡ areaWritten order area) → WrittenAs order area answer area′
+as-written e = record { answered = e .0; number = ap writtenNumber (e .0); written = e .1 }
 
 module _ (octets : List ℕ) (number : ℕ) (l : length octets ≡ 40) (e : number ≡ fieldsRefusal (fieldsIn octets)) where
   read-number : readRefusal octets ≡ number

@@ -3,15 +3,14 @@ pub mod layout;
 mod places;
 mod refusals;
 
-ghost use mathlib.Core.Path.{_≡_};
-ghost use Rattle.rulebook.specs.Record.{readOf, writtenOf, areaWritten};
+ghost use Rattle.record.specs.Answers.{ReadAs, WrittenAs};
 use rulebook::Order;
 use rulebook::Read;
 use rulebook::Written;
 
 // The order that a record of any bytes holds, or the first refusal that applies.
 pub fn read(record: &[u8]) -> Read
-    ensures { λ r. ⌜ r ≡ readOf (now («record» .entry)) ⌝ }
+    ensures { λ r. ⌜ ReadAs (now («record» .entry)) r ⌝ }
 {
     if record.len() != 40 {
         return Read::Refused(2);
@@ -26,7 +25,7 @@ pub fn read(record: &[u8]) -> Read
 
 // Writes the order's 40 bytes at the area's start and keeps the bytes after them. A refusal leaves the area as it was.
 pub fn write(order: Order, area: &mut [u8]) -> Written
-    ensures { λ r. ⌜ (r ≡ writtenOf order (now (area .entry))) × (now (area .exit) ≡ areaWritten order (now (area .entry))) ⌝ }
+    ensures { λ r. ⌜ WrittenAs order (now (area .entry)) r (now (area .exit)) ⌝ }
 {
     if area.len() < 40 {
         return Written::Refused(1);

@@ -1,6 +1,6 @@
 -- The fields of a record: their places, their widths, and what a form may say of a field.
 use Prim.Native.Nat.{ℕ, _-_, _^_}
-use mathlib.Core.List.{List, [], _∷_, _++_, map}
+use mathlib.Core.List.{List, [], _∷_, _++_}
 use lib.ListN.{getD}
 use Rattle.rulebook.specs.Lists.{if_then_else_, _is_, _isNot_, _oneOf_, keep}
 

@@ -1,11 +1,11 @@
 -- The forms: what each does to the book, with its rows and its counts, and the table that says everything of a form.
 use Prim.Native.Nat.{ℕ, zero, suc, _+_}
 use Prim.Native.String.{String}
-use mathlib.Core.Bool.{Bool, true, false, not, _||_, _&&_}
+use mathlib.Core.Bool.{Bool, true, false, not}
 use mathlib.Core.List.{List, [], _∷_, _++_, map}
 use lib.ListN.{length, getD}
 use Rattle.rulebook.specs.Lists.{if_then_else_, _is_, keep, some}
-use Rattle.rulebook.specs.Field.{Rule, from1, from1To, always, ruleIn, D, C, all, allBut, security, currency, debited-member, debited-type, credited-member, credited-type, quantity, amount, settlement-day, reference}
+use Rattle.rulebook.specs.Field.{Rule, from0, from1, from1To, always, ruleIn, D, C, all, allBut, security, currency, debited-member, debited-type, credited-member, credited-type, quantity, amount, settlement-day, reference}
 use Rattle.rulebook.specs.Ledger.{Ledger, accountOf, putDay, putHoldings, putWaiting, putSecurities, oneMoreCycle, opening, closing}
 use Rattle.rulebook.specs.declared.Day.{Day}
 use Rattle.rulebook.specs.Windows.{Window, openingHours, counterHours, officeHours, paymentHours, cycleHours, closingHours}
@@ -39,14 +39,14 @@ outcome after rows settled cancelled deleted suspended left =
 abbrev pub plain : Ledger → List Row → Outcome
 plain after rows = outcome after rows 0 0 0 0 0
 
-abbrev pub settling : (settled left : ℕ) → Ledger → List Row → Outcome
-settling settled left after rows = outcome after rows settled 0 0 0 left
+abbrev pub settles : (settled left : ℕ) → Ledger → List Row → Outcome
+settles settled left after rows = outcome after rows settled 0 0 0 left
 
-abbrev pub cancelling : (cancelled : ℕ) → Ledger → List Row → Outcome
-cancelling cancelled after rows = outcome after rows 0 cancelled 0 0 0
+abbrev pub cancels : (cancelled : ℕ) → Ledger → List Row → Outcome
+cancels cancelled after rows = outcome after rows 0 cancelled 0 0 0
 
-abbrev pub removing : (deleted suspended : ℕ) → Ledger → List Row → Outcome
-removing deleted suspended after rows = outcome after rows 0 0 deleted suspended 0
+abbrev pub removes : (deleted suspended : ℕ) → Ledger → List Row → Outcome
+removes deleted suspended after rows = outcome after rows 0 0 deleted suspended 0
 
 -- a form that only moves shares or cash
 unfoldable pub moving : List Movement → Ledger → Outcome
@@ -106,7 +106,7 @@ trade book order = silent (putWaiting (book.waiting ++ (itemOf (Trade order.refe
 -- RULES 6.15: the sender's half is marked; with the second half the pair leaves, with a notice
 unfoldable pub cancel : Ledger → Order → Outcome
 cancel book order =
-    cancelling (sides (cancelled now)) (putWaiting (staying now) book) (map (λ item. notice (noticeOf 4 item)) (cancelled now))
+    cancels (sides (cancelled now)) (putWaiting (staying now) book) (map (λ item. notice (noticeOf 4 item)) (cancelled now))
   where
     now : List Item
     now = marking (senderOf order) order.reference book.waiting
@@ -114,14 +114,14 @@ cancel book order =
 -- RULES 6.16: the trades that nothing lacks are booked, with four rows each; those dropped are left waiting; one more cycle has run
 unfoldable pub cycle : Ledger → Order → Outcome
 cycle book order =
-    settling (sides (settled book)) (dropped book)
+    settles (sides (settled book)) (dropped book)
     (record { day = oneMoreCycle book.day; holdings = booked (legs (settled book)) book.holdings; waiting = notSettled book })
     (postingRows (legs (settled book)))
 
 -- RULES 6.17: what leaves today is deleted or suspended, in list order, with a notice each; marks are dropped; the day is closed
 unfoldable pub close : Ledger → Order → Outcome
 close book order =
-    removing (sides (keep (deletedAtClose book.day.number) gone)) (sides (keep (suspendedAtClose book.day.number) gone))
+    removes (sides (keep (deletedAtClose book.day.number) gone)) (sides (keep (suspendedAtClose book.day.number) gone))
     (record { day = closing book.day; holdings = book.holdings; waiting = map unmarked (keep (λ item. not (leaves book.day.number item)) book.waiting) })
     (map (closeNotice book.day.number) gone)
   where
@@ -144,6 +144,7 @@ pub record Form : Type 0 where
 abbrev row : String → List Rule → Window → (Ledger → Order → Outcome) → Bool → ℕ → Form
 row name fields window effect posts takes = record { name = name; fields = fields; window = window; effect = effect; posts = posts; takes = takes }
 
+-- its rows are posting rows, or notices; fields that it uses from 1
 abbrev postings : Bool
 postings = true
 

@@ -11,7 +11,7 @@ use lib.ListN.{length, getD, set, length-set}
 use lib.Seq.{getD-set-same, getD-set-other}
 use borrow.Author.Tests.{eq-eqb, ne-eqb, eqb-true}
 use Rattle.rulebook.specs.Lists.{if_then_else_, _is_}
-use Rattle.rulebook.specs.Ledger.{Holdings, fresh, admitted, issuedOf, outsideOf, putOutside, putSecurities, sumBelow}
+use Rattle.rulebook.specs.Ledger.{Holdings, fresh, admitted, outsideOf, putOutside, putSecurities, sumBelow}
 use Rattle.rulebook.specs.Movements.{credit, debit, type91}
 use Rattle.rulebook.specs.Premise.{withCode}
 use Rattle.rulebook.specs.declared.Security.{Security}
@@ -44,11 +44,7 @@ module _ (s : List ℕ) (code : ℕ) where
   unfolding admitted securitiesOf placeOf
   admitted-found h = sym (from-some (λ x. x.code is code) (securityAt s) 0 (rows s))
 
-  -- its counts are those of its row
-  pub issued-value : (h : Holdings) → valueOf ISSUED s code ≡ issuedOf code (withSecurities s h)
-  unfolding issuedOf securitiesOf valueOf sumOf
-  issued-value h = sym (from-total (λ x. if x.code is code then x.issued.0 else 0) (securityAt s) (rows s))
-
+  -- its outside count is that of its row
   pub outside-value : (h : Holdings) → valueOf OUTSIDE s code ≡ outsideOf code (withSecurities s h)
   unfolding outsideOf securitiesOf valueOf sumOf
   outside-value h = sym (from-total (λ x. if x.code is code then x.outside.0 else 0) (securityAt s) (rows s))

@@ -4,7 +4,7 @@ ghost use mathlib.Core.Bool.{false};
 ghost use mathlib.Core.List.{_++_, _∷_, []};
 ghost use Prim.Native.Nat.{_+_, _^_, _≤_, _<_};
 ghost use lib.ListN.{getD};
-ghost use Rattle.rulebook.specs.Ledger.{Holdings, admitted, issuedOf, outsideOf};
+ghost use Rattle.rulebook.specs.Ledger.{Holdings, admitted, outsideOf};
 ghost use Rattle.rulebook.specs.Movements as movements;
 ghost use Rattle.words.specs.Tables.{rows};
 ghost use Rattle.securities.specs.Admitted.{securitiesOf, withSecurities, Kept};
@@ -38,14 +38,6 @@ pub fn security_at(securities: &[u64], i: usize) -> Security
         issued: Shares(securities[i + ISSUED]),
         outside: Shares(securities[i + OUTSIDE]),
     }
-}
-
-// The security's issued count.
-pub fn issued(securities: &[u64], code: u64) -> Shares
-    requires { ⌜ Kept (now securities) ⌝ }
-    ensures { λ r. ⌜ ((h : Holdings) → r .0 ≡ issuedOf code (withSecurities (now (securities .entry)) h)) ⌝ }
-{
-    Shares(words::value(securities, code, ISSUED))
 }
 
 // The security's outside count.

@@ -13,6 +13,12 @@ pub use encode::encode;
 pub const BOOK_WORDS: usize = 1771;
 pub const COUNT_WORDS: usize = 6;
 
+/// What is answered for a buffer of a wrong length.
+pub const WRONG_BOOK: u64 = 1001;
+pub const WRONG_COUNTS: u64 = 1002;
+pub const WRONG_FIELDS: u64 = 1003;
+pub const WRONG_VALUES: u64 = 1004;
+
 /// The day: number, open, kind, cycles run, last minute, three free words.
 const DAY: usize = 0;
 /// The securities: count, then codes, issued counts and outside counts.

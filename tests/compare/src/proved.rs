@@ -3,7 +3,7 @@
 
 use std::borrow::Cow;
 
-use boundary::{BOOK_WORDS, COUNT_WORDS, decode};
+use boundary::{BOOK_WORDS, COUNT_WORDS, WRONG_BOOK, decode};
 use reference::book::Book;
 use reference::forms::{Answer, Counts};
 use reference::record::FIELD_COUNT;
@@ -22,7 +22,7 @@ unsafe extern "C" {
         counts: *mut u64,
         counts_words: usize,
     ) -> u64;
-    fn depository_held(book: *const u64, words: usize, security: u64) -> u64;
+    fn depository_held(book: *const u64, words: usize, security: u64, values: *mut u64, values_words: usize) -> u64;
     fn depository_read(record: *const u8, record_bytes: usize, fields: *mut u64, fields_words: usize) -> u64;
     fn depository_write(fields: *const u64, fields_words: usize, area: *mut u8, area_bytes: usize) -> u64;
 }
@@ -41,7 +41,7 @@ impl Depository for Proved {
 
     fn fresh() -> Proved {
         let mut words = Box::new([UNTOUCHED; BOOK_WORDS]);
-        assert!(fresh_in(&mut words[..]), "a buffer of the right length takes a fresh book");
+        assert_eq!(fresh_in(&mut words[..]), 0, "a buffer of the right length takes a fresh book");
         Proved { words }
     }
 
@@ -71,8 +71,12 @@ impl Depository for Proved {
     }
 
     fn held(&self, security: u64) -> u64 {
-        // SAFETY: the pointer is good for BOOK_WORDS words.
-        unsafe { depository_held(self.words.as_ptr(), BOOK_WORDS, security) }
+        let mut held = [UNTOUCHED];
+        // SAFETY: as in `call`.
+        let number =
+            unsafe { depository_held(self.words.as_ptr(), BOOK_WORDS, security, held.as_mut_ptr(), held.len()) };
+        assert_eq!(number, 0, "a book of the right length is read");
+        held[0]
     }
 
     fn book(&self) -> Result<Cow<'_, Book>, String> {
@@ -110,16 +114,16 @@ impl Depository for Proved {
     }
 }
 
-fn fresh_in(words: &mut [u64]) -> bool {
+fn fresh_in(words: &mut [u64]) -> u64 {
     // SAFETY: the pointer is good for the slice's length.
-    unsafe { depository_fresh(words.as_mut_ptr(), words.len()) == 1 }
+    unsafe { depository_fresh(words.as_mut_ptr(), words.len()) }
 }
 
-/// "1 if the buffer has the right length, else 0 and the buffer is
-/// untouched".
+/// 0 if the buffer has the right length; else the number of a wrong book, and
+/// the buffer is untouched.
 fn keeps_wrong_length(length: usize) -> bool {
     let mut words = vec![UNTOUCHED; length];
-    !fresh_in(&mut words) && words.iter().all(|word| *word == UNTOUCHED)
+    fresh_in(&mut words) == WRONG_BOOK && words.iter().all(|word| *word == UNTOUCHED)
 }
 
 fn counts_of(words: &[u64; COUNT_WORDS]) -> Counts {

@@ -6,7 +6,7 @@
 
 use std::slice::{from_raw_parts, from_raw_parts_mut};
 
-use boundary::{BOOK_WORDS, COUNT_WORDS, decode, encode};
+use boundary::{BOOK_WORDS, COUNT_WORDS, WRONG_BOOK, WRONG_COUNTS, WRONG_FIELDS, WRONG_VALUES, decode, encode};
 use reference::book::Book;
 use reference::forms::{Answer, Counts};
 use reference::record::{self, FIELD_COUNT};
@@ -30,10 +30,10 @@ unsafe fn unique<'a, T>(start: *mut T, length: usize) -> &'a mut [T] {
 #[unsafe(no_mangle)]
 pub unsafe extern "C" fn depository_fresh(book: *mut u64, words: usize) -> u64 {
     if words != BOOK_WORDS {
-        return 0;
+        return WRONG_BOOK;
     }
     encode(&Book::fresh(), unsafe { unique(book, words) });
-    1
+    0
 }
 
 /// # Safety
@@ -52,7 +52,12 @@ pub unsafe extern "C" fn depository_call(
     let words = unsafe { unique(book, words) };
     let (record, area) = unsafe { (shared(record, record_bytes), unique(area, area_bytes)) };
     let counts = unsafe { unique(counts, counts_words) };
-    assert_eq!(counts.len(), COUNT_WORDS);
+    if words.len() != BOOK_WORDS {
+        return WRONG_BOOK;
+    }
+    if counts.len() != COUNT_WORDS {
+        return WRONG_COUNTS;
+    }
     let mut book = decode(words).expect("a book of this library");
     let answer = book.call(record, area);
     encode(&book, words);
@@ -72,8 +77,22 @@ fn count_words(counts: &Counts) -> [u64; COUNT_WORDS] {
 /// # Safety
 /// See depository.h.
 #[unsafe(no_mangle)]
-pub unsafe extern "C" fn depository_held(book: *const u64, words: usize, security: u64) -> u64 {
-    decode(unsafe { shared(book, words) }).expect("a book of this library").held(security)
+pub unsafe extern "C" fn depository_held(
+    book: *const u64,
+    words: usize,
+    security: u64,
+    values: *mut u64,
+    values_words: usize,
+) -> u64 {
+    let (words, values) = unsafe { (shared(book, words), unique(values, values_words)) };
+    if words.len() != BOOK_WORDS {
+        return WRONG_BOOK;
+    }
+    let [held] = values else {
+        return WRONG_VALUES;
+    };
+    *held = decode(words).expect("a book of this library").held(security);
+    0
 }
 
 /// # Safety
@@ -86,6 +105,9 @@ pub unsafe extern "C" fn depository_read(
     fields_words: usize,
 ) -> u64 {
     let (record, fields) = unsafe { (shared(record, record_bytes), unique(fields, fields_words)) };
+    if fields.len() != FIELD_COUNT {
+        return WRONG_FIELDS;
+    }
     match record::read(record) {
         Err(number) => number,
         Ok(order) => {
@@ -105,6 +127,8 @@ pub unsafe extern "C" fn depository_write(
     area_bytes: usize,
 ) -> u64 {
     let (fields, area) = unsafe { (shared(fields, fields_words), unique(area, area_bytes)) };
-    let fields: &[u64; FIELD_COUNT] = fields.try_into().expect("15 fields");
+    let Ok(fields) = <&[u64; FIELD_COUNT]>::try_from(fields) else {
+        return WRONG_FIELDS;
+    };
     record::write(fields, area).err().unwrap_or(0)
 }

@@ -1,6 +1,5 @@
 -- `desk::main` is safe: the book that it lends is a fresh one. Assumes nothing.
 use borrow.Author.Needs.{needs}
-use Rattle.book.proofs.Zeros.{zeros-kept}
 use Rattle.desk.proofs.main.Statement.{statement}
 use Rattle.desk.proofs.main.Tie as tie
 
@@ -8,7 +7,7 @@ abbrev made : tie.After-number → tie.Then2
 made c = c .before .before .before .before .before
 
 run-requires : tie.Need-run-requires
-run-requires c κs = (rw (made c .before .before .fresh .ensures .fresh (made c .if2 .taken)) zeros-kept, search needs, search needs)
+run-requires c κs = (made c .before .before .fresh .ensures .kept (made c .if2 .taken), search needs, search needs)
 
 pub main-spec : {M : Type 1} → statement M
 main-spec =

@@ -16,13 +16,13 @@ returns-2 c =
     let read = told .before .before in
     let long = read .before in
     let s = long .before .before .before .before in
-    unread-as (s .args .book .now) (s .args .«record» .now) (s .args .area .now) (s .pre) (long .if1 .left) _ _ _ (read .read .ensures) (told .enum-told .given .1) (c .number-of .ensures)
+    unread-as (s .args .book .now) (s .args .«record» .now) (s .args .area .now) (s .pre) (long .if1 .left) _ _ _ (read .read .ensures .answered) (told .enum-told .given .1) (c .number-of .ensures)
 
 first-refusal-requires : tie.Need-first-refusal-requires
 first-refusal-requires c κs =
     let told = c .before .before in
     let read = told .before .before in
-    (read .before .before .before .before .before .pre, record { octets = read .before .before .before .before .before .args .«record» .now; read = sym (read .read .ensures) ∙ told .read2 .given .1 })
+    (read .before .before .before .before .before .pre, record { octets = read .before .before .before .before .before .args .«record» .now; read = sym (read .read .ensures .answered) ∙ told .read2 .given .1 })
 
 returns-3 : tie.Need-returns-3
 returns-3 c =
@@ -30,7 +30,7 @@ returns-3 c =
     let read = told .before .before in
     let long = read .before in
     let s = long .before .before .before .before in
-    refuses (s .args .book .now) (s .args .«record» .now) (s .args .area .now) (s .pre) (long .if1 .left) _ (sym (read .read .ensures) ∙ told .read2 .given .1) _ (c .before .first-refusal .ensures) (c .if2 .taken)
+    refuses (s .args .book .now) (s .args .«record» .now) (s .args .area .now) (s .pre) (long .if1 .left) _ (sym (read .read .ensures .answered) ∙ told .read2 .given .1) _ (c .before .first-refusal .ensures) (c .if2 .taken)
 
 handle-requires : tie.Need-handle-requires
 handle-requires c κs =
@@ -41,7 +41,7 @@ handle-requires c κs =
     let s = long .before .before .before .before in
     record {
       kept = s .pre;
-      read = record { octets = s .args .«record» .now; read = sym (read .read .ensures) ∙ told .read2 .given .1 };
+      read = record { octets = s .args .«record» .now; read = sym (read .read .ensures .answered) ∙ told .read2 .given .1 };
       passes = sym (passed .before .first-refusal .ensures) ∙ passed .if2 .left;
       room = long .if1 .left;
     }
@@ -55,7 +55,7 @@ returns-4 c =
     let read = told .before .before in
     let long = read .before in
     let s = long .before .before .before .before in
-    accepts (s .args .book .now) (s .args .«record» .now) (s .args .area .now) (s .pre) (long .if1 .left) _ (sym (read .read .ensures) ∙ told .read2 .given .1)
+    accepts (s .args .book .now) (s .args .«record» .now) (s .args .area .now) (s .pre) (long .if1 .left) _ (sym (read .read .ensures .answered) ∙ told .read2 .given .1)
     (sym (passed .before .first-refusal .ensures) ∙ passed .if2 .left) _ _ _ _ (handled .handle .ensures) (minute .put-minute .ensures)
 
 pub call-spec : {M : Type 1} → statement M

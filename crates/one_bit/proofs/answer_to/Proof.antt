@@ -8,11 +8,11 @@ use Rattle.one_bit.proofs.answer_to.Tie as tie
 
 returns : tie.Need-returns
 unfolding answerTo changed readNumber
-returns c = sym (ap readNumber (sym (c .before .before .read .ensures) ∙ c .enum-told .given .1))
+returns c = sym (sym (c .before .before .read .ensures .number) ∙ ap readNumber (c .enum-told .given .1))
 
 returns-2 : tie.Need-returns-2
 unfolding answerTo changed readNumber
-returns-2 c = sym (ap readNumber (sym (c .before .before .before .read .ensures) ∙ c .before .number .given .1))
+returns-2 c = sym (sym (c .before .before .before .read .ensures .number) ∙ ap readNumber (c .before .number .given .1))
 
 pub answer-to-spec : {M : Type 1} → statement M
 answer-to-spec =

@@ -13,13 +13,13 @@ use Rattle.rulebook.specs.Field.{widths}
 use Rattle.rulebook.specs.Record.{fieldsOf, recordOf, writeRefusal, writtenOf, areaWritten}
 use Rattle.rulebook.specs.declared.Order.{Order}
 use Rattle.record.specs.Fields.{fieldsRefusal}
-use Rattle.record.proofs.Answers.{write-refused, write-record, write-fits}
+use Rattle.record.proofs.Answers.{as-written, write-refused, write-record, write-fits}
 use Rattle.record.proofs.write.Statement.{statement}
 use Rattle.record.proofs.write.Tie as tie
 
 returns : tie.Need-returns
 unfolding writtenOf areaWritten writeRefusal
-returns c = simp (lt-ltb _ _ (c .if1 .taken)) (refl, refl)
+returns c = as-written (simp (lt-ltb _ _ (c .if1 .taken)) (refl, refl))
 
 pack-bits-requires : tie.Need-pack-bits-requires
 unfolding widths
@@ -38,10 +38,10 @@ returns-2 c =
     let done = write-record order area _ (c .before .before .before .before .before .before .before .before .before .before .if1 .left) (c .before .before .before .before .before .before .before .refusal .ensures ∙ ap fieldsRefusal (c .before .before .before .before .before .before .before .before .before .fields-of .ensures)) (c .before .before .before .before .before .before .if2 .taken) in
     let packed : put area 0 320 (pack 0 widths (c .before .before .before .before .before .before .before .before .before .fields-of .result)) ≡ recordOf order ++ drop 40 area =
     ap (λ (values : List ℕ). put area 0 320 (pack 0 widths values)) (c .before .before .before .before .before .before .before .before .before .fields-of .ensures) ∙ put-front area 40 (pack 0 widths (fieldsOf order)) (λ i. c .before .before .before .before .before .before .before .before .before .before .before .slice-known .given i .fits) in
-    (done .0, c .before .before .pack-bits .ensures ∙ packed ∙ done .1)
+    as-written (done .0, c .before .before .pack-bits .ensures ∙ packed ∙ done .1)
 
 returns-3 : tie.Need-returns-3
-returns-3 c = write-refused _ _ _ (c .before .before .before .before .if1 .left) (c .before .refusal .ensures ∙ ap fieldsRefusal (c .before .before .before .fields-of .ensures)) (c .if2 .left)
+returns-3 c = as-written (write-refused _ _ _ (c .before .before .before .before .if1 .left) (c .before .refusal .ensures ∙ ap fieldsRefusal (c .before .before .before .fields-of .ensures)) (c .if2 .left))
 
 pub write-spec : {M : Type 1} → statement M
 write-spec =

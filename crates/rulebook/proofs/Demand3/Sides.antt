@@ -1,5 +1,5 @@
 -- Sides taken in are sides settled, cancelled, deleted, suspended or waiting, over any list of calls. Assumes nothing.
-use mathlib.Core.Path.{_≡_, refl, ap}
+use mathlib.Core.Path.{_≡_, refl}
 use mathlib.Core.Bool.{Bool, true, false, not, _&&_, _||_, false≢true}
 use mathlib.Core.List.{List, [], _∷_, map}
 use Prim.Native.Nat.{ℕ, zero, suc, _+_, _≤_, zero-le}
@@ -14,7 +14,7 @@ use Rattle.rulebook.specs.declared.Item.{Item}
 use Rattle.rulebook.specs.declared.Order.{Order}
 use Rattle.rulebook.specs.declared.State.{State}
 use Rattle.rulebook.specs.declared.State.the-variants.{Single, Pair, Trade}
-use Rattle.rulebook.specs.Lists.{if_then_else_, _is_, _atMost_, _oneOf_, keep, total}
+use Rattle.rulebook.specs.Lists.{if_then_else_, _is_, _atMost_, keep, total}
 use Rattle.rulebook.specs.Ledger.{Ledger, fresh, putDay, putHoldings, putWaiting}
 use Rattle.rulebook.specs.Waiting.{sidesOf, sides, isDeliver, isReceive, itemOf, senderOf, withState, marked, marking, cancelled, staying, unmarked, sentBy}
 use Rattle.rulebook.specs.Matching.{tolerance, pairsWith, pairOf, arrive}

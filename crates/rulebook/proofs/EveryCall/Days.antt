@@ -8,7 +8,7 @@ use Rattle.rulebook.specs.declared.Order.{Order}
 use Rattle.rulebook.specs.Lists.{if_then_else_, _is_}
 use Rattle.rulebook.specs.Field as Field
 use Rattle.rulebook.specs.Ledger.{Ledger, fresh, putDay}
-use Rattle.rulebook.specs.Windows.{byKind, cycleMinutes, officeEnd, officeHours, counterHours, paymentHours}
+use Rattle.rulebook.specs.Windows.{byKind, officeEnd, officeHours, counterHours, paymentHours}
 use Rattle.rulebook.specs.Call.{putMinute}
 use Rattle.rulebook.specs.Forms.{Form, outcome, silent, openDay, cycle, close, forms, rowOf, used, least, most, windowOf}
 use Rattle.rulebook.specs.Premise.{DayFits}

@@ -1,5 +1,4 @@
 -- `record::refusals::least_of` meets its contract. Assumes nothing.
-use mathlib.Core.Path.{_≡_}
 use borrow.Author.Needs.{needs}
 use Rattle.record.proofs.refusals.least_of.Statement.{statement}
 use Rattle.record.proofs.refusals.least_of.Tie as tie

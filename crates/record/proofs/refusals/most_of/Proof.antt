@@ -1,10 +1,10 @@
 -- `record::refusals::most_of` meets its contract: no row but form 1's has a field with less than its place allows. Assumes nothing.
-use mathlib.Core.Path.{_≡_, refl, sym, ap₂, _∙_}
+use mathlib.Core.Path.{_≡_, refl, sym, ap₂}
 use mathlib.Core.Bool.{Bool, true, false, not, _&&_, _||_, and-false}
 use mathlib.Core.List.{List, [], _∷_, _++_, map}
 use Prim.Native.Nat.{ℕ}
 use borrow.Author.Needs.{needs}
-use borrow.Author.Tests.{eq-eqb, ne-eqb, eqb-true, not-false}
+use borrow.Author.Tests.{ne-eqb, eqb-true}
 use Rattle.rulebook.specs.Lists.{_is_, _isNot_, some}
 use Rattle.rulebook.specs.Field.{places, widths, ceiling, always, ruleIn}
 use Rattle.rulebook.specs.Forms.{Form, forms, rowOf, most}

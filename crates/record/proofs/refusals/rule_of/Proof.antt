@@ -1,17 +1,17 @@
 -- `record::refusals::rule_of` meets its contract: each arm and the form's row agree at each place, by one computed test. Assumes nothing.
 use mathlib.Core.Path.{_≡_, refl, sym, subst, _∙_}
-use mathlib.Core.Bool.{Bool, true, false, not, _||_, _&&_, and-false}
+use mathlib.Core.Bool.{Bool, true, false, not, _||_, and-false}
 use Prim.Native.Nat.{ℕ, _+_, _-_, _≤_, _<_}
 use native.Mathlib.Omega.{arith}
 use borrow.Author.Needs.{needs}
-use borrow.Author.Tests.{eqb-true, eqb-false, not-false, lt-leb}
+use borrow.Author.Tests.{eqb-true, eqb-false, lt-leb}
 use lib.ListN.{length}
 use Rattle.rulebook.specs.Lists.{_is_, _isNot_, within}
-use Rattle.rulebook.specs.Field.{places, widths, ceiling}
+use Rattle.rulebook.specs.Field.{places}
 use Rattle.rulebook.specs.Forms.{forms, rowOf, used, least}
 use Rattle.record.specs.declared.refusals.Rule.{Rule}
-use Rattle.record.specs.Fields.{has, leastIn, Ruled, RuleOf}
-use Rattle.record.proofs.Below.{any, none-passes, differ, same}
+use Rattle.record.specs.Fields.{has, leastIn, RuleOf}
+use Rattle.rulebook.proofs.Below.{any, none-passes, differ, same}
 use Rattle.record.proofs.refusals.rule_of.Statement.{statement}
 use Rattle.record.proofs.refusals.rule_of.Tie as tie
 

@@ -1,0 +1,48 @@
+-- `exports::depository_sizes` meets its contract. Assumes nothing.
+use mathlib.Core.Path.{_≡_, sym, _∙_}
+use mathlib.Core.List.{[], _∷_}
+use native.Mathlib.Omega.{arith}
+use borrow.Author.Needs.{needs}
+use lib.ListN.{length}
+use Rattle.book.specs.Meaning.{bookLength}
+use Rattle.exports.proofs.Laws.{whole, lengths-right, tells-wrong, tells}
+use Rattle.exports.proofs.depository_sizes.Statement.{statement}
+use Rattle.exports.proofs.depository_sizes.Tie as tie
+
+abbrev start : tie.After-lengths → tie.Start
+start c = c .before .before .before
+
+right : (c : tie.Else1) → (length (start (c .before) .args .book .now) ≡ bookLength) × (length (start (c .before) .args .values .now) ≡ 3)
+right c = lengths-right _ _ _ (sym (c .before .lengths .ensures) ∙ c .if1 .left)
+
+returns : tie.Need-returns
+returns c = tells-wrong _ _ _ _ (c .before .lengths .ensures) (c .if1 .taken)
+
+securities-requires : tie.Need-securities-requires
+securities-requires c κs = start (c .before) .pre (right c .0)
+
+accounts-requires : tie.Need-accounts-requires
+accounts-requires c κs = let passed = c .before in start (passed .before) .pre (right passed .0)
+
+items-requires : tie.Need-items-requires
+items-requires c κs = let passed = c .before .before in start (passed .before) .pre (right passed .0)
+
+write-requires : tie.Need-write-requires
+write-requires c κs = omega (arith, right (c .before .before .before .before .before) .1)
+
+returns-2 : tie.Need-returns-2
+returns-2 c =
+    let write = c .before .before in
+    let items = write .before .before .before in
+    let accounts = items .before in
+    let securities = accounts .before in
+    let passed = securities .before in
+    tells _ _ _ _ _ (passed .before .lengths .ensures) (passed .if1 .left)
+    (write .write .ensures ∙ whole (start (passed .before) .args .values .now) _ 3 (right passed .1)
+    ∙ (λ i. securities .securities .ensures i ∷ accounts .accounts .ensures i ∷ items .items .ensures i ∷ []))
+
+pub depository-sizes-spec : {M : Type 1} → statement M
+depository-sizes-spec =
+    tie.close
+    (tie.spec (λ c κs. search needs) returns securities-requires accounts-requires items-requires (λ c. search needs) write-requires
+    (λ c. search needs) returns-2)

@@ -1,0 +1,19 @@
+-- `exports::figures::put_item` meets its contract. Assumes nothing.
+use mathlib.Core.Path.{ap, _∙_}
+use borrow.Author.Needs.{needs}
+use Rattle.exports.specs.Figures.{figuresWith}
+use Rattle.exports.specs.declared.figures.StateFigures.{StateFigures}
+use Rattle.exports.proofs.Laws.{whole}
+use Rattle.exports.proofs.figures.put_item.Statement.{statement}
+use Rattle.exports.proofs.figures.put_item.Tie as tie
+
+returns : tie.Need-returns
+returns c =
+    let write = c .before .before in
+    let state = write .before .before .before in
+    let s = state .before .before in
+    write .write .ensures ∙ whole (s .args .values .now) _ 17 (s .pre)
+    ∙ ap (λ (x : StateFigures). figuresWith (s .args .item) x) (state .state-figures .ensures)
+
+pub put-item-spec : {M : Type 1} → statement M
+put-item-spec = tie.close (tie.spec (λ c κs. search needs) (λ c. search needs) (λ c κs. search needs) (λ c. search needs) returns)

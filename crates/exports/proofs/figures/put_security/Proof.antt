@@ -1,0 +1,15 @@
+-- `exports::figures::put_security` meets its contract. Assumes nothing.
+use mathlib.Core.Path.{_∙_}
+use borrow.Author.Needs.{needs}
+use Rattle.exports.proofs.Laws.{whole}
+use Rattle.exports.proofs.figures.put_security.Statement.{statement}
+use Rattle.exports.proofs.figures.put_security.Tie as tie
+
+returns : tie.Need-returns
+returns c =
+    let write = c .before .before in
+    let s = write .before .before .before .before in
+    write .write .ensures ∙ whole (s .args .values .now) _ 4 (s .pre)
+
+pub put-security-spec : {M : Type 1} → statement M
+put-security-spec = tie.close (tie.spec (λ c. search needs) (λ c κs. search needs) (λ c. search needs) returns)

@@ -1,0 +1,46 @@
+-- What a C program lends: buffers of words, each by a pointer and a length. A wrong length is answered by a number of its own, above every refusal's.
+use Prim.Native.Nat.{ℕ}
+use mathlib.Core.List.{List}
+use mathlib.Core.Path.{_≡_}
+use lib.ListN.{length}
+use Rattle.rulebook.specs.Lists.{if_then_else_, _is_}
+use Rattle.rulebook.specs.Ledger.{fresh}
+use Rattle.book.specs.Meaning.{bookLength, ledgerOf}
+use Rattle.book.specs.Stored.{Kept}
+
+-- the numbers: a book, counts, fields, values that are not as long as they should be; a place behind the last
+abbrev pub wrongBook : ℕ
+wrongBook = 1001
+
+abbrev pub wrongCounts : ℕ
+wrongCounts = 1002
+
+abbrev pub wrongFields : ℕ
+wrongFields = 1003
+
+abbrev pub wrongValues : ℕ
+wrongValues = 1004
+
+abbrev pub noSuchPlace : ℕ
+noSuchPlace = 1005
+
+-- how many words the counts and the fields have
+abbrev pub countWords : ℕ
+countWords = 6
+
+abbrev pub fieldWords : ℕ
+fieldWords = 18
+
+-- the one premise: a buffer of a book's length holds what `depository_fresh` and `depository_call` left there. Nothing is asked of another
+abbrev pub Lent : List ℕ → Type 0
+Lent book = length book ≡ bookLength → Kept book
+
+-- a fresh book
+unfoldable pub freshNumber : List ℕ → ℕ
+freshNumber book = if length book is bookLength then 0 else wrongBook
+
+pub record FreshIn (book : List ℕ) (number : ℕ) (book′ : List ℕ) : Type 0 where
+  pub numbered : number ≡ freshNumber book
+  pub ledger : number ≡ 0 → ledgerOf book′ ≡ fresh
+  pub kept : Lent book′
+  pub untouched : (number ≡ 0 → ⊥) → book′ ≡ book

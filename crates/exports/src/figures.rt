@@ -1,0 +1,103 @@
+// What a book says, as words in a buffer of the right length.
+ghost use mathlib.Core.Path.{_≡_};
+ghost use mathlib.Core.List.{_∷_, []};
+ghost use lib.ListN.{length};
+ghost use Rattle.exports.specs.Figures.{dayFigures, stateFigures, itemFigures};
+use rulebook::Day;
+use rulebook::Item;
+use rulebook::Security;
+use rulebook::Shares;
+use rulebook::State;
+
+// A waiting item's state: 1 deliver, 2 receive, 3 pair, 4 exchange trade; its references, and which halves of a pair are marked.
+pub struct StateFigures {
+    pub state: u64,
+    pub reference: u64,
+    pub second: u64,
+    pub deliver_marked: u64,
+    pub receive_marked: u64,
+}
+
+// The day goes into 5 words.
+pub fn put_day(values: &mut [u64], day: Day)
+    requires { ⌜ length (now values) ≡ 5 ⌝ }
+    ensures { λ u. ⌜ now (values .exit) ≡ dayFigures day ⌝ }
+{
+    let opened = words::bit_of(day.opened);
+    let figures = [day.number, opened, day.kind, day.cycles, day.minute];
+    words::write(values, 0, &figures);
+}
+
+// A security and what its accounts hold go into 4 words.
+pub fn put_security(values: &mut [u64], security: Security, held: Shares)
+    requires { ⌜ length (now values) ≡ 4 ⌝ }
+    ensures { λ u. ⌜ now (values .exit) ≡ (security .code ∷ security .issued .0 ∷ held .0 ∷ security .outside .0 ∷ []) ⌝ }
+{
+    let figures = [security.code, security.issued.0, held.0, security.outside.0];
+    words::write(values, 0, &figures);
+}
+
+fn state_figures(s: State) -> StateFigures
+    ensures { λ r. ⌜ r ≡ stateFigures s ⌝ }
+{
+    match s {
+        State::Single {
+            delivers,
+            reference,
+        } => StateFigures {
+            state: 2 - words::bit_of(delivers),
+            reference: reference,
+            second: 0,
+            deliver_marked: 0,
+            receive_marked: 0,
+        },
+        State::Pair {
+            deliver_reference,
+            receive_reference,
+            deliver_marked,
+            receive_marked,
+        } => StateFigures {
+            state: 3,
+            reference: deliver_reference,
+            second: receive_reference,
+            deliver_marked: words::bit_of(deliver_marked),
+            receive_marked: words::bit_of(receive_marked),
+        },
+        State::Trade { reference } => StateFigures {
+            state: 4,
+            reference: reference,
+            second: 0,
+            deliver_marked: 0,
+            receive_marked: 0,
+        },
+    }
+}
+
+// An item goes into 17 words.
+pub fn put_item(values: &mut [u64], item: Item)
+    requires { ⌜ length (now values) ≡ 17 ⌝ }
+    ensures { λ u. ⌜ now (values .exit) ≡ itemFigures item ⌝ }
+{
+    let state = item.state;
+    let s = state_figures(state);
+    let figures = [
+        item.security,
+        item.currency,
+        item.debited.member,
+        item.debited.typ,
+        item.debited.shareholder,
+        item.credited.member,
+        item.credited.typ,
+        item.credited.shareholder,
+        item.quantity.0,
+        item.amount.0,
+        item.trade_day,
+        item.settlement_day,
+        s.state,
+        s.reference,
+        s.second,
+        s.deliver_marked,
+        s.receive_marked,
+    ];
+    words::write(values, 0, &figures);
+}

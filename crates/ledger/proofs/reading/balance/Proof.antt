@@ -1,0 +1,18 @@
+-- `ledger::reading::balance` meets its contract: what no record can name has no balance. Assumes nothing.
+use mathlib.Core.Path.{sym, _∙_}
+use borrow.Author.Needs.{needs}
+use Rattle.accounts.specs.Map.{balanceOf}
+use Rattle.accounts.proofs.Keys.{range-holds}
+use Rattle.book.specs.Meaning.{holdingsOf}
+use Rattle.ledger.proofs.reading.balance.Statement.{statement}
+use Rattle.ledger.proofs.reading.balance.Tie as tie
+
+balance-requires : tie.Need-balance-requires
+balance-requires c κs = (c .before .before .before .pre .stored, range-holds _ (sym (c .before .is-named .ensures) ∙ c .if1 .taken))
+
+returns-2 : tie.Need-returns-2
+unfolding holdingsOf balanceOf
+returns-2 c = rw (sym (c .before .is-named .ensures) ∙ c .if1 .left)
+
+pub balance-spec : {M : Type 1} → statement M
+balance-spec = tie.close (tie.spec (λ c κs. search needs) balance-requires (λ c. search needs) returns-2)

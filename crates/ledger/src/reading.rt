@@ -1,0 +1,91 @@
+// What a book says, part by part, to a program that does not know its words.
+ghost use mathlib.Core.Path.{_≡_};
+ghost use Prim.Native.Nat.{_<_};
+ghost use lib.ListN.{length, getD};
+ghost use Rattle.rulebook.specs.Ledger as Ledger;
+ghost use Rattle.book.specs.Meaning.{ledgerOf};
+ghost use Rattle.book.specs.Stored.{Kept};
+use rulebook::Account;
+use rulebook::Cents;
+use rulebook::Day;
+use rulebook::Item;
+use rulebook::Security;
+use rulebook::Shares;
+
+// The day.
+pub fn day(book: &[u64]) -> Day
+    requires { ⌜ Kept (now book) ⌝ }
+    ensures { λ r. ⌜ r ≡ ledgerOf (now (book .entry)) .day ⌝ }
+{
+    book::day(book)
+}
+
+// How many securities are admitted.
+pub fn securities(book: &[u64]) -> usize
+    requires { ⌜ Kept (now book) ⌝ }
+    ensures { λ r. ⌜ r ≡ length (ledgerOf (now (book .entry)) .holdings .securities) ⌝ }
+{
+    book::securities(book)
+}
+
+// The security at `i`, in order of admission.
+pub fn security_at(book: &[u64], i: usize) -> Security
+    requires { ⌜ Kept (now book) × (i < length (ledgerOf (now book) .holdings .securities)) ⌝ }
+    ensures { λ r. ⌜ ((d : Security) → r ≡ getD (ledgerOf (now (book .entry)) .holdings .securities) i d) ⌝ }
+{
+    book::security_at(book, i)
+}
+
+// What a security's accounts hold.
+pub fn held(book: &[u64], security: u64) -> Shares
+    requires { ⌜ Kept (now book) ⌝ }
+    ensures { λ r. ⌜ r .0 ≡ Ledger.held security (ledgerOf (now (book .entry)) .holdings) ⌝ }
+{
+    book::held(book, security)
+}
+
+// How many accounts there are.
+pub fn accounts(book: &[u64]) -> u64
+    requires { ⌜ Kept (now book) ⌝ }
+    ensures { λ r. ⌜ r ≡ ledgerOf (now (book .entry)) .holdings .accounts ⌝ }
+{
+    book::accounts(book)
+}
+
+// An account's balance: 0 where there is no such account, also where no record can name it.
+pub fn balance(book: &[u64], account: Account) -> Shares
+    requires { ⌜ Kept (now book) ⌝ }
+    ensures { λ r. ⌜ r .0 ≡ ledgerOf (now (book .entry)) .holdings .balance account ⌝ }
+{
+    if accounts::is_named(account) {
+        return book::balance(book, account);
+    }
+    Shares(0)
+}
+
+// A member's cash in a currency: 0 where the book keeps none.
+pub fn cash(book: &[u64], member: u64, currency: u64) -> Cents
+    requires { ⌜ Kept (now book) ⌝ }
+    ensures { λ r. ⌜ r .0 ≡ ledgerOf (now (book .entry)) .holdings .cash member currency ⌝ }
+{
+    if cash::is_kept(member, currency) {
+        return book::cash(book, member, currency);
+    }
+    Cents(0)
+}
+
+// How many items wait.
+pub fn items(book: &[u64]) -> usize
+    requires { ⌜ Kept (now book) ⌝ }
+    ensures { λ r. ⌜ r ≡ length (ledgerOf (now (book .entry)) .waiting) ⌝ }
+{
+    book::items(book)
+}
+
+// The item at `i`, in order of arrival.
+pub fn item_at(book: &[u64], i: usize) -> Item
+    requires { ⌜ Kept (now book) × (i < length (ledgerOf (now book) .waiting)) ⌝ }
+    ensures { λ r. ⌜ ((d : Item) → r ≡ getD (ledgerOf (now (book .entry)) .waiting) i d) ⌝ }
+{
+    book::item_at(book, i)
+}
