@@ -1,4 +1,5 @@
 -- What a book of words means, and what is kept true of it.
+pub mod Keys
 pub mod Meaning
 pub mod Stored
 pub mod Fresh

@@ -11,8 +11,7 @@ ghost use Rattle.rulebook.specs.Movements as movements;
 ghost use Rattle.rulebook.specs.Premise.{CashFits};
 ghost use Rattle.rulebook.specs.Waiting.{sentBy};
 ghost use Rattle.words.specs.Places.{removeAt};
-ghost use Rattle.accounts.specs.Keys.{InRange};
-ghost use Rattle.accounts.specs.Map.{CreditFits};
+ghost use Rattle.book.specs.Keys.{InRange, keyOf, CreditFits};
 ghost use Rattle.book.specs.Meaning.{dayIn, ledgerOf, holdingsOf, waitingOf};
 ghost use Rattle.book.specs.Stored.{Stored, Becomes, HoldingsBecome, WaitingBecomes, withSecurity};
 ghost use Rattle.book.specs.Fresh.{Freshened};
@@ -98,6 +97,14 @@ pub fn balance(book: &[u64], account: Account) -> Shares
     ensures { λ r. ⌜ r .0 ≡ holdingsOf (now (book .entry)) .balance account ⌝ }
 {
     accounts::balance(&book[ACCOUNTS..CASH], account)
+}
+
+// The account as one number, which no other account has.
+pub fn key_of(account: Account) -> u64
+    requires { ⌜ InRange account ⌝ }
+    ensures { λ r. ⌜ r ≡ keyOf account ⌝ }
+{
+    accounts::key_of(account)
 }
 
 // Held: the sum of a security's accounts.

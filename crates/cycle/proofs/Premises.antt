@@ -14,7 +14,7 @@ use Rattle.rulebook.specs.declared.Party.{Party}
 use Rattle.rulebook.proofs.Bounds.{balance-fits, cash-fits}
 use Rattle.rulebook.proofs.ByIndex.{item-at}
 use Rattle.rulebook.proofs.EveryCall.Items.{PartyPosts, item-posts}
-use Rattle.accounts.specs.Keys.{InRange}
+use Rattle.book.specs.Keys.{InRange}
 use Rattle.netting.specs.Marks.{noItem}
 use Rattle.netting.specs.Ready.{Bookable, Ready}
 

@@ -15,7 +15,7 @@ use Rattle.rulebook.proofs.Rounds.{enough-shares, enough-cash}
 use Rattle.rulebook.proofs.Sizes.{credits-accounts, legs-opened}
 use Rattle.words.proofs.Sums.{sum-last, sum-grows}
 use Rattle.book.specs.Meaning.{ledgerOf}
-use Rattle.book.specs.Stored.{Stored, Means}
+use Rattle.book.specs.Stored.{Stored, Means, HoldingsBecome}
 use Rattle.book.proofs.Laws.{next}
 use Rattle.netting.specs.Marks.{itemIn, isOn, markedOf}
 use Rattle.netting.specs.Ready.{Bookable, Ready}
@@ -37,7 +37,7 @@ module _ (b : Ledger) (book : List ℕ) (h : Holdings) (m : Means book (putHoldi
   waiting-now = ap (λ (x : Ledger). x .waiting) (m .ledger)
 
   -- and then with others again
-  pub then-holdings : (f : Holdings → Holdings) (after : List ℕ) → Means after (putHoldings (f (ledgerOf book .holdings)) (ledgerOf book)) → Means after (putHoldings (f h) b)
+  pub then-holdings : (f : Holdings → Holdings) (after : List ℕ) → HoldingsBecome f book after → Means after (putHoldings (f h) b)
   unfolding putHoldings
   then-holdings f after k = next (λ x. putHoldings (f (x .holdings)) x) m k
 
@@ -55,20 +55,21 @@ module _
     abbrev pub Acted : ℕ → List ℕ → Type 0
     Acted i book = Means book (putHoldings (act (legs (first item on i)) b.holdings) b)
 
+    -- what the first i have done, and one more by its mark
+    abbrev done : ℕ → Holdings
+    done i = act (legs (first item on i)) b.holdings
+
+    marked-step : (i : ℕ) (x : Bool) → on i ≡ x → done (i + 1) ≡ act (legs (ifMarked x (item i))) (done i)
+    marked-step i x e = one-more i b.holdings ∙ ap (λ (y : Bool). act (legs (ifMarked y (item i))) (done i)) e
+
     module _ (i : ℕ) (book : List ℕ) (m : Acted i book) where
       pub acted-off : on i ≡ false → Acted (i + 1) book
-      acted-off e =
-          let s : act (legs (first item on (i + 1))) b.holdings ≡ act (legs (first item on i)) b.holdings =
-          one-more i b.holdings ∙ ap (λ (x : Bool). act (legs (ifMarked x (item i))) (act (legs (first item on i)) b.holdings)) e ∙ nothing (act (legs (first item on i)) b.holdings)
-          in
-          subst (λ (h : Holdings). Means book (putHoldings h b)) (sym s) m
+      acted-off e = subst (λ (h : Holdings). Means book (putHoldings h b)) (sym (marked-step i false e ∙ nothing (done i))) m
 
-      pub acted-on : on i ≡ true → (t : Item) → t ≡ item i → (after : List ℕ) → Means after (putHoldings (act (legs (t ∷ [])) (ledgerOf book .holdings)) (ledgerOf book)) → Acted (i + 1) after
+      pub acted-on : on i ≡ true → (t : Item) → t ≡ item i → (after : List ℕ) → HoldingsBecome (act (legs (t ∷ []))) book after → Acted (i + 1) after
       acted-on e t same after k =
-          let s : act (legs (first item on (i + 1))) b.holdings ≡ act (legs (t ∷ [])) (act (legs (first item on i)) b.holdings) =
-          one-more i b.holdings ∙ ap (λ (x : Bool). act (legs (ifMarked x (item i))) (act (legs (first item on i)) b.holdings)) e ∙ ap (λ (x : Item). act (legs (x ∷ [])) (act (legs (first item on i)) b.holdings)) (sym same)
-          in
-          subst (λ (h : Holdings). Means after (putHoldings h b)) (sym s) (then-holdings b book (act (legs (first item on i)) b.holdings) m (act (legs (t ∷ []))) after k)
+          let s : done (i + 1) ≡ act (legs (t ∷ [])) (done i) = marked-step i true e ∙ ap (λ (x : Item). act (legs (x ∷ [])) (done i)) (sym same) in
+          subst (λ (h : Holdings). Means after (putHoldings h b)) (sym s) (then-holdings b book (done i) m (act (legs (t ∷ []))) after k)
 
 -- ---- what the marked trades of a ledger bring and take
 
@@ -98,7 +99,8 @@ module _ (b : Ledger) (marks : ℕ) where
 
   module _ (i : ℕ) (l : i < n) (marked : isOn marks i ≡ true) where
     -- the sum of a figure over the first i, which is bounded, and grows by the one at i
-    small : (f : Item → ℕ) → ((t : Item) → Bookable t → f t < 2 ^ 40) → Ready b → sumBelow i (λ k. if on k then f (item k) else 0) ≤ i * 1_099_511_627_776
+    small :
+        (f : Item → ℕ) → ((t : Item) → Bookable t → f t < 2 ^ 40) → Ready b → sumBelow i (λ k. if on k then f (item k) else 0) ≤ i * 1_099_511_627_776
     small f e r = sum-most i (λ k. if on k then f (item k) else 0) (λ k h. if-below (on k) _ (e (item k) (r .bookable k (omega arith))))
 
     grows : (f : Item → ℕ) → sumBelow i (λ k. if on k then f (item k) else 0) + f (item i) ≤ over f (marking on item n)
@@ -109,31 +111,42 @@ module _ (b : Ledger) (marks : ℕ) where
     pub can-credit : Ready b → CanCredit (item i) (credits (legs (first item on i)) b.holdings)
     can-credit r =
         let t = item i in
+        let m = t .debited .member in
+        let most = small (bringsShares (buyer t)) (brings-small (buyer t)) r in
+        let most-cash = small (bringsCash m (t .currency)) (pays-small m (t .currency)) r in
+        let opened = legs-opened (first item on i) in
         record {
           bookable = r .bookable i l;
-          room = omega (arith, credits-accounts (legs (first item on i)) b.holdings, legs-opened (first item on i), count-marked item i on, count-most on i, r .room);
-          shares = omega (arith, credited-balance item on (buyer t) b.holdings i, small (bringsShares (buyer t)) (brings-small (buyer t)) r, r .balances (buyer t), r .bookable i l .quantity, r .size);
-          cash = omega (arith, credited-cash item on (t .debited .member) (t .currency) b.holdings i, small (bringsCash (t .debited .member) (t .currency)) (pays-small (t .debited .member) (t .currency)) r, r .amounts (t .debited .member) (t .currency), r .bookable i l .amount, r .size);
+          room = omega (arith, credits-accounts (legs (first item on i)) b.holdings, opened, count-marked item i on, count-most on i, r .room);
+          shares = omega (arith, credited-balance item on (buyer t) b.holdings i, most, r .balances (buyer t), r .bookable i l .quantity, r .size);
+          cash = omega (arith, credited-cash item on m (t .currency) b.holdings i, most-cash, r .amounts m (t .currency), r .bookable i l .amount, r .size);
         }
 
     pub can-debit : Covered b (markedOf marks b.waiting) → CanDebit (item i) (debits (legs (first item on i)) b.holdings)
     unfolding markedOf sharesTaken cashTaken
     can-debit r =
         let t = item i in
+        let m = t .credited .member in
         record {
           bookable = r .bookable i l;
           shares = omega (arith, debited-balance item on (seller t) b.holdings i, grows (takesShares (seller t)), own-taken t, r .shares (seller t));
-          cash = omega (arith, debited-cash item on (t .credited .member) (t .currency) b.holdings i, grows (takesCash (t .credited .member) (t .currency)), own-pays t, r .cash (t .credited .member) (t .currency));
+          cash = omega (arith, debited-cash item on m (t .currency) b.holdings i, grows (takesCash m (t .currency)), own-pays t, r .cash m (t .currency));
         }
 
   -- nothing is short: so after all credits there is enough for all debits
-  pub covered : Ready b → anyShort b.holdings (markedOf marks b.waiting) ≡ false → Covered (putHoldings (credits (legs (withMark (markedOf marks b.waiting))) b.holdings) b) (markedOf marks b.waiting)
+  pub covered :
+      Ready b → anyShort b.holdings (markedOf marks b.waiting) ≡ false
+      → Covered (putHoldings (credits (legs (withMark (markedOf marks b.waiting))) b.holdings) b) (markedOf marks b.waiting)
   unfolding putHoldings markedOf sharesBrought cashBrought
   covered r none = record {
     size = r .size;
     bookable = r .bookable;
-    shares = λ a. omega (arith, credited-balance item on a b.holdings n, over-sum item n (bringsShares a) on, enough-shares b.holdings (marking on item n) none a);
-    cash = λ m c. omega (arith, credited-cash item on m c b.holdings n, over-sum item n (bringsCash m c) on, enough-cash b.holdings (marking on item n) none m c);
+    shares = λ a.
+        let enough = enough-shares b.holdings (marking on item n) none a in
+        omega (arith, credited-balance item on a b.holdings n, over-sum item n (bringsShares a) on, enough);
+    cash = λ m c.
+        let enough = enough-cash b.holdings (marking on item n) none m c in
+        omega (arith, credited-cash item on m c b.holdings n, over-sum item n (bringsCash m c) on, enough);
   }
 
   -- ---- the loops
@@ -146,32 +159,56 @@ module _ (b : Ledger) (marks : ℕ) where
   unfolding debits legs
   debit-nothing h = refl
 
+  -- what was read from the book is the item of the ledger
+  read : (book : List ℕ) (h : Holdings) → Means book (putHoldings h b) → (i : ℕ) (t : Item) → t ≡ itemIn (ledgerOf book .waiting) i → t ≡ item i
+  read book h m i t e = e ∙ ap (λ (w : List Item). itemIn w i) (waiting-now b book h m)
+
+  -- what can be done with the item there can be done with what was read, on the book as it is
+  can-now :
+      (Can : Item → Holdings → Type 0) (book : List ℕ) (h : Holdings) → Means book (putHoldings h b) → (i : ℕ) (t : Item)
+      → t ≡ itemIn (ledgerOf book .waiting) i → Can (item i) h → Can t (ledgerOf book .holdings)
+  can-now Can book h m i t e can =
+      subst (λ (x : Item). Can x (ledgerOf book .holdings)) (sym (read book h m i t e)) (subst (Can (item i)) (sym (holdings-now b book h m)) can)
+
   module _ (i : ℕ) (book : List ℕ) where
     pub credit-off : Credited i book → isOn marks i ≡ false → Credited (i + 1) book
     credit-off m = acted-off credits credit-nothing item on (credits-next item on) b i book m
 
-    pub credit-on : Credited i book → isOn marks i ≡ true → (t : Item) → t ≡ item i → (after : List ℕ) → Means after (putHoldings (credits (legs (t ∷ [])) (ledgerOf book .holdings)) (ledgerOf book)) → Credited (i + 1) after
-    credit-on m = acted-on credits credit-nothing item on (credits-next item on) b i book m
-
     pub debit-off : Debited i book → isOn marks i ≡ false → Debited (i + 1) book
     debit-off m = acted-off debits debit-nothing item on (debits-next item on) b i book m
 
-    pub debit-on : Debited i book → isOn marks i ≡ true → (t : Item) → t ≡ item i → (after : List ℕ) → Means after (putHoldings (debits (legs (t ∷ [])) (ledgerOf book .holdings)) (ledgerOf book)) → Debited (i + 1) after
-    debit-on m = acted-on debits debit-nothing item on (debits-next item on) b i book m
+    module _ (marked : isOn marks i ≡ true) (t : Item) (e : t ≡ itemIn (ledgerOf book .waiting) i) where
+      pub credit-fits : Credited i book → i < n → Ready b → CanCredit t (ledgerOf book .holdings)
+      credit-fits m l r = can-now CanCredit book _ m i t e (can-credit i l marked r)
 
-  pub credit-done : (i : ℕ) (book : List ℕ) → i ≡ n → Credited i book → Means book (putHoldings (credits (legs (withMark (markedOf marks b.waiting))) b.holdings) b)
+      pub debit-fits : Debited i book → i < n → Covered b (markedOf marks b.waiting) → CanDebit t (ledgerOf book .holdings)
+      debit-fits m l r = can-now CanDebit book _ m i t e (can-debit i l marked r)
+
+      pub credit-on : Credited i book → (after : List ℕ) → HoldingsBecome (credits (legs (t ∷ []))) book after → Credited (i + 1) after
+      credit-on m = acted-on credits credit-nothing item on (credits-next item on) b i book m marked t (read book _ m i t e)
+
+      pub debit-on : Debited i book → (after : List ℕ) → HoldingsBecome (debits (legs (t ∷ []))) book after → Debited (i + 1) after
+      debit-on m = acted-on debits debit-nothing item on (debits-next item on) b i book m marked t (read book _ m i t e)
+
+  pub credit-done :
+      (i : ℕ) (book : List ℕ) → i ≡ n → Credited i book → Means book (putHoldings (credits (legs (withMark (markedOf marks b.waiting))) b.holdings) b)
   unfolding markedOf
   credit-done i book e m = subst (λ (k : ℕ). Credited k book) e m
 
-  pub debit-done : (i : ℕ) (book : List ℕ) → i ≡ n → Debited i book → Means book (putHoldings (debits (legs (withMark (markedOf marks b.waiting))) b.holdings) b)
+  pub debit-done :
+      (i : ℕ) (book : List ℕ) → i ≡ n → Debited i book → Means book (putHoldings (debits (legs (withMark (markedOf marks b.waiting))) b.holdings) b)
   unfolding markedOf
   debit-done i book e m = subst (λ (k : ℕ). Debited k book) e m
 
 module _ (marks : ℕ) (book : List ℕ) (s : Stored book) where
   pub credit-start : Credited (ledgerOf book) marks 0 book
   unfolding putHoldings
-  credit-start = record { stored = s; ledger = ap (λ (h : Holdings). putHoldings h (ledgerOf book)) (sym (credits-none (itemIn (ledgerOf book .waiting)) (isOn marks) (ledgerOf book .holdings))) }
+  credit-start =
+      let none = credits-none (itemIn (ledgerOf book .waiting)) (isOn marks) (ledgerOf book .holdings) in
+      record { stored = s; ledger = ap (λ (h : Holdings). putHoldings h (ledgerOf book)) (sym none) }
 
   pub debit-start : Debited (ledgerOf book) marks 0 book
   unfolding putHoldings
-  debit-start = record { stored = s; ledger = ap (λ (h : Holdings). putHoldings h (ledgerOf book)) (sym (debits-none (itemIn (ledgerOf book .waiting)) (isOn marks) (ledgerOf book .holdings))) }
+  debit-start =
+      let none = debits-none (itemIn (ledgerOf book .waiting)) (isOn marks) (ledgerOf book .holdings) in
+      record { stored = s; ledger = ap (λ (h : Holdings). putHoldings h (ledgerOf book)) (sym none) }

@@ -2,14 +2,14 @@
 use Prim.Native.Nat.{ℕ, _+_, _-_, _*_}
 use native.Mathlib.Omega.{arith}
 use mathlib.Core.Bool.{true, false, false≢true}
-use mathlib.Core.List.{List, [], _∷_, _++_}
+use mathlib.Core.List.{List, [], _∷_}
 use mathlib.Core.Path.{_≡_, refl, sym, ap, subst, _∙_}
-use lib.ListN.{length, drop}
+use lib.ListN.{length}
 use Rattle.rulebook.specs.Ledger.{Ledger, putDay, putHoldings, putWaiting, oneMoreCycle}
 use Rattle.rulebook.specs.Movements.{booked}
-use Rattle.rulebook.specs.Rows.{postingRows, rowsBytes}
+use Rattle.rulebook.specs.Rows.{postingRows}
 use Rattle.rulebook.specs.Waiting.{isTrade, sidesOf, sides}
-use Rattle.rulebook.specs.Cycle.{Marked, taken, anyShort, rounds, settlingOf, settling, withMark, withoutMark, settled, notSettled, dropped, legs}
+use Rattle.rulebook.specs.Cycle.{Marked, taken, anyShort, settling, withMark, withoutMark, settled, notSettled, dropped, legs}
 use Rattle.rulebook.specs.Forms.{counts, outcome, cycle}
 use Rattle.rulebook.specs.Premise.{Each}
 use Rattle.rulebook.specs.declared.Counts.{Counts}
@@ -23,8 +23,10 @@ use Rattle.book.specs.Meaning.{ledgerOf}
 use Rattle.book.specs.Stored.{Means}
 use Rattle.book.specs.Handled.{Handled}
 use Rattle.book.proofs.Laws.{next}
-use Rattle.netting.specs.Marks.{itemIn, isOn, markedOf, countOn, rowsOf}
+use Rattle.netting.specs.Marks.{itemIn, isOn, markedOf, countOn, withRows}
+use Rattle.netting.specs.Selected.{Selected}
 use Rattle.netting.proofs.Marking.{count-marked}
+use Rattle.cycle.specs.Counting.{countsOf}
 
 -- ---- a trade has two sides
 
@@ -39,35 +41,33 @@ unfolding sides
 sides-two day [] e = refl
 sides-two day (t ∷ rest) e = omega (arith, two t.state (e .0 .0), sides-two day rest (e .1))
 
-module _ (b : Ledger) (due marks : ℕ) (d : markedOf due b.waiting ≡ taken b.day.number b.waiting) (m : markedOf marks b.waiting ≡ rounds (length b.waiting) b.holdings (markedOf due b.waiting)) where
-  -- the marks are those of the trades that settle
-  pub all-rounds : markedOf marks b.waiting ≡ settling b
-  unfolding settling settlingOf
-  all-rounds = m ∙ ap (rounds (length b.waiting) b.holdings) d
-
+module _ (b : Ledger) (due marks : ℕ) (chosen : Selected b due marks) where
   -- so nothing is short
   pub none-short : anyShort b.holdings (markedOf marks b.waiting) ≡ false
   unfolding settling
-  none-short = subst (λ (ms : List Marked). anyShort b.holdings ms ≡ false) (sym all-rounds) (settling-done b.day.number b.holdings b.waiting)
+  none-short = subst (λ (ms : List Marked). anyShort b.holdings ms ≡ false) (sym (chosen .settled-marked)) (settling-done b.day.number b.holdings b.waiting)
 
   -- ---- the counts
 
   on-settled : countOn (isOn marks) (length b.waiting) ≡ length (settled b)
   unfolding settled markedOf
-  on-settled = sym (count-marked (itemIn b.waiting) (length b.waiting) (isOn marks)) ∙ ap (λ (ms : List Marked). length (withMark ms)) all-rounds
+  on-settled =
+      sym (count-marked (itemIn b.waiting) (length b.waiting) (isOn marks))
+      ∙ ap (λ (ms : List Marked). length (withMark ms)) (chosen .settled-marked)
 
   on-due : countOn (isOn due) (length b.waiting) ≡ length (withMark (taken b.day.number b.waiting))
   unfolding markedOf
-  on-due = sym (count-marked (itemIn b.waiting) (length b.waiting) (isOn due)) ∙ ap (λ (ms : List Marked). length (withMark ms)) d
+  on-due = sym (count-marked (itemIn b.waiting) (length b.waiting) (isOn due)) ∙ ap (λ (ms : List Marked). length (withMark ms)) (chosen .due-marked)
 
-  same-counts :
-      counts (4 * countOn (isOn marks) (length b.waiting)) (2 * countOn (isOn marks) (length b.waiting)) 0 0 0 (countOn (isOn due) (length b.waiting) - countOn (isOn marks) (length b.waiting))
-      ≡ counts (length (postingRows (legs (settled b)))) (sides (settled b)) 0 0 0 (dropped b)
+  same-counts : countsOf due marks (length b.waiting) ≡ counts (length (postingRows (legs (settled b)))) (sides (settled b)) 0 0 0 (dropped b)
   unfolding dropped counts
   same-counts =
-      let rows : 4 * countOn (isOn marks) (length b.waiting) ≡ length (postingRows (legs (settled b))) = omega (arith, on-settled, posting-length (legs (settled b)), legs-length (settled b)) in
-      let both : 2 * countOn (isOn marks) (length b.waiting) ≡ sides (settled b) = omega (arith, on-settled, sides-two b.day.number (settled b) (settled-due b)) in
-      let left : countOn (isOn due) (length b.waiting) - countOn (isOn marks) (length b.waiting) ≡ length (withMark (taken b.day.number b.waiting)) - length (settled b) = omega (arith, on-settled, on-due) in
+      let on = countOn (isOn marks) (length b.waiting) in
+      let rows : 4 * on ≡ length (postingRows (legs (settled b))) = omega (arith, on-settled, posting-length (legs (settled b)), legs-length (settled b)) in
+      let both : 2 * on ≡ sides (settled b) = omega (arith, on-settled, sides-two b.day.number (settled b) (settled-due b)) in
+      let left : countOn (isOn due) (length b.waiting) - on ≡ length (withMark (taken b.day.number b.waiting)) - length (settled b) =
+      omega (arith, on-settled, on-due)
+      in
       λ i. record { rows = rows i; settled = both i; cancelled = 0; deleted = 0; suspended = 0; left = left i }
 
   -- ---- the book, after its holdings, its waiting list and its day are changed
@@ -77,7 +77,9 @@ module _ (b : Ledger) (due marks : ℕ) (d : markedOf due b.waiting ≡ taken b.
       (held : Means first (putHoldings (booked (legs (withMark (markedOf marks b.waiting))) b.holdings) b))
       (left : Means second (putWaiting (withoutMark (markedOf marks (ledgerOf first .waiting))) (ledgerOf first)))
     where
-      stays : Means second (putWaiting (withoutMark (markedOf marks b.waiting)) (putHoldings (booked (legs (withMark (markedOf marks b.waiting))) b.holdings) b))
+      stays :
+          Means second
+          (putWaiting (withoutMark (markedOf marks b.waiting)) (putHoldings (booked (legs (withMark (markedOf marks b.waiting))) b.holdings) b))
       unfolding putHoldings
       stays = next (λ x. putWaiting (withoutMark (markedOf marks (x .waiting))) x) held left
 
@@ -90,16 +92,16 @@ module _ (b : Ledger) (due marks : ℕ) (d : markedOf due b.waiting ≡ taken b.
         unfolding putHoldings putWaiting putDay cycle outcome settled notSettled
         after order =
             next (λ x. putDay (oneMoreCycle (x .day)) x) stays dated .ledger
-            ∙ ap (λ (ms : List Marked). putDay (oneMoreCycle b.day) (putWaiting (withoutMark ms) (putHoldings (booked (legs (withMark ms)) b.holdings) b))) all-rounds
+            ∙ ap (λ (ms : List Marked). putDay (oneMoreCycle b.day) (putWaiting (withoutMark ms) (putHoldings (booked (legs (withMark ms)) b.holdings) b)))
+            (chosen .settled-marked)
 
         pub handled :
-            (order : Order) (area area′ : List ℕ) (r : Counts) → area′ ≡ rowsBytes (rowsOf (markedOf marks b.waiting)) ++ drop (16 * length (rowsOf (markedOf marks b.waiting))) area
-            → r ≡ counts (4 * countOn (isOn marks) (length b.waiting)) (2 * countOn (isOn marks) (length b.waiting)) 0 0 0 (countOn (isOn due) (length b.waiting) - countOn (isOn marks) (length b.waiting))
+            (order : Order) (area area′ : List ℕ) (r : Counts) → area′ ≡ withRows (markedOf marks b.waiting) area → r ≡ countsOf due marks (length b.waiting)
             → Handled (cycle b order) third area area′ r
         unfolding cycle outcome settled
         handled order area area′ r w e = record {
           stored = dated .stored;
           ledger = after order;
           counted = e ∙ same-counts;
-          written = w ∙ ap (λ (ms : List Marked). rowsBytes (rowsOf ms) ++ drop (16 * length (rowsOf ms)) area) all-rounds;
+          written = w ∙ ap (λ (ms : List Marked). withRows ms area) (chosen .settled-marked);
         }

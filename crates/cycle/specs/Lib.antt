@@ -1,2 +1,3 @@
 -- The netted cycle on a book of words.
 pub mod Booking
+pub mod Counting

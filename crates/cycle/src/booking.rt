@@ -10,6 +10,7 @@ ghost use Rattle.netting.specs.Marks.{markedOf};
 ghost use Rattle.netting.specs.Ready.{Ready};
 ghost use Rattle.cycle.specs.Booking.{CanCredit, CanDebit, Covered};
 use netting::marks;
+use netting::marks::Marks;
 use rulebook::Item;
 
 // What a trade brings: shares to the buyer's account, cash to the seller.
@@ -31,7 +32,7 @@ fn debit_trade(book: &mut [u64], trade: Item)
 }
 
 // What the marked trades bring.
-fn credit_marked(book: &mut [u64], marks: u64)
+fn credit_marked(book: &mut [u64], marks: Marks)
     requires { ⌜ Stored (now book) × Ready (ledgerOf (now book)) ⌝ }
     ensures { λ u. ⌜ HoldingsBecome (credits (legs (withMark (markedOf marks (waitingOf (now (book .entry))))))) (now (book .entry)) (now (book .exit)) ⌝ }
 {
@@ -47,7 +48,7 @@ fn credit_marked(book: &mut [u64], marks: u64)
 }
 
 // What the marked trades take.
-fn debit_marked(book: &mut [u64], marks: u64)
+fn debit_marked(book: &mut [u64], marks: Marks)
     requires { ⌜ Stored (now book) × Covered (ledgerOf (now book)) (markedOf marks (waitingOf (now book))) ⌝ }
     ensures { λ u. ⌜ HoldingsBecome (debits (legs (withMark (markedOf marks (waitingOf (now (book .entry))))))) (now (book .entry)) (now (book .exit)) ⌝ }
 {
@@ -63,7 +64,7 @@ fn debit_marked(book: &mut [u64], marks: u64)
 }
 
 // The marked trades settle.
-pub fn book_marked(book: &mut [u64], marks: u64)
+pub fn book_marked(book: &mut [u64], marks: Marks)
     requires { ⌜ Stored (now book) × Ready (ledgerOf (now book)) × (anyShort (holdingsOf (now book)) (markedOf marks (waitingOf (now book))) ≡ false) ⌝ }
     ensures { λ u. ⌜ HoldingsBecome (booked (legs (withMark (markedOf marks (waitingOf (now (book .entry))))))) (now (book .entry)) (now (book .exit)) ⌝ }
 {

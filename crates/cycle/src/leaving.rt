@@ -6,9 +6,10 @@ ghost use Rattle.book.specs.Meaning.{waitingOf};
 ghost use Rattle.book.specs.Stored.{Stored, WaitingBecomes};
 ghost use Rattle.netting.specs.Marks.{markedOf};
 use netting::marks;
+use netting::marks::Marks;
 
 // The items without a mark stay, in their order.
-pub fn leave_marked(book: &mut [u64], marks: u64)
+pub fn leave_marked(book: &mut [u64], marks: Marks)
     requires { ⌜ Stored (now book) × (length (waitingOf (now book)) ≤ 64) ⌝ }
     ensures { λ u. ⌜ WaitingBecomes (λ items. withoutMark (markedOf marks items)) (now (book .entry)) (now (book .exit)) ⌝ }
 {

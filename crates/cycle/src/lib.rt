@@ -4,49 +4,56 @@ mod leaving;
 mod postings;
 
 ghost use mathlib.Core.Path.{_≡_};
-ghost use Prim.Native.Nat.{_+_, _-_, _*_, _^_, _≤_, _<_};
+ghost use Prim.Native.Nat.{_^_, _≤_, _<_};
 ghost use lib.ListN.{length};
 ghost use Rattle.rulebook.specs.Ledger.{putDay, oneMoreCycle};
 ghost use Rattle.rulebook.specs.Forms.{counts, cycle};
 ghost use Rattle.rulebook.specs.declared.Order.{Order};
 ghost use Rattle.book.specs.Meaning.{ledgerOf};
-ghost use Rattle.book.specs.Stored.{Stored, Kept, Means};
+ghost use Rattle.book.specs.Stored.{Stored, Kept, Becomes};
 ghost use Rattle.book.specs.Handled.{Handled};
+ghost use Rattle.netting.specs.Marks.{isOn, countOn};
+ghost use Rattle.cycle.specs.Counting.{countsOf};
+use netting::Selection;
 use netting::marks;
 use rulebook::Counts;
-use rulebook::Day;
 
 // A cycle adds 1 to cycles run.
 fn count_cycle(book: &mut [u64])
     requires { ⌜ Stored (now book) × (ledgerOf (now book) .day .cycles < 2 ^ 63) ⌝ }
-    ensures { λ u. ⌜ Means (now (book .exit)) (putDay (oneMoreCycle (ledgerOf (now (book .entry)) .day)) (ledgerOf (now (book .entry)))) ⌝ }
+    ensures { λ u. ⌜ Becomes (λ b. putDay (oneMoreCycle b.day) b) (now (book .entry)) (now (book .exit)) ⌝ }
 {
-    let day = book::day(book);
-    book::put_day(
-        book,
-        Day {
-            number: day.number,
-            opened: day.opened,
-            kind: day.kind,
-            cycles: day.cycles + 1,
-            minute: day.minute,
-        },
-    );
+    let mut day = book::day(book);
+    day.cycles = day.cycles + 1;
+    book::put_day(book, day);
 }
 
-// The counts of a cycle that settles so many of the trades that it takes: each has four rows and two sides.
-fn counts_of(settled: u64, taken: u64) -> Counts
-    requires { ⌜ (settled ≤ taken) × (taken ≤ 64) ⌝ }
-    ensures { λ r. ⌜ r ≡ counts (4 * settled) (2 * settled) 0 0 0 (taken - settled) ⌝ }
+// Nothing is counted yet.
+fn no_counts() -> Counts
+    ensures { λ r. ⌜ r ≡ counts 0 0 0 0 0 0 ⌝ }
 {
     Counts {
-        rows: 4 * settled,
-        settled: 2 * settled,
+        rows: 0,
+        settled: 0,
         cancelled: 0,
         deleted: 0,
         suspended: 0,
-        left: taken - settled,
+        left: 0,
     }
+}
+
+// Each settled trade has four rows and two sides; a trade that is due and does not settle is left.
+fn counts_of(selection: Selection, n: usize) -> Counts
+    requires { ⌜ (n ≤ 64) × (countOn (isOn (selection .settled)) n ≤ countOn (isOn (selection .due)) n) ⌝ }
+    ensures { λ r. ⌜ r ≡ countsOf (selection .due) (selection .settled) n ⌝ }
+{
+    let settled = marks::count(selection.settled, n);
+    let due = marks::count(selection.due, n);
+    let mut counts = no_counts();
+    counts.rows = 4 * settled;
+    counts.settled = 2 * settled;
+    counts.left = due - settled;
+    counts
 }
 
 // 16. The taken trades settle but for those that are dropped, which are left waiting; each settled trade's rows stand in the area.
@@ -55,11 +62,11 @@ pub fn run(book: &mut [u64], area: &mut [u8]) -> Counts
     ensures { λ r. ⌜ ((order : Order) → Handled (cycle (ledgerOf (now (book .entry))) order) (now (book .exit)) (now (area .entry)) (now (area .exit)) r) ⌝ }
 {
     let n = book::items(book);
-    let due = marks::due_marks(book);
-    let settled = netting::settling_marks(book, due);
+    let selection = netting::select(book);
+    let settled = selection.settled;
     postings::write_marked(area, book, settled);
     booking::book_marked(book, settled);
     leaving::leave_marked(book, settled);
     count_cycle(book);
-    counts_of(marks::count(settled, n), marks::count(due, n))
+    counts_of(selection, n)
 }

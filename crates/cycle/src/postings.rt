@@ -1,19 +1,18 @@
 // The settled trades' posting rows.
 ghost use mathlib.Core.Path.{_≡_};
-ghost use mathlib.Core.List.{_++_};
-ghost use Prim.Native.Nat.{_*_, _≤_};
-ghost use lib.ListN.{length, drop};
-ghost use Rattle.rulebook.specs.Rows.{rowsBytes};
-ghost use Rattle.book.specs.Meaning.{ledgerOf};
+ghost use Prim.Native.Nat.{_≤_};
+ghost use lib.ListN.{length};
+ghost use Rattle.book.specs.Meaning.{ledgerOf, waitingOf};
 ghost use Rattle.book.specs.Stored.{Stored};
-ghost use Rattle.netting.specs.Marks.{markedOf, rowsOf};
+ghost use Rattle.netting.specs.Marks.{markedOf, withRows};
 ghost use Rattle.netting.specs.Ready.{Ready};
 use netting::marks;
+use netting::marks::Marks;
 
 // Each marked trade's four rows go into the area behind those before it.
-pub fn write_marked(area: &mut [u8], book: &[u64], marks: u64)
+pub fn write_marked(area: &mut [u8], book: &[u64], marks: Marks)
     requires { ⌜ (4096 ≤ length (now area)) × Stored (now book) × Ready (ledgerOf (now book)) ⌝ }
-    ensures { λ u. ⌜ now (area .exit) ≡ rowsBytes (rowsOf (markedOf marks (ledgerOf (now (book .entry)) .waiting))) ++ drop (16 * length (rowsOf (markedOf marks (ledgerOf (now (book .entry)) .waiting)))) (now (area .entry)) ⌝ }
+    ensures { λ u. ⌜ now (area .exit) ≡ withRows (markedOf marks (waitingOf (now (book .entry)))) (now (area .entry)) ⌝ }
 {
     let n = book::items(book);
     let mut at: usize = 0;

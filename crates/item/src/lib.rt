@@ -1,12 +1,15 @@
 // The rules for one waiting item: who sent it, what it pairs with, its marks, how it leaves at close.
 ghost use mathlib.Core.Path.{_≡_};
-ghost use mathlib.Core.Bool.{not};
-ghost use Prim.Native.Nat.{_+_, _<_, _^_};
+ghost use mathlib.Core.Bool.{_&&_, not};
+ghost use Prim.Native.Nat.{_+_, _-_, _<_, _^_};
+ghost use Rattle.rulebook.specs.Lists.{_is_, _atMost_};
 ghost use Rattle.rulebook.specs.Waiting.{itemOf, isDeliver, isReceive, ownReference, sidesOf, senderOf, sentBy, notCancellable, withState, marked, bothMarked, unmarked};
 ghost use Rattle.rulebook.specs.Matching.{tolerance, agree, pairsWith, pairOf};
 ghost use Rattle.rulebook.specs.Close.{closeKind};
+use rulebook::Cents;
 use rulebook::Item;
 use rulebook::Order;
+use rulebook::Shares;
 use rulebook::State;
 
 // ---- an order as an item
@@ -208,13 +211,30 @@ pub fn unmark(item: Item) -> Item
 // ---- matching
 
 // 2,000 (USD) or 3,015,000 (LBP).
-pub fn tolerance_of(currency: u64) -> u64
-    ensures { λ r. ⌜ r ≡ tolerance currency ⌝ }
+pub fn tolerance_of(currency: u64) -> Cents
+    ensures { λ r. ⌜ r .0 ≡ tolerance currency ⌝ }
 {
     if currency == 1 {
-        return 2_000;
+        return Cents(2_000);
     }
-    3_015_000
+    Cents(3_015_000)
+}
+
+// Two quantities are equal.
+fn are_equal(one: Shares, other: Shares) -> bool
+    ensures { λ r. ⌜ r ≡ (one .0 is other .0) ⌝ }
+{
+    one.0 == other.0
+}
+
+// The second amount less the first is between 0 and a limit.
+fn are_close(limit: Cents, less: Cents, more: Cents) -> bool
+    ensures { λ r. ⌜ r ≡ (less .0 atMost more .0 && more .0 - less .0 atMost limit .0) ⌝ }
+{
+    if more.0 < less.0 {
+        return false;
+    }
+    more.0 - less.0 <= limit.0
 }
 
 // A single that delivers.
@@ -252,28 +272,24 @@ fn own_reference(state: State) -> u64
 
 // Equal in security, shareholder, days, quantity, currency, both members naming each other, both types book entry or both physical, and receive
 // amount less deliver amount between 0 and a limit.
-fn do_agree(limit: u64, deliver: Item, receive: Item) -> bool
-    ensures { λ r. ⌜ r ≡ agree limit deliver receive ⌝ }
+fn do_agree(limit: Cents, deliver: Item, receive: Item) -> bool
+    ensures { λ r. ⌜ r ≡ agree (limit .0) deliver receive ⌝ }
 {
-    if receive.amount.0 < deliver.amount.0 {
-        return false;
-    }
-    let difference = receive.amount.0 - deliver.amount.0;
     (deliver.security == receive.security)
         & (deliver.debited.shareholder == receive.credited.shareholder)
         & (deliver.trade_day == receive.trade_day)
         & (deliver.settlement_day == receive.settlement_day)
-        & (deliver.quantity.0 == receive.quantity.0)
+        & are_equal(deliver.quantity, receive.quantity)
         & (deliver.currency == receive.currency)
         & (deliver.debited.member == receive.debited.member)
         & (deliver.credited.member == receive.credited.member)
         & types::are_alike(deliver.debited.typ, receive.credited.typ)
-        & (difference <= limit)
+        & are_close(limit, deliver.amount, receive.amount)
 }
 
 // An arriving 12 or 13 pairs with a waiting single of the other form.
-pub fn pairs_with(limit: u64, arriving: Item, waits: Item) -> bool
-    ensures { λ r. ⌜ r ≡ pairsWith limit arriving waits ⌝ }
+pub fn pairs_with(limit: Cents, arriving: Item, waits: Item) -> bool
+    ensures { λ r. ⌜ r ≡ pairsWith (limit .0) arriving waits ⌝ }
 {
     let waiting_state = waits.state;
     let arriving_state = arriving.state;

@@ -8,5 +8,6 @@ pub mod Netting
 -- rounds: the last that passes a test is dropped, and what code keeps true while it runs
 pub mod Drops
 pub mod Slotted
+pub mod Changing
 pub mod Links
 pub mod Running

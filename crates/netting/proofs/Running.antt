@@ -11,17 +11,19 @@ use lib.ListN.{length, getD, set}
 use Rattle.rulebook.specs.Lists.{if_then_else_, _is_, _isNot_, _below_}
 use Rattle.rulebook.specs.Ledger.{Ledger, sameAccount, sumBelow}
 use Rattle.rulebook.specs.Premise.{CashFits}
-use Rattle.rulebook.specs.Cycle.{Marked, seller, buyer, over, bringsShares, takesShares, bringsCash, takesCash, sharesBrought, sharesTaken, cashBrought, cashTaken, sharesMissing, cashMissing, debitsShort, anyShort, dropLast, rounds}
+use Rattle.rulebook.specs.Cycle.{Marked, seller, buyer, over, anyShort, dropLast, rounds}
+use Rattle.rulebook.specs.Cycle.{bringsShares, takesShares, bringsCash, takesCash, sharesBrought, sharesTaken, cashBrought, cashTaken}
+use Rattle.rulebook.specs.Cycle.{sharesMissing, cashMissing, debitsShort}
 use Rattle.rulebook.specs.declared.Item.{Item}
 use Rattle.words.specs.declared.Found.the-variants.{At, Nothing}
 use Rattle.words.proofs.Places.{from-get, from-set, length-from}
 use Rattle.words.proofs.Sums.{sum-change}
 use Rattle.rulebook.proofs.Lists.{both}
-use Rattle.accounts.specs.Keys.{keyOf}
-use Rattle.accounts.proofs.Keys.{key-test, key-once}
+use Rattle.book.specs.Keys.{keyOf}
+use Rattle.book.proofs.Keys.{key-test, key-once}
 use Rattle.netting.specs.Marks.{itemIn, isOn, markedOf, countOn}
 use Rattle.netting.specs.Figures.{fromAt, toAt, hasAt, owesAt, brings, takes, bringsAll, takesAll, Figures, Cover, RoomAll, shortAt, lastShort, cashKey}
-use Rattle.netting.specs.Filled.{ShareLegs, ShareStart, CashLegs, CashStart}
+use Rattle.netting.specs.Filled.{ShareLegs, ShareStart, CashLegs, CashStart, payerOf}
 use Rattle.netting.specs.Slots.{Slots, viewed}
 use Rattle.netting.specs.Ready.{Ready}
 use Rattle.netting.proofs.Slotted.{has-viewed, owes-viewed, viewed-long, slot-leg, slot-own}
@@ -109,15 +111,29 @@ module _ (b : Ledger) (r : Ready b) where
   share-are : (legs : List ℕ) → ShareLegs b.waiting legs → Are item n shareInto shareOut legs
   unfolding bringsShares takesShares
   share-are legs l = record {
-    brings-as = λ j k h g. rw (l .to-as j h, l .from-as k g, l .number-as j h, key-test (buyer (item j)) (seller (item k)) (r .bookable j h .buys) (r .bookable k g .sells));
-    takes-as = λ j k h g. rw (l .from-as j h, l .from-as k g, l .number-as j h, key-test (seller (item j)) (seller (item k)) (r .bookable j h .sells) (r .bookable k g .sells));
+    brings-as = λ j k h g.
+        let test = key-test (buyer (item j)) (seller (item k)) (r .bookable j h .buys) (r .bookable k g .sells) in
+        rw (l .to-as j h, l .from-as k g, l .number-as j h, test);
+    takes-as = λ j k h g.
+        let test = key-test (seller (item j)) (seller (item k)) (r .bookable j h .sells) (r .bookable k g .sells) in
+        rw (l .from-as j h, l .from-as k g, l .number-as j h, test);
   }
+
+  -- a member's cash and what the item at k debits
+  cash-key-test :
+      (member j k : ℕ) → CashFits member (item j .currency) → CashFits (item k .credited .member) (item k .currency)
+      → (cashKey member (item j .currency) is payerOf (item k)) ≡ (member is item k .credited .member && item j .currency is item k .currency)
+  cash-key-test member j k f g = cash-test member (item j .currency) (item k .credited .member) (item k .currency) f g
 
   cash-are : (legs : List ℕ) → CashLegs b.waiting legs → Are item n cashInto cashOut legs
   unfolding bringsCash takesCash
   cash-are legs l = record {
-    brings-as = λ j k h g. rw (l .to-as j h, l .from-as k g, l .number-as j h, cash-test (item j .debited .member) (item j .currency) (item k .credited .member) (item k .currency) (r .bookable j h .paid) (r .bookable k g .pays));
-    takes-as = λ j k h g. rw (l .from-as j h, l .from-as k g, l .number-as j h, cash-test (item j .credited .member) (item j .currency) (item k .credited .member) (item k .currency) (r .bookable j h .pays) (r .bookable k g .pays));
+    brings-as = λ j k h g.
+        let test = cash-key-test (item j .debited .member) j k (r .bookable j h .paid) (r .bookable k g .pays) in
+        rw (l .to-as j h, l .from-as k g, l .number-as j h, test);
+    takes-as = λ j k h g.
+        let test = cash-key-test (item j .credited .member) j k (r .bookable j h .pays) (r .bookable k g .pays) in
+        rw (l .from-as j h, l .from-as k g, l .number-as j h, test);
   }
 
   share-small : (legs : List ℕ) → Small item n shareInto shareOut legs
@@ -131,28 +147,32 @@ module _ (b : Ledger) (r : Ready b) where
   unfolding bringsCash takesCash
   cash-small legs = record {
     into-small = λ j k h g. if-most (item j .debited .member is item k .credited .member && item j .currency is item k .currency) _ (r .bookable j h .amount);
-    out-small = λ j k h g. if-most (item j .credited .member is item k .credited .member && item j .currency is item k .currency) _ (r .bookable j h .amount);
+    out-small = λ j k h g.
+        if-most (item j .credited .member is item k .credited .member && item j .currency is item k .currency) _ (r .bookable j h .amount);
   }
 
   -- the marked legs can be added
   pub share-room : (marks : ℕ) (legs figures : List ℕ) → ShareLegs b.waiting legs → ShareStart b figures → RoomAll n (isOn marks) legs figures
-  share-room marks legs figures l f = lined-room item n shareInto shareOut legs (share-are legs l) (isOn marks) shareHave figures f (r .size) (λ k h. r .balances _) (share-small legs)
+  share-room marks legs figures l f =
+      lined-room item n shareInto shareOut legs (share-are legs l) (isOn marks) shareHave figures f (r .size) (λ k h. r .balances _) (share-small legs)
 
   pub cash-room : (marks : ℕ) (legs figures : List ℕ) → CashLegs b.waiting legs → CashStart b figures → RoomAll n (isOn marks) legs figures
-  cash-room marks legs figures l f = lined-room item n cashInto cashOut legs (cash-are legs l) (isOn marks) cashHave figures f (r .size) (λ k h. r .amounts _ _) (cash-small legs)
+  cash-room marks legs figures l f =
+      lined-room item n cashInto cashOut legs (cash-are legs l) (isOn marks) cashHave figures f (r .size) (λ k h. r .amounts _ _) (cash-small legs)
 
   -- the figures before any leg is added, read through slots
   abbrev near : (legs slots : List ℕ) → Slots n legs slots → (k : ℕ) → k < n → (hasAt slots k < n) × (fromAt legs (hasAt slots k) ≡ fromAt legs k)
   near legs slots s k h = let e = s .has-as k h in rw e (slot-leg legs n (fromAt legs k) (slot-own legs n (r .size) k h))
 
-  pub share-viewed : (legs slots figures : List ℕ) → ShareLegs b.waiting legs → Slots n legs slots → ShareStart b figures → ShareStart b (viewed slots figures)
+  pub share-viewed :
+      (legs slots figures : List ℕ) → ShareLegs b.waiting legs → Slots n legs slots → ShareStart b figures → ShareStart b (viewed slots figures)
   share-viewed legs slots figures l s f = record {
     long = viewed-long slots figures;
     has-as = λ k h.
         let i = near legs slots s k h in
         let key : keyOf (seller (item (hasAt slots k))) ≡ keyOf (seller (item k)) = sym (l .from-as (hasAt slots k) (i .0)) ∙ i .1 ∙ l .from-as k h in
-        has-viewed slots figures k (omega (arith, r .size)) ∙ f .has-as (hasAt slots k) (i .0)
-        ∙ ap b.holdings.balance (key-once (seller (item (hasAt slots k))) (seller (item k)) (r .bookable (hasAt slots k) (i .0) .sells) (r .bookable k h .sells) key);
+        let same = key-once (seller (item (hasAt slots k))) (seller (item k)) (r .bookable (hasAt slots k) (i .0) .sells) (r .bookable k h .sells) key in
+        has-viewed slots figures k (omega (arith, r .size)) ∙ f .has-as (hasAt slots k) (i .0) ∙ ap b.holdings.balance same;
     owes-as = λ k h. owes-viewed slots figures k (omega (arith, r .size)) ∙ f .owes-as (hasAt slots k) (near legs slots s k h .0);
   }
 
@@ -161,10 +181,12 @@ module _ (b : Ledger) (r : Ready b) where
     long = viewed-long slots figures;
     has-as = λ k h.
         let i = near legs slots s k h in
-        let key : cashKey (item (hasAt slots k) .credited .member) (item (hasAt slots k) .currency) ≡ cashKey (item k .credited .member) (item k .currency) = sym (l .from-as (hasAt slots k) (i .0)) ∙ i .1 ∙ l .from-as k h in
+        let key : payerOf (item (hasAt slots k)) ≡ payerOf (item k) = sym (l .from-as (hasAt slots k) (i .0)) ∙ i .1 ∙ l .from-as k h in
         let one = r .bookable (hasAt slots k) (i .0) .pays in
         let two = r .bookable k h .pays in
-        let m : item (hasAt slots k) .credited .member ≡ item k .credited .member = omega (arith, key, one .currency-most, one .currency-least, two .currency-most, two .currency-least) in
+        let m : item (hasAt slots k) .credited .member ≡ item k .credited .member =
+        omega (arith, key, one .currency-most, one .currency-least, two .currency-most, two .currency-least)
+        in
         let c : item (hasAt slots k) .currency ≡ item k .currency = omega (arith, key, m) in
         has-viewed slots figures k (omega (arith, r .size)) ∙ f .has-as (hasAt slots k) (i .0)
         ∙ ap (λ (x : ℕ). b.holdings.cash x (item (hasAt slots k) .currency)) m ∙ ap (b.holdings.cash (item k .credited .member)) c;
@@ -193,7 +215,8 @@ module _ (b : Ledger) (r : Ready b) where
   -- ---- before the first round
 
   pub starts :
-      (due : ℕ) (shares cents held₀ funds₀ held funds : List ℕ) → ShareLegs b.waiting shares → CashLegs b.waiting cents → ShareStart b held₀ → CashStart b funds₀
+      (due : ℕ) (shares cents held₀ funds₀ held funds : List ℕ)
+      → ShareLegs b.waiting shares → CashLegs b.waiting cents → ShareStart b held₀ → CashStart b funds₀
       → Figures n (λ k. hasAt held₀ k + bringsAll n (isOn due) shares k) (λ k. owesAt held₀ k + takesAll n (isOn due) shares k) held
       → Figures n (λ k. hasAt funds₀ k + bringsAll n (isOn due) cents k) (λ k. owesAt funds₀ k + takesAll n (isOn due) cents k) funds
       → Running due due shares cents held funds
@@ -208,7 +231,7 @@ module _ (b : Ledger) (r : Ready b) where
     same = refl;
   }
 
-  module _ (due marks : ℕ) (shares cents held funds : List ℕ) (w : Running due marks shares cents held funds) where
+  module _ {due marks : ℕ} {shares cents held funds : List ℕ} (w : Running due marks shares cents held funds) where
     abbrev ms : List Marked
     ms = marking (isOn marks) item n
 
@@ -234,12 +257,13 @@ module _ (b : Ledger) (r : Ready b) where
     pub stops : lastShort (isOn marks) held funds n ≡ Nothing → markedOf marks b.waiting ≡ rounds n b.holdings (markedOf due b.waiting)
     unfolding markedOf anyShort
     stops e =
-        let none = none-at (debitsShort b.holdings ms) ms (λ k l. let h : k < n = rw (mark-long (isOn marks)) at l in sym (tested k h) ∙ last-none code n e k h) in
+        let low : (k : ℕ) → k < length ms → k < n = λ k l. rw (mark-long (isOn marks)) at l in
+        let none = none-at (debitsShort b.holdings ms) ms (λ k l. sym (tested k (low k l)) ∙ last-none code n e k (low k l)) in
         sym (rounds-stop b.holdings ms (w .left) none) ∙ w .same
 
     -- ---- the trade at j is the last that debits a short one
 
-    module _ (j : ℕ) (found : lastShort (isOn marks) held funds n ≡ At j) where
+    module _ {j : ℕ} (found : lastShort (isOn marks) held funds n ≡ At j) where
       last : Last (at (debitsShort b.holdings ms) ms) n j
       last = last-same _ _ n j tested (last-at code n j found)
 
@@ -250,10 +274,12 @@ module _ (b : Ledger) (r : Ready b) where
       marked = both (isOn marks j) _ (last-at code n j found .passed) .0
 
       pub share-cover : Cover n shares j held
-      share-cover = lined-cover item n shareInto shareOut shares (share-are shares (w .share-legs)) (isOn marks) shareHave held (w .held-lined) j inside marked
+      share-cover =
+          lined-cover item n shareInto shareOut shares (share-are shares (w .share-legs)) (isOn marks) shareHave held (w .held-lined) j inside marked
 
       pub cash-cover : Cover n cents j funds
-      cash-cover = lined-cover item n cashInto cashOut cents (cash-are cents (w .cash-legs)) (isOn marks) cashHave funds (w .funds-lined) j inside marked
+      cash-cover =
+          lined-cover item n cashInto cashOut cents (cash-are cents (w .cash-legs)) (isOn marks) cashHave funds (w .funds-lined) j inside marked
 
       module _ (now : ℕ) (flips : (k : ℕ) → k < 64 → isOn now k ≡ (if k is j then not (isOn marks j) else isOn marks k)) where
         gone : isOn now j ≡ false
@@ -264,7 +290,8 @@ module _ (b : Ledger) (r : Ready b) where
 
         pub fewer : countOn (isOn now) n < countOn (isOn marks) n
         fewer =
-            let s = sum-change n j (λ k. if isOn marks k then 1 else 0) (λ k. if isOn now k then 1 else 0) inside (λ k l d. ap (λ (x : Bool). if x then 1 else 0) (sym (others k l d))) in
+            let one : Bool → ℕ = λ x. if x then 1 else 0 in
+            let s = sum-change n j (λ k. one (isOn marks k)) (λ k. one (isOn now k)) inside (λ k l d. ap one (sym (others k l d))) in
             let t = rw (gone, marked) at s in
             omega (arith, t)
 
@@ -272,13 +299,15 @@ module _ (b : Ledger) (r : Ready b) where
         dropped : marking (isOn now) item n ≡ dropLast (debitsShort b.holdings ms) ms
         dropped =
             let z : 0 + j ≡ j = omega arith in
+            let same : _≡_ {A = Marked} (false, item j) (false, getD ms j noMark .1) = ap (λ (m : Marked). (false, m .1)) (sym (mark-at (isOn marks) j inside)) in
             let off : set ms j (isOn now (0 + j), item (0 + j)) ≡ set ms j (false, getD ms j noMark .1) =
-            ap (λ (m : Marked). set ms j m) (ap (λ (k : ℕ). (isOn now k, item k)) z ∙ ap (λ (x : Bool). (x, item j)) gone ∙ ap (λ (m : Marked). (false, m .1)) (sym (mark-at (isOn marks) j inside)))
+            ap (λ (m : Marked). set ms j m) (ap (λ (k : ℕ). (isOn now k, item k)) z ∙ ap (λ (x : Bool). (x, item j)) gone ∙ same)
             in
+            let left = subst (λ (x : ℕ). Last (at (debitsShort b.holdings ms) ms) x j) (sym (mark-long (isOn marks))) last in
             from-set (λ k. (isOn marks k, item k)) (λ k. (isOn now k, item k)) 0 n j inside
             (λ k l d. let y : 0 + k ≡ k = omega arith in rw y (ap (λ (x : Bool). (x, item k)) (sym (others k l d))))
             ∙ off
-            ∙ sym (drop-at (debitsShort b.holdings ms) ms j (subst (λ (x : ℕ). Last (at (debitsShort b.holdings ms) ms) x j) (sym (mark-long (isOn marks))) last))
+            ∙ sym (drop-at (debitsShort b.holdings ms) ms j left)
 
         short : anyShort b.holdings ms ≡ true
         unfolding anyShort
@@ -288,13 +317,16 @@ module _ (b : Ledger) (r : Ready b) where
         unfolding markedOf
         next =
             let more : suc (w .left - 1) ≡ w .left = omega (arith, w .enough, fewer) in
-            ap (rounds (w .left - 1) b.holdings) dropped ∙ sym (rounds-step b.holdings ms (w .left - 1) short) ∙ ap (λ (x : ℕ). rounds x b.holdings ms) more
+            ap (rounds (w .left - 1) b.holdings) dropped
+            ∙ sym (rounds-step b.holdings ms (w .left - 1) short)
+            ∙ ap (λ (x : ℕ). rounds x b.holdings ms) more
 
         -- none from j on is short, unless what j credits is
         pub behind-still :
             (held′ funds′ : List ℕ) → Figures n (λ k. hasAt held k - brings shares j k) (λ k. owesAt held k - takes shares j k) held′
             → Figures n (λ k. hasAt funds k - brings cents j k) (λ k. owesAt funds k - takes cents j k) funds′
-            → (k : ℕ) → ((toAt shares j is fromAt shares k) ≡ true → shortAt held′ k ≡ false) → ((toAt cents j is fromAt cents k) ≡ true → shortAt funds′ k ≡ false)
+            → (k : ℕ) → ((toAt shares j is fromAt shares k) ≡ true → shortAt held′ k ≡ false)
+            → ((toAt cents j is fromAt cents k) ≡ true → shortAt funds′ k ≡ false)
             → j ≤ k → k < n → (isOn now k && (shortAt held′ k || shortAt funds′ k)) ≡ false
         behind-still held′ funds′ h f k a c l m = go (ltb j k) refl
           where
@@ -314,8 +346,12 @@ module _ (b : Ledger) (r : Ready b) where
         runs-on held′ funds′ h f = record {
           share-legs = w .share-legs;
           cash-legs = w .cash-legs;
-          held-lined = lined-less item n shareInto shareOut shares (share-are shares (w .share-legs)) (isOn marks) shareHave held (w .held-lined) j inside marked (isOn now) gone others held′ h;
-          funds-lined = lined-less item n cashInto cashOut cents (cash-are cents (w .cash-legs)) (isOn marks) cashHave funds (w .funds-lined) j inside marked (isOn now) gone others funds′ f;
+          held-lined =
+              lined-less item n shareInto shareOut shares (share-are shares (w .share-legs)) (isOn marks) shareHave held (w .held-lined) j inside marked
+              (isOn now) gone others held′ h;
+          funds-lined =
+              lined-less item n cashInto cashOut cents (cash-are cents (w .cash-legs)) (isOn marks) cashHave funds (w .funds-lined) j inside marked
+              (isOn now) gone others funds′ f;
           fewer-on = omega (arith, w .fewer-on, fewer);
           left = w .left - 1;
           enough = omega (arith, w .enough, fewer);

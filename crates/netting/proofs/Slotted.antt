@@ -20,22 +20,25 @@ use Rattle.netting.proofs.Drops.{last-at, last-none}
 -- ---- figures read through slots
 
 module _ (slots figures : List ℕ) where
+  abbrev read : ℕ → ℕ
+  read i = if i below 64 then hasAt figures (hasAt slots i) else owesAt figures (hasAt slots (i - 64))
+
   pub has-viewed : (k : ℕ) → k < 64 → hasAt (viewed slots figures) k ≡ hasAt figures (hasAt slots k)
   unfolding viewed
   has-viewed k h =
       let z : 0 + k ≡ k = omega arith in
-      from-get (λ i. if i below 64 then hasAt figures (hasAt slots i) else owesAt figures (hasAt slots (i - 64))) 0 128 k 0 (omega arith) ∙ rw (z, lt-ltb k 64 h)
+      from-get read 0 128 k 0 (omega arith) ∙ rw (z, lt-ltb k 64 h)
 
   pub owes-viewed : (k : ℕ) → k < 64 → owesAt (viewed slots figures) k ≡ owesAt figures (hasAt slots k)
   unfolding viewed
   owes-viewed k h =
       let z : 0 + (k + 64) ≡ k + 64 = omega arith in
       let y : k + 64 - 64 ≡ k = omega arith in
-      from-get (λ i. if i below 64 then hasAt figures (hasAt slots i) else owesAt figures (hasAt slots (i - 64))) 0 128 (k + 64) 0 (omega arith) ∙ rw (z, le-ltb (k + 64) 64 (omega arith), y)
+      from-get read 0 128 (k + 64) 0 (omega arith) ∙ rw (z, le-ltb (k + 64) 64 (omega arith), y)
 
   pub viewed-long : length (viewed slots figures) ≡ 128
   unfolding viewed
-  viewed-long = length-from (λ i. if i below 64 then hasAt figures (hasAt slots i) else owesAt figures (hasAt slots (i - 64))) 0 128
+  viewed-long = length-from read 0 128
 
 -- ---- slots tell keys apart
 
@@ -94,6 +97,16 @@ module _ (legs : List ℕ) (n : ℕ) where
 
 -- ---- a store at the slot of leg j
 
+-- a store in a column, read at another of its places
+stored :
+    (figures : List ℕ) (v : ℕ) (column : ℕ → ℕ) (a b : ℕ) → (column a ≡ column b → a ≡ b) → column a < length figures
+    → getD (set figures (column a) v) (column b) 0 ≡ (if a is b then v else getD figures (column b) 0)
+stored figures v column a b once l = go (ℕ-discrete a b)
+  where
+    go : Dec (a ≡ b) → getD (set figures (column a) v) (column b) 0 ≡ (if a is b then v else getD figures (column b) 0)
+    go (yes e) = rw (eq-eqb a b e) (ap (λ (x : ℕ). getD (set figures (column a) v) (column x) 0) (sym e) ∙ getD-set-same figures (column a) v 0 l)
+    go (no d) = rw (ne-eqb a b d) (getD-set-other figures (column a) (column b) v 0 (λ e. d (once (sym e))))
+
 module _ (n : ℕ) (legs slots figures : List ℕ) (size : n ≤ 64) (long : length figures ≡ 128) (s : Slots n legs slots) where
   pub slots-low : Low n slots
   slots-low = record { long = s .long; low = λ k h. rw (s .has-as k h) (slot-own legs n size k h) }
@@ -108,11 +121,7 @@ module _ (n : ℕ) (legs slots figures : List ℕ) (size : n ≤ 64) (long : len
     pub has-stored : (k : ℕ) → k < n → hasAt (viewed slots brought) k ≡ (if key is fromAt legs k then v else hasAt (viewed slots figures) k)
     has-stored k h =
         rw (has-viewed slots brought k (omega arith), has-viewed slots figures k (omega arith), s .has-as k h, ← slot-test legs n size key k h)
-        (go (ℕ-discrete (slotOf legs n key) (slotOf legs n (fromAt legs k))))
-      where
-        go : Dec (slotOf legs n key ≡ slotOf legs n (fromAt legs k)) → getD brought (slotOf legs n (fromAt legs k)) 0 ≡ (if slotOf legs n key is slotOf legs n (fromAt legs k) then v else getD figures (slotOf legs n (fromAt legs k)) 0)
-        go (yes e) = rw (eq-eqb (slotOf legs n key) (slotOf legs n (fromAt legs k)) e) (ap (λ (x : ℕ). getD brought x 0) (sym e) ∙ getD-set-same figures (slotOf legs n key) v 0 (omega arith))
-        go (no d) = rw (ne-eqb (slotOf legs n key) (slotOf legs n (fromAt legs k)) d) (getD-set-other figures (slotOf legs n key) (slotOf legs n (fromAt legs k)) v 0 (λ e. d (sym e)))
+        (stored figures v (λ x. x) (slotOf legs n key) (slotOf legs n (fromAt legs k)) (λ e. e) (omega arith))
 
     pub owes-kept : (k : ℕ) → k < n → owesAt (viewed slots brought) k ≡ owesAt (viewed slots figures) k
     owes-kept k h =
@@ -122,11 +131,7 @@ module _ (n : ℕ) (legs slots figures : List ℕ) (size : n ≤ 64) (long : len
     pub owes-stored : (k : ℕ) → k < n → owesAt (viewed slots taken) k ≡ (if key is fromAt legs k then v else owesAt (viewed slots figures) k)
     owes-stored k h =
         rw (owes-viewed slots taken k (omega arith), owes-viewed slots figures k (omega arith), s .has-as k h, ← slot-test legs n size key k h)
-        (go (ℕ-discrete (slotOf legs n key) (slotOf legs n (fromAt legs k))))
-      where
-        go : Dec (slotOf legs n key ≡ slotOf legs n (fromAt legs k)) → getD taken (slotOf legs n (fromAt legs k) + OWES) 0 ≡ (if slotOf legs n key is slotOf legs n (fromAt legs k) then v else getD figures (slotOf legs n (fromAt legs k) + OWES) 0)
-        go (yes e) = rw (eq-eqb (slotOf legs n key) (slotOf legs n (fromAt legs k)) e) (ap (λ (x : ℕ). getD taken (x + OWES) 0) (sym e) ∙ getD-set-same figures (slotOf legs n key + OWES) v 0 (omega arith))
-        go (no d) = rw (ne-eqb (slotOf legs n key) (slotOf legs n (fromAt legs k)) d) (getD-set-other figures (slotOf legs n key + OWES) (slotOf legs n (fromAt legs k) + OWES) v 0 (λ e. d (omega (arith, e))))
+        (stored figures v (λ x. x + OWES) (slotOf legs n key) (slotOf legs n (fromAt legs k)) (λ e. omega (arith, e)) (omega arith))
 
     pub has-kept : (k : ℕ) → k < n → hasAt (viewed slots taken) k ≡ hasAt (viewed slots figures) k
     has-kept k h =
@@ -135,7 +140,9 @@ module _ (n : ℕ) (legs slots figures : List ℕ) (size : n ≤ 64) (long : len
 
   -- nothing is brought to what no leg debits
   pub brings-none : (key : ℕ) → slotOf legs n key ≡ 64 → (k : ℕ) → k < n → (key is fromAt legs k) ≡ false
-  brings-none key e k h = sym (slot-test legs n size key k h) ∙ ne-eqb (slotOf legs n key) (slotOf legs n (fromAt legs k)) (λ q. omega (arith, e, q, slot-own legs n size k h))
+  brings-none key e k h =
+      sym (slot-test legs n size key k h)
+      ∙ ne-eqb (slotOf legs n key) (slotOf legs n (fromAt legs k)) (λ q. omega (arith, e, q, slot-own legs n size k h))
 
 -- ---- the leg of a trade, added or taken away
 
@@ -174,8 +181,8 @@ module _ (n : ℕ) (legs slots figures : List ℕ) (size : n ≤ 64) (long : len
   pub short-there : (k : ℕ) → k < n → (toAt legs j is fromAt legs k) ≡ true → shortAt view k ≡ (hasAt figures to below owesAt figures to)
   short-there k h e =
       let q : toAt legs j ≡ fromAt legs k = eqb-true (toAt legs j) (fromAt legs k) e in
-      let o : owesAt view k ≡ owesAt figures to = owes-viewed slots figures k (omega arith) ∙ ap (owesAt figures) (s .has-as k h ∙ ap (slotOf legs n) (sym q) ∙ sym (s .owes-as j low)) in
-      rw (has-there k h e, o)
+      let same : hasAt slots k ≡ to = s .has-as k h ∙ ap (slotOf legs n) (sym q) ∙ sym (s .owes-as j low) in
+      rw (has-there k h e, owes-viewed slots figures k (omega arith), same)
 
   -- the leg that has the figures of what j credits
   pub to-leg : to < 64 → (to < n) × ((toAt legs j is fromAt legs to) ≡ true)
@@ -196,14 +203,26 @@ module _ (n : ℕ) (legs slots figures : List ℕ) (size : n ≤ 64) (long : len
   own : slotOf legs n (fromAt legs j) < 64
   own = slot-own legs n size j low
 
-  pub changed-none : to ≡ 64 → (o : ℕ) → Figures n (λ k. if toAt legs j is fromAt legs k then 0 else hasAt view k) (λ k. if fromAt legs j is fromAt legs k then o else owesAt view k) (viewed slots (less o))
+  kept-less : (o k : ℕ) → k < n → hasAt (viewed slots (less o)) k ≡ hasAt view k
+  kept-less o k h = rw (less-is o) (has-kept n legs slots figures size long s (fromAt legs j) o own k h)
+
+  owes-less : (o k : ℕ) → k < n → owesAt (viewed slots (less o)) k ≡ (if fromAt legs j is fromAt legs k then o else owesAt view k)
+  owes-less o k h = rw (less-is o) (owes-stored n legs slots figures size long s (fromAt legs j) o own k h)
+
+  -- the figures with v where leg j credits, and o where it debits
+  abbrev Stored : (v o : ℕ) → List ℕ → Type 0
+  Stored v o now =
+      Figures n (λ k. if toAt legs j is fromAt legs k then v else hasAt view k) (λ k. if fromAt legs j is fromAt legs k then o else owesAt view k)
+      (viewed slots now)
+
+  pub changed-none : to ≡ 64 → (o : ℕ) → Stored 0 o (less o)
   changed-none e o = record {
     long = viewed-long slots (less o);
-    has-as = λ k h. rw (brings-none n legs slots figures size long s (toAt legs j) (sym (s .owes-as j low) ∙ e) k h, less-is o) (has-kept n legs slots figures size long s (fromAt legs j) o own k h);
-    owes-as = λ k h. rw (less-is o) (owes-stored n legs slots figures size long s (fromAt legs j) o own k h);
+    has-as = λ k h. rw (brings-none n legs slots figures size long s (toAt legs j) (sym (s .owes-as j low) ∙ e) k h) (kept-less o k h);
+    owes-as = owes-less o;
   }
 
-  pub changed-both : to < 64 → (o v : ℕ) → Figures n (λ k. if toAt legs j is fromAt legs k then v else hasAt view k) (λ k. if fromAt legs j is fromAt legs k then o else owesAt view k) (viewed slots (set (less o) to v))
+  pub changed-both : to < 64 → (o v : ℕ) → Stored v o (set (less o) to v)
   changed-both l o v =
       let lo : slotOf legs n (toAt legs j) < 64 = rw (s .owes-as j low) at l in
       record {
@@ -211,10 +230,10 @@ module _ (n : ℕ) (legs slots figures : List ℕ) (size : n ≤ 64) (long : len
         has-as = λ k h.
             rw (s .owes-as j low)
             (has-stored n legs slots (less o) size (less-long o) s (toAt legs j) v lo k h
-            ∙ ap (λ (x : ℕ). if toAt legs j is fromAt legs k then v else x) (rw (less-is o) (has-kept n legs slots figures size long s (fromAt legs j) o own k h)));
+            ∙ ap (λ (x : ℕ). if toAt legs j is fromAt legs k then v else x) (kept-less o k h));
         owes-as = λ k h.
             rw (s .owes-as j low)
-            (owes-kept n legs slots (less o) size (less-long o) s (toAt legs j) v lo k h ∙ rw (less-is o) (owes-stored n legs slots figures size long s (fromAt legs j) o own k h));
+            (owes-kept n legs slots (less o) size (less-long o) s (toAt legs j) v lo k h ∙ owes-less o k h);
       }
 
   -- at the slot of what is credited nothing was taken
@@ -222,19 +241,7 @@ module _ (n : ℕ) (legs slots figures : List ℕ) (size : n ≤ 64) (long : len
   has-less l o = getD-set-other figures (from + OWES) to o 0 (λ e. omega (arith, e))
 
 -- figures that are the same
-pub figures-as : (n : ℕ) (a b c d : ℕ → ℕ) (figures : List ℕ) → Figures n a b figures → ((k : ℕ) → k < n → a k ≡ c k) → ((k : ℕ) → k < n → b k ≡ d k) → Figures n c d figures
+pub figures-as :
+    (n : ℕ) (a b c d : ℕ → ℕ) (figures : List ℕ) → Figures n a b figures → ((k : ℕ) → k < n → a k ≡ c k) → ((k : ℕ) → k < n → b k ≡ d k)
+    → Figures n c d figures
 figures-as n a b c d figures f e g = record { long = f .long; has-as = λ k h. f .has-as k h ∙ e k h; owes-as = λ k h. f .owes-as k h ∙ g k h }
-
-pub if-add : (t : Bool) (v x m : ℕ) → (t ≡ true → v ≡ x + m) → (if t then v else x) ≡ x + (if t then m else 0)
-if-add true v x m e = e refl
-if-add false v x m e = omega arith
-
-pub if-sub : (t : Bool) (v x m : ℕ) → (t ≡ true → v ≡ x - m) → (if t then v else x) ≡ x - (if t then m else 0)
-if-sub true v x m e = e refl
-if-sub false v x m e = omega arith
-
-pub if-none-add : (t : Bool) (x m : ℕ) → t ≡ false → (if t then 0 else x) ≡ x + (if t then m else 0)
-if-none-add t x m e = rw e (omega arith)
-
-pub if-none-sub : (t : Bool) (x m : ℕ) → t ≡ false → (if t then 0 else x) ≡ x - (if t then m else 0)
-if-none-sub t x m e = rw e (omega arith)

@@ -5,7 +5,7 @@ use lib.ListN.{length}
 use Rattle.rulebook.specs.Cycle.{seller, buyer}
 use Rattle.rulebook.specs.Ledger.{Ledger}
 use Rattle.rulebook.specs.declared.Item.{Item}
-use Rattle.accounts.specs.Keys.{keyOf}
+use Rattle.book.specs.Keys.{keyOf}
 use Rattle.netting.specs.Marks.{itemIn}
 use Rattle.netting.specs.Figures.{Legs, Figures, cashKey}
 

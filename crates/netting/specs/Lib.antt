@@ -8,5 +8,5 @@ pub mod Filled
 pub mod Slots
 -- what the cycle needs of a ledger
 pub mod Ready
--- what its rounds leave
-pub mod Netted
+-- what it takes and what settles
+pub mod Selected

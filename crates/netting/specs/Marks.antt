@@ -1,12 +1,12 @@
 -- Marks on a waiting list's items: a mask of 64 bits, the first item's the most significant.
-use Prim.Native.Nat.{ℕ, _-_, _/_, _%_, _^_}
+use Prim.Native.Nat.{ℕ, _-_, _*_, _/_, _%_, _^_}
 use mathlib.Core.Bool.{Bool, false}
-use mathlib.Core.List.{List}
-use lib.ListN.{length, getD}
+use mathlib.Core.List.{List, _++_}
+use lib.ListN.{length, getD, drop}
 use Rattle.rulebook.specs.Lists.{if_then_else_, _is_}
 use Rattle.rulebook.specs.Ledger.{sumBelow}
 use Rattle.rulebook.specs.Cycle.{Marked, withMark, legs}
-use Rattle.rulebook.specs.Rows.{Row, postingRows}
+use Rattle.rulebook.specs.Rows.{Row, postingRows, rowsBytes}
 use Rattle.rulebook.specs.declared.Item.{Item}
 use Rattle.rulebook.specs.declared.State.the-variants.{Single}
 use Rattle.words.specs.Places.{listFrom}
@@ -44,3 +44,7 @@ countOn on n = sumBelow n (λ k. if on k then 1 else 0)
 -- the rows of the marked trades
 abbrev pub rowsOf : List Marked → List Row
 rowsOf marked = postingRows (legs (withMark marked))
+
+-- an area that starts with them
+abbrev pub withRows : List Marked → List ℕ → List ℕ
+withRows marked area = rowsBytes (rowsOf marked) ++ drop (16 * length (rowsOf marked)) area

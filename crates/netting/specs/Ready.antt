@@ -6,7 +6,7 @@ use Rattle.rulebook.specs.Ledger.{Ledger}
 use Rattle.rulebook.specs.Premise.{CashFits}
 use Rattle.rulebook.specs.declared.Account.{Account}
 use Rattle.rulebook.specs.declared.Item.{Item}
-use Rattle.accounts.specs.Keys.{InRange}
+use Rattle.book.specs.Keys.{InRange}
 use Rattle.netting.specs.Marks.{itemIn}
 
 -- an item whose legs can be booked

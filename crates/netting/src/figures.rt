@@ -1,14 +1,15 @@
 // The figures of what each leg debits, an account or a member's cash: what is there with what the marked trades bring, and what these take.
 ghost use mathlib.Core.Path.{_≡_};
-ghost use mathlib.Core.Bool.{true, false};
-ghost use Prim.Native.Nat.{ℕ, _+_, _-_, _≤_, _<_};
-ghost use Rattle.rulebook.specs.Lists.{_is_};
+ghost use Prim.Native.Nat.{_+_, _≤_, _<_};
 ghost use lib.ListN.{length, set};
 ghost use Rattle.netting.specs.Marks.{isOn};
-ghost use Rattle.netting.specs.Figures.{OWES, fromAt, toAt, hasAt, owesAt, brings, takes, bringsAll, takesAll, Lent, Figures, Room, Cover, RoomAll, shortAt, lastShort};
-ghost use Rattle.netting.specs.Slots.{Slots, Low, viewed};
+ghost use Rattle.netting.specs.Figures.{OWES, hasAt, Lent, Room, Cover, RoomAll, shortAt, lastShort};
+ghost use Rattle.netting.specs.Slots.{Slots, Low, viewed, WithLeg, WithoutLeg, WithMarked, FineFrom};
 use crate::legs::NUMBER;
 use crate::marks;
+use crate::marks::Marks;
+use rulebook::Cents;
+use rulebook::Shares;
 use words::Found;
 
 const OWES: usize = 64;
@@ -16,8 +17,8 @@ const OWES: usize = 64;
 // The slot of what no leg debits.
 pub const NOWHERE: usize = 64;
 
-// The figures of what the leg at `i` debits.
-pub fn put_figures(figures: &mut [u64], i: usize, has: u64, owes: u64)
+// The figures of what the leg at `i` debits, as words: of shares or of cash, as the columns are.
+fn put_figures(figures: &mut [u64], i: usize, has: u64, owes: u64)
     requires { ⌜ (length (now figures) ≡ 128) × (i < 64) ⌝ }
     ensures { λ u. ⌜ now (figures .exit) ≡ set (set (now (figures .entry)) i has) (i + OWES) owes ⌝ }
 {
@@ -25,10 +26,26 @@ pub fn put_figures(figures: &mut [u64], i: usize, has: u64, owes: u64)
     figures[i + OWES] = owes;
 }
 
+// The account that the leg at `i` debits starts with its balance.
+pub fn start_shares(figures: &mut [u64], i: usize, balance: Shares)
+    requires { ⌜ (length (now figures) ≡ 128) × (i < 64) ⌝ }
+    ensures { λ u. ⌜ now (figures .exit) ≡ set (set (now (figures .entry)) i (balance .0)) (i + OWES) 0 ⌝ }
+{
+    put_figures(figures, i, balance.0, 0);
+}
+
+// The cash that the leg at `i` debits starts with its amount.
+pub fn start_cash(figures: &mut [u64], i: usize, amount: Cents)
+    requires { ⌜ (length (now figures) ≡ 128) × (i < 64) ⌝ }
+    ensures { λ u. ⌜ now (figures .exit) ≡ set (set (now (figures .entry)) i (amount .0)) (i + OWES) 0 ⌝ }
+{
+    put_figures(figures, i, amount.0, 0);
+}
+
 // The figures with the leg of the trade at `j`.
 fn add_trade(figures: &mut [u64], legs: &[u64], slots: &[u64], j: usize, n: usize)
     requires { ⌜ Lent (now figures) (now legs) n × Slots n (now legs) (now slots) × (j < n) × Room n (now legs) j (viewed (now slots) (now figures)) ⌝ }
-    ensures { λ u. ⌜ Figures n (λ k. hasAt (viewed (now (slots .entry)) (now (figures .entry))) k + brings (now (legs .entry)) j k) (λ k. owesAt (viewed (now (slots .entry)) (now (figures .entry))) k + takes (now (legs .entry)) j k) (viewed (now (slots .entry)) (now (figures .exit))) ⌝ }
+    ensures { λ u. ⌜ WithLeg n (now (legs .entry)) (now (slots .entry)) j (now (figures .entry)) (now (figures .exit)) ⌝ }
     ensures { λ u. ⌜ length (now (figures .exit)) ≡ 128 ⌝ }
 {
     let number = legs[j + NUMBER];
@@ -46,9 +63,9 @@ fn add_trade(figures: &mut [u64], legs: &[u64], slots: &[u64], j: usize, n: usiz
 // The figures without the leg of the trade at `j`. From the place that is answered on, no leg debits what is short by this.
 pub fn drop_trade(figures: &mut [u64], legs: &[u64], slots: &[u64], j: usize, n: usize) -> usize
     requires { ⌜ Lent (now figures) (now legs) n × Slots n (now legs) (now slots) × (j < n) × Cover n (now legs) j (viewed (now slots) (now figures)) ⌝ }
-    ensures { λ u. ⌜ Figures n (λ k. hasAt (viewed (now (slots .entry)) (now (figures .entry))) k - brings (now (legs .entry)) j k) (λ k. owesAt (viewed (now (slots .entry)) (now (figures .entry))) k - takes (now (legs .entry)) j k) (viewed (now (slots .entry)) (now (figures .exit))) ⌝ }
+    ensures { λ u. ⌜ WithoutLeg n (now (legs .entry)) (now (slots .entry)) j (now (figures .entry)) (now (figures .exit)) ⌝ }
     ensures { λ u. ⌜ length (now (figures .exit)) ≡ 128 ⌝ }
-    ensures { λ r. ⌜ (r ≤ n) × ((k : ℕ) → r ≤ k → k < n → (toAt (now (legs .entry)) j is fromAt (now (legs .entry)) k) ≡ true → shortAt (viewed (now (slots .entry)) (now (figures .exit))) k ≡ false) ⌝ }
+    ensures { λ r. ⌜ FineFrom n (now (legs .entry)) (now (slots .entry)) j (now (figures .exit)) r ⌝ }
 {
     let number = legs[j + NUMBER];
     let from = slots[j] as usize;
@@ -67,9 +84,9 @@ pub fn drop_trade(figures: &mut [u64], legs: &[u64], slots: &[u64], j: usize, n:
 }
 
 // The figures with the legs of all marked trades.
-pub fn add_marked(figures: &mut [u64], legs: &[u64], slots: &[u64], marks: u64, n: usize)
+pub fn add_marked(figures: &mut [u64], legs: &[u64], slots: &[u64], marks: Marks, n: usize)
     requires { ⌜ Lent (now figures) (now legs) n × Slots n (now legs) (now slots) × RoomAll n (isOn marks) (now legs) (viewed (now slots) (now figures)) ⌝ }
-    ensures { λ u. ⌜ Figures n (λ k. hasAt (viewed (now (slots .entry)) (now (figures .entry))) k + bringsAll n (isOn marks) (now (legs .entry)) k) (λ k. owesAt (viewed (now (slots .entry)) (now (figures .entry))) k + takesAll n (isOn marks) (now (legs .entry)) k) (viewed (now (slots .entry)) (now (figures .exit))) ⌝ }
+    ensures { λ u. ⌜ WithMarked n (isOn marks) (now (legs .entry)) (now (slots .entry)) (now (figures .entry)) (now (figures .exit)) ⌝ }
     ensures { λ u. ⌜ length (now (figures .exit)) ≡ 128 ⌝ }
 {
     let mut j: usize = 0;
@@ -96,7 +113,7 @@ pub fn last_short(
     held_at: &[u64],
     funds: &[u64],
     funds_at: &[u64],
-    marks: u64,
+    marks: Marks,
     n: usize,
 ) -> Found
     requires { ⌜ (length (now held) ≡ 128) × (length (now funds) ≡ 128) × (n ≤ 64) × Low n (now «held_at») × Low n (now «funds_at») ⌝ }

@@ -8,12 +8,14 @@ ghost use Rattle.netting.specs.Figures.{TO, NUMBER, cashKey};
 ghost use Rattle.netting.specs.Filled.{ShareLegs, ShareStart, CashLegs, CashStart};
 ghost use Rattle.netting.specs.Ready.{Ready};
 use crate::figures;
+use rulebook::Cents;
+use rulebook::Shares;
 
 pub const TO: usize = 64;
 
 pub const NUMBER: usize = 128;
 
-// The leg of the trade at `i`.
+// The leg of the trade at `i`, its number as a word: of shares or of cash, as the columns are.
 fn put_leg(legs: &mut [u64], i: usize, from: u64, to: u64, number: u64)
     requires { ⌜ (length (now legs) ≡ 192) × (i < 64) ⌝ }
     ensures { λ u. ⌜ now (legs .exit) ≡ set (set (set (now (legs .entry)) i from) (i + TO) to) (i + NUMBER) number ⌝ }
@@ -21,6 +23,20 @@ fn put_leg(legs: &mut [u64], i: usize, from: u64, to: u64, number: u64)
     legs[i] = from;
     legs[i + TO] = to;
     legs[i + NUMBER] = number;
+}
+
+fn put_share_leg(legs: &mut [u64], i: usize, from: u64, to: u64, quantity: Shares)
+    requires { ⌜ (length (now legs) ≡ 192) × (i < 64) ⌝ }
+    ensures { λ u. ⌜ now (legs .exit) ≡ set (set (set (now (legs .entry)) i from) (i + TO) to) (i + NUMBER) (quantity .0) ⌝ }
+{
+    put_leg(legs, i, from, to, quantity.0);
+}
+
+fn put_cash_leg(legs: &mut [u64], i: usize, from: u64, to: u64, amount: Cents)
+    requires { ⌜ (length (now legs) ≡ 192) × (i < 64) ⌝ }
+    ensures { λ u. ⌜ now (legs .exit) ≡ set (set (set (now (legs .entry)) i from) (i + TO) to) (i + NUMBER) (amount .0) ⌝ }
+{
+    put_leg(legs, i, from, to, amount.0);
 }
 
 // The legs of shares, and the balances that they debit.
@@ -34,11 +50,10 @@ pub fn fill_shares(legs: &mut [u64], figures: &mut [u64], book: &[u64])
     while i < n {
         let trade = book::item_at(book, i);
         let seller = parties::seller_of(trade);
-        let from = accounts::key_of(seller);
-        let to = accounts::key_of(parties::buyer_of(trade));
-        put_leg(legs, i, from, to, trade.quantity.0);
-        let held = book::balance(book, seller);
-        figures::put_figures(figures, i, held.0, 0);
+        let from = book::key_of(seller);
+        let to = book::key_of(parties::buyer_of(trade));
+        put_share_leg(legs, i, from, to, trade.quantity);
+        figures::start_shares(figures, i, book::balance(book, seller));
         i += 1;
     }
 }
@@ -64,9 +79,8 @@ pub fn fill_cash(legs: &mut [u64], figures: &mut [u64], book: &[u64])
         let payer = trade.credited.member;
         let from = cash_key(payer, trade.currency);
         let to = cash_key(trade.debited.member, trade.currency);
-        put_leg(legs, i, from, to, trade.amount.0);
-        let funds = book::cash(book, payer, trade.currency);
-        figures::put_figures(figures, i, funds.0, 0);
+        put_cash_leg(legs, i, from, to, trade.amount);
+        figures::start_cash(figures, i, book::cash(book, payer, trade.currency));
         i += 1;
     }
 }

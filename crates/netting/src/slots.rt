@@ -54,6 +54,15 @@ fn slot_of(legs: &[u64], links: &[u64], key: u64, n: usize) -> u64
     figures::NOWHERE as u64
 }
 
+// The slots of what the leg at `i` debits and credits.
+fn put_slots(slots: &mut [u64], i: usize, from: u64, to: u64)
+    requires { ⌜ (length (now slots) ≡ 128) × (i < 64) ⌝ }
+    ensures { λ u. ⌜ now (slots .exit) ≡ set (set (now (slots .entry)) i from) (i + 64) to ⌝ }
+{
+    slots[i] = from;
+    slots[i + TO] = to;
+}
+
 // The slots of what each leg debits, and of what it credits.
 pub fn fill(slots: &mut [u64], legs: &[u64], n: usize)
     requires { ⌜ (length (now slots) ≡ 128) × (length (now legs) ≡ 192) × (n ≤ 64) ⌝ }
@@ -65,7 +74,7 @@ pub fn fill(slots: &mut [u64], legs: &[u64], n: usize)
     while k < n {
         let from = slot_of(legs, &links, legs[k], n);
         let to = slot_of(legs, &links, legs[k + TO], n);
-        figures::put_figures(slots, k, from, to);
+        put_slots(slots, k, from, to);
         k += 1;
     }
 }

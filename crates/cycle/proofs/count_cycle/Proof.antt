@@ -9,13 +9,19 @@ use Rattle.book.specs.Stored.{Means}
 use Rattle.cycle.proofs.count_cycle.Statement.{statement}
 use Rattle.cycle.proofs.count_cycle.Tie as tie
 
-add-t8 : tie.Need-add-t8
-add-t8 c = omega (arith, ap (λ (d : Day). d .cycles) (c .before .before .day .ensures), c .before .before .before .before .before .pre .1)
+-- the day is read
+abbrev read : tie.After-put-day → tie.After-day
+read c = c .before .before .before
 
 returns : tie.Need-returns
 returns c =
-    let s = c .before .before .before .before .before .before .before .before in
-    subst (λ (d : Day). Means (c .before .before .put-day .last .0) (putDay (oneMoreCycle d) (ledgerOf (s .args .book .now)))) (c .before .before .before .before .before .day .ensures) (c .before .before .put-day .ensures)
+    let put = c .before .before in
+    let s = read put .before .before .before in
+    subst (λ (d : Day). Means (put .put-day .last .0) (putDay (oneMoreCycle d) (ledgerOf (s .args .book .now)))) (read put .day .ensures) (put .put-day .ensures)
 
 pub count-cycle-spec : {M : Type 1} → statement M
-count-cycle-spec = tie.close (tie.spec (λ c κs. search needs) add-t8 (λ c κs. search needs) (λ c. search needs) returns)
+count-cycle-spec =
+    tie.close
+    (tie.spec (λ c κs. search needs)
+    (λ c. let d = c .before in omega (arith, ap (λ (x : Day). x .cycles) (d .day .ensures), d .before .before .before .pre .1))
+    (λ c κs. search needs) (λ c. search needs) returns)

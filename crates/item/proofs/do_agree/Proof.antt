@@ -1,18 +1,17 @@
 -- `item::do_agree` meets its contract. Assumes nothing.
 use borrow.Author.Needs.{needs}
-use borrow.Author.Tests.{le-leb, lt-leb}
-use mathlib.Core.Bool.{and-false, and-true}
+use mathlib.Core.Bool.{and-assoc}
 use Rattle.rulebook.specs.Matching.{agree}
 use Rattle.item.proofs.do_agree.Statement.{statement}
 use Rattle.item.proofs.do_agree.Tie as tie
 
-returns : tie.Need-returns
-unfolding agree
-returns c = simp (lt-leb _ _ (c .if1 .taken), and-false)
-
-returns-2 : tie.Need-returns-2
-unfolding agree
-returns-2 c = simp (c .are-alike .ensures, le-leb _ _ (c .before .before .before .before .before .before .before .before .before .before .before .before .before .before .before .before .before .before .before .if1 .left), and-true)
+-- where the quantities were compared
+abbrev quantities : tie.After-struct-known14 → tie.After-are-equal
+quantities c = c .before .before .before .before .before .before
 
 pub do-agree-spec : {M : Type 1} → statement M
-do-agree-spec = tie.close (tie.spec returns (λ c κs. search needs) returns-2)
+unfolding agree
+do-agree-spec =
+    tie.close
+    (tie.spec (λ c κs. search needs) (λ c κs. search needs) (λ c κs. search needs)
+    (λ c. rw (c .are-close .ensures, ← and-assoc, c .before .are-alike .ensures, quantities (c .before .before) .are-equal .ensures)))

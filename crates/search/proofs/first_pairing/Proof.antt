@@ -14,7 +14,7 @@ use Rattle.search.proofs.first_pairing.Tie as tie
 
 abbrev Inv-loop : tie.InvT-loop
 Inv-loop book limit arriving n i₀ i =
-    (i ≤ n) × (placeFrom (pairsWith limit arriving) i (drop i (waitingOf book)) ≡ placeIn (pairsWith limit arriving) (waitingOf book))
+    (i ≤ n) × (placeFrom (pairsWith (limit .0) arriving) i (drop i (waitingOf book)) ≡ placeIn (pairsWith (limit .0) arriving) (waitingOf book))
 
 abbrev μ-loop : tie.MeasureT-loop
 μ-loop book limit arriving n i₀ i = n - i

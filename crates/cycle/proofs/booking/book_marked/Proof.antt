@@ -12,18 +12,29 @@ use Rattle.cycle.proofs.Walking.{covered}
 use Rattle.cycle.proofs.booking.book_marked.Statement.{statement}
 use Rattle.cycle.proofs.booking.book_marked.Tie as tie
 
+-- ---- places
+
+abbrev entry : tie.After-credit-marked → tie.Start
+entry c = c .before .before .before
+
+abbrev credited : tie.After-debit-marked → tie.After-credit-marked
+credited c = c .before .before .before .before
+
 debit-marked-requires : tie.Need-debit-marked-requires
 unfolding putHoldings
 debit-marked-requires c κs =
-    let s = c .before .before .before .before .before .before in
-    let m = c .before .before .before .credit-marked .ensures in
-    (m .stored, subst (λ (x : Ledger). Covered x (markedOf (s .args .marks) (x .waiting))) (sym (m .ledger)) (covered (ledgerOf (s .args .book .now)) (s .args .marks) (s .pre .1) (s .pre .2)))
+    let f = c .before .before .before in
+    let s = entry f in
+    let m = f .credit-marked .ensures in
+    let there = covered (ledgerOf (s .args .book .now)) (s .args .marks) (s .pre .1) (s .pre .2) in
+    (m .stored, subst (λ (x : Ledger). Covered x (markedOf (s .args .marks) (x .waiting))) (sym (m .ledger)) there)
 
 returns : tie.Need-returns
 unfolding putHoldings booked
 returns c =
-    let marks = c .before .before .before .before .before .before .before .before .before .args .marks in
-    next (λ x. putHoldings (debits (legs (withMark (markedOf marks (x .waiting)))) (x .holdings)) x) (c .before .before .before .before .before .before .credit-marked .ensures) (c .before .before .debit-marked .ensures)
+    let k = c .before .before in
+    let marks = entry (credited k) .args .marks in
+    next (λ x. putHoldings (debits (legs (withMark (markedOf marks (x .waiting)))) (x .holdings)) x) (credited k .credit-marked .ensures) (k .debit-marked .ensures)
 
 pub book-marked-spec : {M : Type 1} → statement M
 book-marked-spec = tie.close (tie.spec (λ c κs. search needs) debit-marked-requires (λ c. search needs) returns)

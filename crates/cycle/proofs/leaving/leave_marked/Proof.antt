@@ -6,6 +6,7 @@ use native.Mathlib.Omega.{arith}
 use borrow.Author.Needs.{needs}
 use borrow.Author.Tests.{not-true, not-false}
 use lib.ListN.{length}
+use Rattle.rulebook.specs.Ledger.{Ledger}
 use Rattle.book.specs.Meaning.{ledgerOf}
 use Rattle.netting.specs.Marks.{noItem}
 use Rattle.cycle.proofs.Staying.{Staying, staying-none, staying-off, staying-on, staying-done}
@@ -18,39 +19,72 @@ Inv-loop book₀ marks n j₀ i₀ book j i = (i ≤ n) × Staying (ledgerOf boo
 abbrev μ-loop : tie.MeasureT-loop
 μ-loop book₀ marks n j₀ i₀ book j i = n - i
 
--- i is a place of the waiting list
-there : (c : tie.In-loop Inv-loop μ-loop) → c .before .loop .i < length (ledgerOf (c .before .before .before .before .before .args .book .now) .waiting)
-there c = omega (arith, c .loop-test .taken, c .before .before .items .ensures)
+-- ---- places
 
-item-at-requires : tie.Need-item-at-requires Inv-loop μ-loop
-item-at-requires c κs = let v = c .before .before .before .before .loop .inv .1 in (v .means .stored, omega (arith, there (c .before .before .before), v .packed .long))
+abbrev entry : tie.At-loop Inv-loop μ-loop → tie.Start Inv-loop μ-loop
+entry l = l .before .before .before .before
+
+abbrev turn : tie.After-item-at-arg Inv-loop μ-loop → tie.In-loop Inv-loop μ-loop
+turn c = c .before .before .before
+
+abbrev moved : tie.After-slice-known2 Inv-loop μ-loop → tie.After-item-at-arg Inv-loop μ-loop
+moved c = c .before .before .before .before .before
+
+abbrev cut : tie.After-keep-first Inv-loop μ-loop → tie.After-loop Inv-loop μ-loop
+cut c = c .before .before
+
+abbrev ledger : tie.At-loop Inv-loop μ-loop → Ledger
+ledger l = ledgerOf (entry l .args .book .now)
+
+-- i is a place of the waiting list
+there : (t : tie.In-loop Inv-loop μ-loop) → t .before .loop .i < length (ledger (t .before) .waiting)
+there t = omega (arith, t .loop-test .taken, t .before .before .items .ensures)
 
 put-item-requires : tie.Need-put-item-requires Inv-loop μ-loop
-put-item-requires c κs = let v = c .before .before .before .before .before .before .loop .inv .1 in (v .means .stored, omega (arith, there (c .before .before .before .before .before), v .packed .behind, v .packed .long))
+put-item-requires c κs =
+    let t = turn (c .before .before) in
+    let v = t .before .loop .inv .1 in
+    (v .means .stored, omega (arith, there t, v .packed .behind, v .packed .long))
 
 loop-again : tie.Need-loop-again Inv-loop μ-loop
 loop-again c =
-    let s = c .before .before .before .before .before .before .before in
-    let l = c .before .before .before .loop in
-    let b = ledgerOf (s .args .book .now) in
+    let t = c .before .before in
+    let h = t .before in
+    let l = h .loop in
+    let b = ledger h in
+    let marks = entry h .args .marks in
     let test = sym (c .before .is-on .ensures) in
     ⊎-elim
-    (λ w. (omega arith, rw (w .7, w .8) (staying-on b (s .args .marks) (l .book) (l .j) (l .i) (l .inv .1) (test ∙ not-true _ (w .0 .taken)) (there (c .before .before)) _ (w .2 .ensures noItem) _ (w .4 .ensures))))
-    (λ w. (omega arith, rw (w .1, w .2) (staying-off b (s .args .marks) (l .book) (l .j) (l .i) (l .inv .1) (test ∙ not-false _ (w .0 .left)))))
+    (λ w. (
+      omega arith,
+      rw (w .7, w .8)
+          (staying-on b marks (l .book) (l .j) (l .i) (l .inv .1) (test ∙ not-true _ (w .0 .taken)) (there t) _ (w .2 .ensures noItem) _ (w .4 .ensures)),
+    ))
+    (λ w. (omega arith, rw (w .1, w .2) (staying-off b marks (l .book) (l .j) (l .i) (l .inv .1) (test ∙ not-false _ (w .0 .left)))))
     (c .if1 .came)
 
 keep-first-requires : tie.Need-keep-first-requires Inv-loop μ-loop
-keep-first-requires c κs = let v = c .before .before .loop .inv .1 in (v .means .stored, omega (arith, c .before .before .loop .inv .0, c .before .before .before .items .ensures, v .packed .behind, v .packed .long))
+keep-first-requires c κs =
+    let h = c .before .before in
+    let v = h .loop .inv in
+    (v .1 .means .stored, omega (arith, v .0, h .before .items .ensures, v .1 .packed .behind, v .1 .packed .long))
 
 returns : tie.Need-returns Inv-loop μ-loop
 returns c =
-    let s = c .before .before .before .before .before .before .before .before .before in
-    let l = c .before .before .before .before .before .loop in
-    staying-done (ledgerOf (s .args .book .now)) (s .args .marks) (l .book) (l .j) (l .i) (l .inv .1) (omega (arith, c .before .before .before .before .loop-test .left, c .before .before .before .before .before .before .items .ensures)) _ (c .before .before .keep-first .ensures)
+    let k = c .before .before in
+    let h = cut k .before in
+    let l = h .loop in
+    staying-done (ledger h) (entry h .args .marks) (l .book) (l .j) (l .i) (l .inv .1)
+    (omega (arith, cut k .loop-test .left, h .before .items .ensures)) _ (k .keep-first .ensures)
 
 pub leave-marked-spec : {M : Type 1} → statement M
 leave-marked-spec =
     tie.close
-    (tie.spec Inv-loop μ-loop (λ c κs. search needs) (λ c. (omega arith, staying-none (c .before .before .before .args .marks) (c .before .before .before .args .book .now) (c .before .before .before .pre .0))) (λ c κs. omega (arith, there c, c .before .before .before .before .before .pre .1))
-    item-at-requires put-item-requires (λ c. omega (arith, there (c .before .before .before .before .before .before .before .before), c .before .before .before .before .before .before .before .before .before .loop .inv .1 .packed .behind, c .before .before .before .before .before .before .before .before .before .before .before .before .before .pre .1)) (λ c. omega arith) (λ c. omega arith) loop-again keep-first-requires
-    (λ c. c .before .before .keep-first .ensures .stored .long ∙ sym (c .before .before .before .before .before .before .before .before .before .pre .0 .long)) returns)
+    (tie.spec Inv-loop μ-loop (λ c κs. search needs)
+    (λ c. let s = c .before .before .before in (omega arith, staying-none (s .args .marks) (s .args .book .now) (s .pre .0)))
+    (λ c κs. omega (arith, there c, entry (c .before) .pre .1))
+    (λ c κs. let t = turn c in let v = t .before .loop .inv .1 in (v .means .stored, omega (arith, there t, v .packed .long)))
+    put-item-requires
+    (λ c. let t = turn (moved c) in omega (arith, there t, t .before .loop .inv .1 .packed .behind, entry (t .before) .pre .1))
+    (λ c. omega arith) (λ c. omega arith) loop-again keep-first-requires
+    (λ c. let k = c .before .before in k .keep-first .ensures .stored .long ∙ sym (entry (cut k .before) .pre .0 .long)) returns)

@@ -1,108 +1,54 @@
--- `netting::figures::add_trade` meets its contract: one store changes the figures of all legs that debit the same. Assumes nothing.
-use Prim.Native.Nat.{ℕ, _+_, _-_, _^_, _≤_, _<_}
-use mathlib.Core.List.{List}
-use mathlib.Core.Path.{_≡_, refl, sym, ap, _∙_}
+-- `netting::figures::add_trade` meets its contract. Assumes nothing.
+use Prim.Native.Nat.{ℕ, _+_, _^_, _<_}
+use mathlib.Core.Path.{_≡_}
 use native.Mathlib.Omega.{arith}
 use borrow.Author.Needs.{needs}
-use borrow.Author.Tests.{eq-eqb}
-use lib.ListN.{length, set, length-set}
-use Rattle.rulebook.specs.Lists.{if_then_else_, _is_}
-use Rattle.netting.specs.Figures.{OWES, fromAt, toAt, numberAt, hasAt, owesAt, brings, takes, Room, Figures}
-use Rattle.netting.specs.Slots.{Slots, viewed}
-use Rattle.netting.proofs.Slotted.{from-low, to-most, owes-there, has-there, to-leg, changed-none, changed-both, has-less, brings-none, figures-as, if-add, if-none-add}
+use lib.ListN.{length}
+use Rattle.netting.specs.Figures.{numberAt, hasAt, owesAt}
+use Rattle.netting.proofs.Changing.{Spot, from-low, to-most, owes-fits, has-fits, one, one-long, both-long, changed-one, changed-two}
 use Rattle.netting.proofs.figures.add_trade.Statement.{statement}
 use Rattle.netting.proofs.figures.add_trade.Tie as tie
 
-module _ (n : ℕ) (legs slots figures : List ℕ) (size : n ≤ 64) (long : length figures ≡ 128) (s : Slots n legs slots) (j : ℕ) (low : j < n) (r : Room n legs j (viewed slots figures)) where
-  owes-fits : owesAt figures (hasAt slots j) + numberAt legs j < 2 ^ 64
-  owes-fits =
-      let e = eq-eqb (fromAt legs j) (fromAt legs j) refl in
-      let h = rw (owes-there n legs slots figures size long s j low j low e, e) at (r .owes j low) in
-      h
+by-none : (x : ℕ) → x + 0 ≡ x
+by-none x = omega arith
 
-  has-fits : owesAt slots j < 64 → (o : ℕ) → hasAt (set figures (hasAt slots j + OWES) o) (owesAt slots j) + numberAt legs j < 2 ^ 64
-  has-fits l o =
-      let t = to-leg n legs slots figures size long s j low l in
-      let h = rw (has-there n legs slots figures size long s j low (owesAt slots j) (t .0) (t .1), t .1) at (r .has (owesAt slots j) (t .0)) in
-      rw (has-less n legs slots figures size long s j low l o) h
+-- ---- places
 
-  -- the figures with one store
-  abbrev less : List ℕ
-  less = set figures (hasAt slots j + OWES) (owesAt figures (hasAt slots j) + numberAt legs j)
+abbrev entry : tie.After-slice-known → tie.Start
+entry c = c .before .before .before .before
 
-  less-long : length less ≡ 128
-  less-long = length-set figures (hasAt slots j + OWES) (owesAt figures (hasAt slots j) + numberAt legs j) ∙ long
+spot : (s : tie.Start) → Spot (s .args .n) (s .args .legs .now) (s .args .slots .now) (s .args .figures .now) (s .args .j)
+spot s = record { size = s .pre .0 .size; long = s .pre .0 .figures-long; slots-as = s .pre .1; low = s .pre .2 }
 
-  both-long : length (set less (owesAt slots j) (hasAt less (owesAt slots j) + numberAt legs j)) ≡ 128
-  both-long = length-set less (owesAt slots j) (hasAt less (owesAt slots j) + numberAt legs j) ∙ less-long
+-- what the trade credits has a slot
+below : (c : tie.Else1) → owesAt (entry (c .before) .args .slots .now) (entry (c .before) .args .j) < 64
+below c = omega (arith, to-most (spot (entry (c .before))), c .if1 .left)
 
-  abbrev After : List ℕ → Type 0
-  After now = Figures n (λ k. hasAt (viewed slots figures) k + brings legs j k) (λ k. owesAt (viewed slots figures) k + takes legs j k) (viewed slots now)
-
-  owes-are : (k : ℕ) → k < n → (if fromAt legs j is fromAt legs k then owesAt figures (hasAt slots j) + numberAt legs j else owesAt (viewed slots figures) k) ≡ owesAt (viewed slots figures) k + takes legs j k
-  owes-are k h =
-      if-add (fromAt legs j is fromAt legs k) _ (owesAt (viewed slots figures) k) (numberAt legs j)
-      (λ e. ap (λ (x : ℕ). x + numberAt legs j) (sym (owes-there n legs slots figures size long s j low k h e)))
-
-  after-none : owesAt slots j ≡ 64 → After (set figures (hasAt slots j + OWES) (owesAt figures (hasAt slots j) + numberAt legs j))
-  after-none e =
-      figures-as n _ _ _ _ _ (changed-none n legs slots figures size long s j low e (owesAt figures (hasAt slots j) + numberAt legs j))
-      (λ k h. if-none-add (toAt legs j is fromAt legs k) (hasAt (viewed slots figures) k) (numberAt legs j) (brings-none n legs slots figures size long s (toAt legs j) (sym (s .owes-as j low) ∙ e) k h))
-      owes-are
-
-  after-both :
-      owesAt slots j < 64
-      → (let less = set figures (hasAt slots j + OWES) (owesAt figures (hasAt slots j) + numberAt legs j) in After (set less (owesAt slots j) (hasAt less (owesAt slots j) + numberAt legs j)))
-  after-both l =
-      let o : ℕ = owesAt figures (hasAt slots j) + numberAt legs j in
-      let v : ℕ = hasAt (set figures (hasAt slots j + OWES) o) (owesAt slots j) + numberAt legs j in
-      figures-as n _ _ _ _ _ (changed-both n legs slots figures size long s j low l o v)
-      (λ k h. if-add (toAt legs j is fromAt legs k) v (hasAt (viewed slots figures) k) (numberAt legs j)
-      (λ e. ap (λ (x : ℕ). x + numberAt legs j) (has-less n legs slots figures size long s j low l o ∙ sym (has-there n legs slots figures size long s j low k h e))))
-      owes-are
-
-low : (s : tie.Start) → hasAt (s .args .slots .now) (s .args .j) < 64
-low s = from-low (s .args .n) (s .args .legs .now) (s .args .slots .now) (s .args .figures .now) (s .pre .0 .size) (s .pre .0 .figures-long) (s .pre .1) (s .args .j) (s .pre .2)
-
-most : (s : tie.Start) → owesAt (s .args .slots .now) (s .args .j) ≤ 64
-most s = to-most (s .args .n) (s .args .legs .now) (s .args .slots .now) (s .args .figures .now) (s .pre .0 .size) (s .pre .0 .figures-long) (s .pre .1) (s .args .j) (s .pre .2)
-
-returns : tie.Need-returns
-returns c =
-    let s = c .before .before .before .before .before in (
-      after-none (s .args .n) (s .args .legs .now) (s .args .slots .now) (s .args .figures .now) (s .pre .0 .size) (s .pre .0 .figures-long) (s .pre .1) (s .args .j) (s .pre .2) (s .pre .3) (c .if1 .taken),
-      less-long (s .args .n) (s .args .legs .now) (s .args .slots .now) (s .args .figures .now) (s .pre .0 .size) (s .pre .0 .figures-long) (s .pre .1) (s .args .j) (s .pre .2) (s .pre .3),
-    )
-
--- a place below 64
-below : (c : tie.Else1) → owesAt (c .before .before .before .before .before .args .slots .now) (c .before .before .before .before .before .args .j) < 64
-below c = omega (arith, most (c .before .before .before .before .before), c .if1 .left)
-
-returns-2 : tie.Need-returns-2
-returns-2 c =
-    let s = c .before .before .before .before .before .before in (
-      after-both (s .args .n) (s .args .legs .now) (s .args .slots .now) (s .args .figures .now) (s .pre .0 .size) (s .pre .0 .figures-long) (s .pre .1) (s .args .j) (s .pre .2) (s .pre .3) (below (c .before)),
-      both-long (s .args .n) (s .args .legs .now) (s .args .slots .now) (s .args .figures .now) (s .pre .0 .size) (s .pre .0 .figures-long) (s .pre .1) (s .args .j) (s .pre .2) (s .pre .3),
-    )
-
+-- the sums fit a word
 owes-room : (s : tie.Start) → owesAt (s .args .figures .now) (hasAt (s .args .slots .now) (s .args .j)) + numberAt (s .args .legs .now) (s .args .j) < 2 ^ 64
-owes-room s = owes-fits (s .args .n) (s .args .legs .now) (s .args .slots .now) (s .args .figures .now) (s .pre .0 .size) (s .pre .0 .figures-long) (s .pre .1) (s .args .j) (s .pre .2) (s .pre .3)
+owes-room s = owes-fits (spot s) (λ x m. x + m < 2 ^ 64) (s .pre .3 .owes)
 
-has-room : (c : tie.Else1) → (let s = c .before .before .before .before .before in hasAt (set (s .args .figures .now) (hasAt (s .args .slots .now) (s .args .j) + OWES) (owesAt (s .args .figures .now) (hasAt (s .args .slots .now) (s .args .j)) + numberAt (s .args .legs .now) (s .args .j))) (owesAt (s .args .slots .now) (s .args .j)) + numberAt (s .args .legs .now) (s .args .j) < 2 ^ 64)
-has-room c = let s = c .before .before .before .before .before in has-fits (s .args .n) (s .args .legs .now) (s .args .slots .now) (s .args .figures .now) (s .pre .0 .size) (s .pre .0 .figures-long) (s .pre .1) (s .args .j) (s .pre .2) (s .pre .3) (below c) _
+has-room :
+    (c : tie.Else1)
+    → (let s = entry (c .before) in hasAt (one (spot s) _+_ by-none) (owesAt (s .args .slots .now) (s .args .j)) + numberAt (s .args .legs .now) (s .args .j) < 2 ^ 64)
+has-room c = let s = entry (c .before) in has-fits (spot s) (λ x m. x + m < 2 ^ 64) (s .pre .3 .has) (below c) _
 
-long : (s : tie.Start) → length (set (s .args .figures .now) (hasAt (s .args .slots .now) (s .args .j) + OWES) (owesAt (s .args .figures .now) (hasAt (s .args .slots .now) (s .args .j)) + numberAt (s .args .legs .now) (s .args .j))) ≡ 128
-long s = less-long (s .args .n) (s .args .legs .now) (s .args .slots .now) (s .args .figures .now) (s .pre .0 .size) (s .pre .0 .figures-long) (s .pre .1) (s .args .j) (s .pre .2) (s .pre .3)
+stored : (c : tie.After-slice-known2) → length (one (spot (entry (c .before .before))) _+_ by-none) ≡ 128
+stored c = one-long (spot (entry (c .before .before))) _+_ by-none
 
 pub add-trade-spec : {M : Type 1} → statement M
 add-trade-spec =
     tie.close
     (tie.spec
     (λ c. omega (arith, c .pre .0 .size)) (λ c. omega (arith, c .pre .0 .size)) (λ c. omega (arith, c .before .pre .0 .size, c .before .pre .0 .legs-long))
-    (λ c. omega (arith, c .before .pre .0 .size)) (λ c. omega (arith, c .before .before .pre .0 .size, c .before .before .pre .1 .long))
-    (λ c. omega (arith, c .before .before .pre .0 .size)) (λ c. omega (arith, c .before .before .pre .0 .size)) (λ c. omega (arith, c .before .before .before .pre .0 .size, c .before .before .before .pre .1 .long))
-    (λ c. omega (arith, low (c .before .before .before))) (λ c. omega (arith, low (c .before .before .before))) (λ c. omega (arith, low (c .before .before .before .before), c .before .before .before .before .pre .0 .figures-long))
-    (λ c. omega (arith, owes-room (c .before .before .before .before)))
-    (λ c. omega (arith, low (c .before .before .before .before))) (λ c. omega (arith, low (c .before .before .before .before))) (λ c. omega (arith, low (c .before .before .before .before), c .before .before .before .before .pre .0 .figures-long))
-    (λ c. search needs) returns
-    (λ c. omega (arith, below c)) (λ c. omega (arith, below (c .before), long (c .before .before .before .before .before .before))) (λ c. omega (arith, has-room (c .before))) (λ c. omega (arith, below (c .before))) (λ c. omega (arith, below (c .before), long (c .before .before .before .before .before .before))) (λ c. search needs) returns-2)
+    (λ c. omega (arith, c .before .pre .0 .size)) (λ c. let s = c .before .before in omega (arith, s .pre .0 .size, s .pre .1 .long))
+    (λ c. omega (arith, c .before .before .pre .0 .size)) (λ c. omega (arith, c .before .before .pre .0 .size))
+    (λ c. let s = c .before .before .before in omega (arith, s .pre .0 .size, s .pre .1 .long))
+    (λ c. omega (arith, from-low (spot (c .before .before .before)))) (λ c. omega (arith, from-low (spot (c .before .before .before))))
+    (λ c. omega (arith, from-low (spot (entry c)), entry c .pre .0 .figures-long)) (λ c. omega (arith, owes-room (entry c)))
+    (λ c. omega (arith, from-low (spot (entry c)))) (λ c. omega (arith, from-low (spot (entry c))))
+    (λ c. omega (arith, from-low (spot (entry c)), entry c .pre .0 .figures-long)) (λ c. search needs)
+    (λ c. let p = spot (entry (c .before)) in (changed-one p _+_ by-none (c .if1 .taken), one-long p _+_ by-none))
+    (λ c. omega (arith, below c)) (λ c. omega (arith, below (c .before), stored c)) (λ c. omega (arith, has-room (c .before)))
+    (λ c. omega (arith, below (c .before))) (λ c. omega (arith, below (c .before), stored c)) (λ c. search needs)
+    (λ c. let p = spot (entry (c .before .before)) in (changed-two p _+_ by-none (below (c .before)), both-long p _+_ by-none)))

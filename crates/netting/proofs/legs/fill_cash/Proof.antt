@@ -1,70 +1,94 @@
 -- `netting::legs::fill_cash` meets its contract. The invariant: the first i legs and figures are those of the first i items. Assumes nothing.
 use mathlib.Core.List.{List}
-use mathlib.Core.Path.{refl, sym, ap, subst, _∙_}
+use mathlib.Core.Path.{_≡_, sym, ap, subst, _∙_}
 use Prim.Native.Nat.{ℕ, _-_, _≤_, _<_}
 use native.Mathlib.Omega.{arith}
 use borrow.Author.Needs.{needs}
 use lib.ListN.{length}
+use Rattle.rulebook.specs.Ledger.{Ledger}
 use Rattle.rulebook.specs.declared.Item.{Item}
 use Rattle.book.specs.Meaning.{ledgerOf}
 use Rattle.netting.specs.Marks.{noItem, itemIn}
-use Rattle.netting.specs.Figures.{Legs, Figures}
 use Rattle.netting.specs.Filled.{payerOf, payeeOf}
 use Rattle.netting.specs.Ready.{Bookable}
-use Rattle.netting.proofs.Filling.{legs-none, legs-more, legs-done, figures-none, figures-more, figures-done}
+use Rattle.netting.proofs.Filling.{Filled, filled-none, filled-more, filled-done}
 use Rattle.netting.proofs.legs.fill_cash.Statement.{statement}
 use Rattle.netting.proofs.legs.fill_cash.Tie as tie
 
-abbrev waiting : List ℕ → List Item
-waiting book = ledgerOf book .waiting
+-- the cash that an item debits
+abbrev cashOf : Ledger → Item → ℕ
+cashOf b t = b.holdings.cash (t .credited .member) (t .currency)
+
+abbrev FilledTo : Ledger → ℕ → (legs figures : List ℕ) → Type 0
+FilledTo b i =
+    let item = itemIn b.waiting in Filled i (λ k. payerOf (item k)) (λ k. payeeOf (item k)) (λ k. item k .amount .0) (λ k. cashOf b (item k))
 
 abbrev Inv-loop : tie.InvT-loop
-Inv-loop legs₀ figures₀ book n i₀ legs figures i =
-    (i ≤ n)
-    × Legs i (λ k. payerOf (itemIn (waiting book) k)) (λ k. payeeOf (itemIn (waiting book) k)) (λ k. itemIn (waiting book) k .amount .0) legs
-    × Figures i (λ k. ledgerOf book .holdings .cash (itemIn (waiting book) k .credited .member) (itemIn (waiting book) k .currency)) (λ k. 0) figures
+Inv-loop legs₀ figures₀ book n i₀ legs figures i = (i ≤ n) × FilledTo (ledgerOf book) i legs figures
 
 abbrev μ-loop : tie.MeasureT-loop
 μ-loop legs₀ figures₀ book n i₀ legs figures i = n - i
 
-loop-holds : tie.Need-loop-holds Inv-loop μ-loop
-loop-holds c = let s = c .before .before .before .before in (omega arith, legs-none _ _ _ (s .args .legs .now) (s .pre .0), figures-none _ _ (s .args .figures .now) (s .pre .1))
+-- ---- places
 
--- i is a place of the waiting list
-there : (c : tie.In-loop Inv-loop μ-loop) → c .before .loop .i < length (waiting (c .before .before .before .before .before .before .args .book .now))
-there c = omega (arith, c .loop-test .taken, c .before .before .items .ensures)
+abbrev entry : tie.At-loop Inv-loop μ-loop → tie.Start Inv-loop μ-loop
+entry l = l .before .before .before .before .before
 
-low : (c : tie.In-loop Inv-loop μ-loop) → c .before .loop .i < 64
-low c = omega (arith, there c, c .before .before .before .before .before .before .pre .3 .size)
+abbrev turn : tie.After-put-cash-leg-arg Inv-loop μ-loop → tie.In-loop Inv-loop μ-loop
+turn c = c .before .before .before .before
 
--- what is read is the item there, which can be booked
+abbrev leg : tie.After-start-cash-arg Inv-loop μ-loop → tie.After-put-cash-leg-arg Inv-loop μ-loop
+leg c = c .before .before .before .before
+
+abbrev start : tie.After-slice-known4 Inv-loop μ-loop → tie.After-start-cash-arg Inv-loop μ-loop
+start c = c .before .before .before .before
+
+-- ---- the item at i
+
+abbrev ledger : tie.In-loop Inv-loop μ-loop → Ledger
+ledger t = ledgerOf (entry (t .before) .args .book .now)
+
+there : (t : tie.In-loop Inv-loop μ-loop) → t .before .loop .i < length (ledger t .waiting)
+there t = omega (arith, t .loop-test .taken, t .before .before .items .ensures)
+
+low : (t : tie.In-loop Inv-loop μ-loop) → t .before .loop .i < 64
+low t = omega (arith, there t, entry (t .before) .pre .3 .size)
+
+-- it is read, and can be booked
 fits : (c : tie.After-item-at Inv-loop μ-loop) → Bookable (c .item-at .result)
-fits c = subst Bookable (sym (c .item-at .ensures noItem)) (c .before .before .before .before .before .before .before .pre .3 .bookable (c .before .before .loop .i) (there (c .before)))
+fits c =
+    let t = c .before in
+    subst Bookable (sym (c .item-at .ensures noItem)) (entry (t .before) .pre .3 .bookable (t .before .loop .i) (there t))
 
 loop-again : tie.Need-loop-again Inv-loop μ-loop
 loop-again c =
-    let s = c .before .before .before .before .before .before .before .before .before .before .before .before .before .before .before .before .before .before in
-    let l = c .before .before .before .before .before .before .before .before .before .before .before .before .before .loop in
-    let e = c .before .before .before .before .before .before .before .before .before .before .before .item-at .ensures noItem in
-    let from = c .before .before .before .before .before .before .before .before .before .before .cash-key .ensures ∙ ap payerOf e in
-    let to = c .before .before .before .before .before .before .before .before .before .cash-key2 .ensures ∙ ap payeeOf e in
-    let number = ap (λ (t : Item). t .amount .0) e in
-    let has = c .before .before .before .before .cash .ensures ∙ ap (λ (t : Item). ledgerOf (s .args .book .now) .holdings .cash (t .credited .member) (t .currency)) e in (
-      omega (arith, c .before .before .before .before .before .before .before .before .before .before .before .before .loop-test .taken),
-      rw (c .before .before .before .before .before .before .before .put-leg .ensures) (legs-more _ _ _ (l .legs) (l .i) (low (c .before .before .before .before .before .before .before .before .before .before .before .before)) (l .inv .1) _ _ _ from to number),
-      rw (c .before .before .put-figures .ensures) (figures-more _ _ (l .figures) (l .i) (low (c .before .before .before .before .before .before .before .before .before .before .before .before)) (l .inv .2) _ _ has refl),
+    let a = leg (start c) in
+    let t = turn a in
+    let l = t .before .loop in
+    let e = a .before .before .before .item-at .ensures noItem in
+    let from = a .before .before .cash-key .ensures ∙ ap payerOf e in
+    let to = a .before .cash-key2 .ensures ∙ ap payeeOf e in
+    let has = c .before .before .before .cash .ensures ∙ ap (cashOf (ledger t)) e in
+    let shown = start c .before .before .before .put-cash-leg .ensures in (
+      omega (arith, t .loop-test .taken),
+      filled-more _ _ _ _ (l .legs) (l .figures) (l .i) (low t) (l .inv .1) _ _ _ _ from to (ap (λ (x : Item). x .amount .0) e) has _ _ shown (c .before .before .start-cash .ensures),
     )
 
 returns : tie.Need-returns Inv-loop μ-loop
 returns c =
     let l = c .before .loop in
-    let all : length (waiting (c .before .before .before .before .before .before .args .book .now)) ≤ l .i = omega (arith, c .loop-test .left, c .before .before .items .ensures) in
-    (legs-done _ _ _ (l .legs) _ (l .i) all (l .inv .1), figures-done _ _ (l .figures) _ (l .i) all (l .inv .2))
+    let all : length (ledgerOf (entry (c .before) .args .book .now) .waiting) ≤ l .i = omega (arith, c .loop-test .left, c .before .before .items .ensures) in
+    let filled = filled-done _ _ _ _ (l .legs) (l .figures) _ (l .i) all (l .inv .1) in
+    (filled .legs-as, filled .start-as)
 
 pub fill-cash-spec : {M : Type 1} → statement M
 fill-cash-spec =
     tie.close
-    (tie.spec Inv-loop μ-loop (λ c κs. search needs) loop-holds
-    (λ c κs. (c .before .before .before .before .before .before .pre .2, there c)) (λ c κs. let f = fits c .pays in (f .member-most, f .currency-most)) (λ c κs. let f = fits (c .before) .paid in (f .member-most, f .currency-most))
-    (λ c κs. (c .before .before .before .before .before .loop .inv .1 .long, low (c .before .before .before .before))) (λ c κs. (c .before .before .before .before .before .before .before .before .before .before .before .before .before .pre .2, fits (c .before .before .before .before .before .before) .pays)) (λ c κs. (c .before .before .before .before .before .before .before .before .before .before .loop .inv .2 .long, low (c .before .before .before .before .before .before .before .before .before)))
-    (λ c. omega (arith, low (c .before .before .before .before .before .before .before .before .before .before .before .before))) (λ c. omega (arith, c .before .before .before .before .before .before .before .before .before .before .before .before .loop-test .taken)) loop-again (λ c. search needs) (λ c. search needs) returns)
+    (tie.spec Inv-loop μ-loop (λ c κs. search needs)
+    (λ c. let s = c .before .before .before .before in (omega arith, filled-none _ _ _ _ (s .args .legs .now) (s .args .figures .now) (s .pre .0) (s .pre .1)))
+    (λ c κs. (entry (c .before) .pre .2, there c)) (λ c κs. let f = fits c .pays in (f .member-most, f .currency-most))
+    (λ c κs. let f = fits (c .before) .paid in (f .member-most, f .currency-most)) (λ c κs. (turn c .before .loop .inv .1 .legs-as .long, low (turn c)))
+    (λ c κs. let a = leg c in (entry (turn a .before) .pre .2, fits (a .before .before .before) .pays))
+    (λ c κs. let t = turn (leg (c .before)) in (t .before .loop .inv .1 .start-as .long, low t))
+    (λ c. omega (arith, low (turn (leg (start c))))) (λ c. omega (arith, turn (leg (start c)) .loop-test .taken)) loop-again
+    (λ c. search needs) (λ c. search needs) returns)

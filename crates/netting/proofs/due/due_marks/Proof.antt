@@ -1,4 +1,4 @@
--- `netting::marks::due_marks` meets its contract. The invariant: the first i items are marked where they are due. Assumes nothing.
+-- `netting::due::due_marks` meets its contract. The invariant: the first i items are marked where they are due. Assumes nothing.
 use mathlib.Core.Logic.{⊎-elim}
 use mathlib.Core.Path.{sym, ap, subst, _∙_}
 use Prim.Native.Nat.{ℕ, _+_, _-_, _≤_, _<_}
@@ -10,8 +10,8 @@ use Rattle.book.specs.Meaning.{ledgerOf}
 use Rattle.netting.specs.Marks.{noItem, itemIn, isOn}
 use Rattle.netting.proofs.Masks.{none-on}
 use Rattle.netting.proofs.Marking.{DueBelow, due-not, due-one, taken-marked}
-use Rattle.netting.proofs.marks.due_marks.Statement.{statement}
-use Rattle.netting.proofs.marks.due_marks.Tie as tie
+use Rattle.netting.proofs.due.due_marks.Statement.{statement}
+use Rattle.netting.proofs.due.due_marks.Tie as tie
 
 abbrev Inv-loop : tie.InvT-loop
 Inv-loop book day n marks₀ i₀ marks i = (i ≤ n) × DueBelow (day .number) (ledgerOf book .waiting) marks i

@@ -1,9 +1,9 @@
--- `netting::marks::is_due` meets its contract, by the item's state. Assumes nothing.
+-- `netting::due::is_due` meets its contract, by the item's state. Assumes nothing.
 use borrow.Author.Needs.{needs}
 use Rattle.rulebook.specs.Cycle.{due}
 use Rattle.rulebook.specs.Waiting.{isTrade}
-use Rattle.netting.proofs.marks.is_due.Statement.{statement}
-use Rattle.netting.proofs.marks.is_due.Tie as tie
+use Rattle.netting.proofs.due.is_due.Statement.{statement}
+use Rattle.netting.proofs.due.is_due.Tie as tie
 
 pub is-due-spec : {M : Type 1} → statement M
 unfolding due isTrade

@@ -1,0 +1,26 @@
+-- Which trades a cycle takes, and which of them settle.
+use Prim.Native.Nat.{ℕ, _≤_}
+use mathlib.Core.Path.{_≡_}
+use lib.ListN.{length}
+use Rattle.rulebook.specs.Ledger.{Ledger}
+use Rattle.rulebook.specs.Cycle.{taken, rounds, settling}
+use Rattle.netting.specs.Marks.{isOn, markedOf, countOn}
+
+-- the marks are those of the trades whose day has come
+abbrev pub Taken : Ledger → (due : ℕ) → Type 0
+Taken b due = markedOf due b.waiting ≡ taken b.day.number b.waiting
+
+-- no mark is new
+abbrev pub Fewer : Ledger → (first left : ℕ) → Type 0
+Fewer b first left = countOn (isOn left) (length b.waiting) ≤ countOn (isOn first) (length b.waiting)
+
+-- what the rounds leave of any marks
+pub record Netted (b : Ledger) (first left : ℕ) : Type 0 where
+  pub marked : markedOf left b.waiting ≡ rounds (length b.waiting) b.holdings (markedOf first b.waiting)
+  pub fewer : Fewer b first left
+
+-- the trades that are due, and those of them that settle
+pub record Selected (b : Ledger) (due settled : ℕ) : Type 0 where
+  pub due-marked : Taken b due
+  pub settled-marked : markedOf settled b.waiting ≡ settling b
+  pub fewer : Fewer b due settled
