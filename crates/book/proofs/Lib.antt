@@ -2,3 +2,4 @@
 pub mod Laws
 pub mod Zeros
 pub mod Admission
+pub mod Handled
