@@ -3,3 +3,4 @@ pub mod Laws
 pub mod Zeros
 pub mod Admission
 pub mod Keys
+pub mod Handled

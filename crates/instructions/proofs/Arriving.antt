@@ -22,12 +22,15 @@ use Rattle.words.specs.declared.Found.{Found}
 use Rattle.words.specs.declared.Found.the-variants.{At, Nothing}
 use Rattle.book.specs.Meaning.{ledgerOf}
 use Rattle.book.specs.Stored.{Means}
-use Rattle.book.specs.Handled.{Given, Handled}
+use Rattle.book.specs.Handled.{Handled}
 use Rattle.book.proofs.Laws.{next}
+use Rattle.book.proofs.Handled.{silent-handled, means-so}
 use Rattle.search.specs.Place.{placeFrom, placeIn}
+use Rattle.search.proofs.Found.{found-some}
+use Rattle.refusals.specs.Given.{Given}
+use Rattle.refusals.proofs.Passed.{known}
 use Rattle.instructions.specs.Paired.{paired}
-use Rattle.search.proofs.Laws.{found-some}
-use Rattle.instructions.proofs.Handling.{silent-handled, means-so, first-false, known}
+use Rattle.instructions.proofs.Roomy.{first-false}
 
 module _ (limit : ℕ) (new : Item) (d : Item) where
   -- what arrives pairs with the one at place i
@@ -93,14 +96,17 @@ module _ (book : List ℕ) (order : Order) where
   place = placeIn (pairsWith limit arriving) (b .waiting)
 
   -- once the earlier single is removed there is room for the pair
-  pub pair-room : (i : ℕ) → Given book order → i < length (b .waiting) → (mid : List ℕ) → Means mid (putWaiting (removeAt i (b .waiting)) b) → length (ledgerOf mid .waiting) < 64
+  pub pair-room :
+      (i : ℕ) → Given book order → i < length (b .waiting) → (mid : List ℕ) → Means mid (putWaiting (removeAt i (b .waiting)) b)
+      → length (ledgerOf mid .waiting) < 64
   pair-room i given l mid m =
       let e : length (ledgerOf mid .waiting) ≡ length (removeAt i (b .waiting)) = unfold putWaiting in ap (λ (x : Ledger). length x.waiting) m.ledger in
       omega (arith, e, removed-length (b .waiting) i l, given.kept.premise.sizes.items)
 
   pub pair-made :
-      (i : ℕ) (waits new pair : Item) (mid after : List ℕ) (r : Counts) → place ≡ At i → ((d : Item) → waits ≡ getD (b .waiting) i d) → new ≡ arriving → pair ≡ paired new waits
-      → Means mid (putWaiting (removeAt i (b .waiting)) b) → Means after (putWaiting (ledgerOf mid .waiting ++ (pair ∷ [])) (ledgerOf mid)) → r ≡ counts 0 0 0 0 0 0
+      (i : ℕ) (waits new pair : Item) (mid after : List ℕ) (r : Counts) → place ≡ At i → ((d : Item) → waits ≡ getD (b .waiting) i d) → new ≡ arriving
+      → pair ≡ paired new waits → Means mid (putWaiting (removeAt i (b .waiting)) b)
+      → Means after (putWaiting (ledgerOf mid .waiting ++ (pair ∷ [])) (ledgerOf mid)) → r ≡ counts 0 0 0 0 0 0
       → (area : List ℕ) → Handled (instruct b order) after area area r
   unfolding instruct putWaiting
   pair-made i waits new pair mid after r e w n p m a c =
@@ -119,7 +125,7 @@ module _ (book : List ℕ) (order : Order) where
     pub alone-room : (order.form oneOf (12 ∷ 13 ∷ [])) ≡ true → length (b .waiting) < 64
     alone-room t =
         let items : ℕ = length (b .waiting) in
-        let space = sym (instruct-space b order (given.kept.premise.sizes) t) ∙ known book order given .space in
+        let space = sym (instruct-space b order (given.kept.premise.sizes) t) ∙ known given .space in
         omega (arith, ltb-false 63 items (first-false (63 below items) _ (simp none at space)))
 
     pub alone-made :
@@ -129,5 +135,6 @@ module _ (book : List ℕ) (order : Order) where
     alone-made new after r n a c =
         silent-handled _ after r
         (means-so after _ _ a
-        (ap (λ (x : Item). putWaiting (b .waiting ++ (x ∷ [])) b) n ∙ ap (λ (l : List Item). putWaiting l b) (sym (arrive-alone limit arriving arriving (b .waiting) none))))
+        (ap (λ (x : Item). putWaiting (b .waiting ++ (x ∷ [])) b) n
+        ∙ ap (λ (l : List Item). putWaiting l b) (sym (arrive-alone limit arriving arriving (b .waiting) none))))
         c

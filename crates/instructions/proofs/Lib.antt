@@ -1,7 +1,4 @@
 -- Laws behind the proofs of the handlers.
-pub mod Handling
+pub mod Roomy
 pub mod Arriving
-pub mod Notices
 pub mod Cancels
-pub mod Closing
-pub mod Closed

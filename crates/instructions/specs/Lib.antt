@@ -1,3 +1,2 @@
--- What forms 12, 13 and 17 do, in parts.
+-- What forms 12 and 13 make of two singles.
 pub mod Paired
-pub mod Closing

@@ -30,12 +30,15 @@ in-run P from (suc count) n r l u = go (n is from) refl (λ l. in-run P (suc fro
 module _ (b : Ledger) (o : Order) where
   pub transfer-is : 5 ≤ o.form → o.form < 10 → effect b o ≡ transfer b o
   unfolding forms rowOf
-  transfer-is l u = effect-at o.form b o refl ∙ in-run (λ n. rowOf n .effect b o ≡ transfer b o) 5 5 o.form (refl and refl and refl and refl and refl and tt) l u
+  transfer-is l u =
+      effect-at o.form b o refl ∙ in-run (λ n. rowOf n .effect b o ≡ transfer b o) 5 5 o.form (refl and refl and refl and refl and refl and tt) l u
 
   pub instruct-is : 12 ≤ o.form → o.form < 14 → effect b o ≡ instruct b o
   unfolding forms rowOf
   instruct-is l u = effect-at o.form b o refl ∙ in-run (λ n. rowOf n .effect b o ≡ instruct b o) 12 2 o.form (refl and refl and tt) l u
 
 -- what was handled is the order's effect
-pub as-effect : {out : Outcome} (b : Ledger) (o : Order) {book before after : List ℕ} {c : Counts} → effect b o ≡ out → Handled out book before after c → Handled (effect b o) book before after c
+pub as-effect :
+    {out : Outcome} (b : Ledger) (o : Order) {book before after : List ℕ} {c : Counts} → effect b o ≡ out → Handled out book before after c
+    → Handled (effect b o) book before after c
 as-effect b o {book} {before} {after} {c} e h = subst (λ (x : Outcome). Handled x book before after c) (sym e) h

@@ -70,7 +70,8 @@ module _ (book octets area : List ℕ) (kept : Kept book) where
           first (refusals b o) ≡ 0 → (first-book last : List ℕ) (area′ : List ℕ) (c : Counts) → Handled (effect b o) first-book area area′ c
           → Means last (putMinute o.minute (ledgerOf first-book)) → Called book octets area (Answer.Accepted c) last area′
       accepts e first-book last area′ c handled means =
-          let is : callOf b octets area ≡ accepted (effect b o) o.minute area = reads (Read.Order o) read ∙ (unfold readCall orderCall in rw (eq-eqb (first (refusals b o)) 0 e)) in
+          let is : callOf b octets area ≡ accepted (effect b o) o.minute area =
+          reads (Read.Order o) read ∙ (unfold readCall orderCall in rw (eq-eqb (first (refusals b o)) 0 e)) in
           let ledger : ledgerOf last ≡ callOf b octets area .book =
           means.ledger ∙ ap (putMinute o.minute) handled.ledger ∙ sym (ap (λ (r : Result). r .book) is ∙ (unfold accepted in refl)) in
           let answered : Answer.Accepted c ≡ callOf b octets area .answer =

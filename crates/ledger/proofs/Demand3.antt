@@ -8,13 +8,18 @@ use Rattle.rulebook.specs.Calls.{Call, call, Made, resultOf, callsOn, bookAfter
 use Rattle.rulebook.proofs.Demand3.{demand3}
 use Rattle.book.specs.Meaning.{ledgerOf}
 use Rattle.book.specs.Stored.{Kept}
-use Rattle.ledger.specs.Reached.{Reached, made, called}
+use Rattle.rulebook.specs.declared.Answer.{Answer}
+use Rattle.ledger.specs.Reached.{Reached, made, called, ReachedBalanced}
+
+-- a call, as it is answered on a book
+abbrev madeOn : Ledger → Call → Made
+madeOn b c = record { made = c; answer = resultOf b c .answer; area = resultOf b c .area }
 
 -- a list of calls with one more
-calls-more : (b : Ledger) (cs : List Call) (c : Call) → callsOn b (cs ++ (c ∷ [])) ≡ callsOn b cs ++ (record { made = c; answer = resultOf (bookAfter b cs) c .answer; area = resultOf (bookAfter b cs) c .area } ∷ [])
+calls-more : (b : Ledger) (cs : List Call) (c : Call) → callsOn b (cs ++ (c ∷ [])) ≡ callsOn b cs ++ (madeOn (bookAfter b cs) c ∷ [])
 unfolding callsOn bookAfter
 calls-more b [] c = refl
-calls-more b (d ∷ cs) c = ap (λ (l : List Made). record { made = d; answer = resultOf b d .answer; area = resultOf b d .area } ∷ l) (calls-more (resultOf b d .book) cs c)
+calls-more b (d ∷ cs) c = ap (λ (l : List Made). madeOn b d ∷ l) (calls-more (resultOf b d .book) cs c)
 
 after-more : (b : Ledger) (cs : List Call) (c : Call) → bookAfter b (cs ++ (c ∷ [])) ≡ resultOf (bookAfter b cs) c .book
 unfolding bookAfter
@@ -33,20 +38,21 @@ unfolding bookAfter callsOn resultOf
 follows (made f) = record { calls = []; kept = f .kept refl; ledger = f .ledger refl; made = refl }
 follows (called {book} {book′} {history} octets area {answer} {area′} r c) =
     let before = follows r in
-    let at : Ledger → Result = λ (b : Ledger). callOf b octets area in
+    let one : Call = call octets area in
+    let last = bookAfter fresh (before .calls) in
+    let answered : answer ≡ resultOf last one .answer = c .answered ∙ ap (λ (b : Ledger). callOf b octets area .answer) (before .ledger) in
+    let written : area′ ≡ resultOf last one .area = c .written ∙ ap (λ (b : Ledger). callOf b octets area .area) (before .ledger) in
     record {
-      calls = before .calls ++ (call octets area ∷ []);
+      calls = before .calls ++ (one ∷ []);
       kept = c .kept;
-      ledger = c .ledger ∙ ap (λ (b : Ledger). callOf b octets area .book) (before .ledger) ∙ sym (after-more fresh (before .calls) (call octets area));
+      ledger = c .ledger ∙ ap (λ (b : Ledger). callOf b octets area .book) (before .ledger) ∙ sym (after-more fresh (before .calls) one);
       made =
-          ap (λ (h : List Made). h ++ (record { made = call octets area; answer = answer; area = area′ } ∷ [])) (before .made)
-          ∙ (λ i. callsOn fresh (before .calls) ++ (record { made = call octets area; answer = (c .answered ∙ ap (λ (b : Ledger). callOf b octets area .answer) (before .ledger)) i; area = (c .written ∙ ap (λ (b : Ledger). callOf b octets area .area) (before .ledger)) i } ∷ []))
-          ∙ sym (calls-more fresh (before .calls) (call octets area));
+          (λ i. before .made i ++ (record { made = one; answer = answered i; area = written i } ∷ [])) ∙ sym (calls-more fresh (before .calls) one);
     }
 
--- DEMAND 3 OF THE CODE'S OWN BOOKS
-pub reached-balanced : {book : List ℕ} {history : List Made} → Reached book history → Balanced history (ledgerOf book)
-unfolding Demand3
-reached-balanced {book} {history} r =
+pub reached-balanced : ReachedBalanced
+unfolding Demand3 ReachedBalanced
+reached-balanced book history r =
     let f = follows r in
-    subst (λ (h : List Made). Balanced h (ledgerOf book)) (sym (f .made)) (subst (Balanced (callsOn fresh (f .calls))) (sym (f .ledger)) (demand3 (f .calls)))
+    subst (λ (h : List Made). Balanced h (ledgerOf book)) (sym (f .made))
+    (subst (Balanced (callsOn fresh (f .calls))) (sym (f .ledger)) (demand3 (f .calls)))

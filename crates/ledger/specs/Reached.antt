@@ -2,8 +2,9 @@
 use Prim.Native.Nat.{ℕ}
 use mathlib.Core.Bool.{true}
 use mathlib.Core.List.{List, [], _∷_, _++_}
-use Rattle.rulebook.specs.Calls.{call, Made}
+use Rattle.rulebook.specs.Calls.{call, Made, Balanced}
 use Rattle.rulebook.specs.declared.Answer.{Answer}
+use Rattle.book.specs.Meaning.{ledgerOf}
 use Rattle.book.specs.Fresh.{Freshened}
 use Rattle.ledger.specs.Called.{Called}
 
@@ -12,5 +13,9 @@ pub data Reached : List ℕ → List Made → Type 0 where
   made : {before book : List ℕ} → Freshened before true book → Reached book []
   -- the words that `call` left, with the call, its answer and its area when it returned
   called :
-      {book book′ : List ℕ} {history : List Made} (octets area : List ℕ) {answer : Answer} {area′ : List ℕ} → Reached book history → Called book octets area answer book′ area′
-      → Reached book′ (history ++ (record { made = call octets area; answer = answer; area = area′ } ∷ []))
+      {book book′ : List ℕ} {history : List Made} (octets area : List ℕ) {answer : Answer} {area′ : List ℕ} → Reached book history
+      → Called book octets area answer book′ area′ → Reached book′ (history ++ (record { made = call octets area; answer = answer; area = area′ } ∷ []))
+
+-- RULES 12.1: every book that was reached is balanced
+unfoldable pub ReachedBalanced : Type 0
+ReachedBalanced = (book : List ℕ) (history : List Made) → Reached book history → Balanced history (ledgerOf book)

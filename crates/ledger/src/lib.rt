@@ -5,11 +5,11 @@ ghost use mathlib.Core.Path.{_≡_};
 ghost use Rattle.rulebook.specs.Record.{readNumber};
 ghost use Rattle.rulebook.specs.Forms.{effect};
 ghost use Rattle.book.specs.Meaning.{ledgerOf};
-ghost use Rattle.book.specs.Stored.{Stored, Kept, Means};
+ghost use Rattle.book.specs.Stored.{Kept};
 ghost use Rattle.book.specs.Fresh.{Freshened};
-ghost use Rattle.book.specs.Handled.{Accepted, Handled};
+ghost use Rattle.book.specs.Handled.{Handled};
+ghost use Rattle.refusals.specs.Given.{Accepted};
 ghost use Rattle.ledger.specs.Called.{Called};
-ghost use Rattle.rulebook.specs.Call.{putMinute};
 pub use reading::accounts;
 pub use reading::balance;
 pub use reading::cash;
@@ -21,7 +21,6 @@ pub use reading::securities;
 pub use reading::security_at;
 use rulebook::Answer;
 use rulebook::Counts;
-use rulebook::Day;
 use rulebook::Order;
 use rulebook::Read;
 
@@ -35,47 +34,30 @@ pub fn fresh(book: &mut [u64]) -> bool
     book::fresh(book)
 }
 
-// What an accepted order does, by its form.
+// What an accepted order does, by its form. A number without a form does nothing.
 fn handle(book: &mut [u64], order: Order, area: &mut [u8]) -> Counts
     requires { ⌜ Accepted (now book) order (now area) ⌝ }
     ensures { λ r. ⌜ Handled (effect (ledgerOf (now (book .entry))) order) (now (book .exit)) (now (area .entry)) (now (area .exit)) r ⌝ }
 {
     let form = order.form;
     match form {
-        1 => forms::open_day(book, order),
-        2 => forms::admit(book, order, area),
-        3 => forms::deposit(book, order, area),
-        4 => forms::withdraw(book, order, area),
-        5 | 6 | 7 | 8 | 9 => forms::transfer(book, order, area),
-        10 => forms::pay_in(book, order, area),
-        11 => forms::pay_out(book, order, area),
+        1 => day::open_day(book, order),
+        2 => movements::admit(book, order, area),
+        3 => movements::deposit(book, order, area),
+        4 => movements::withdraw(book, order, area),
+        5 | 6 | 7 | 8 | 9 => movements::transfer(book, order, area),
+        10 => movements::pay_in(book, order, area),
+        11 => movements::pay_out(book, order, area),
         12 | 13 => instructions::instruct(book, order),
         14 => instructions::trade(book, order),
         15 => instructions::cancel(book, order, area),
         16 => cycle::run(book, area),
-        _ => instructions::close(book, order, area),
+        17 => day::close(book, order, area),
+        _ => rows::no_counts(),
     }
 }
 
-// Every accepted call sets the last minute.
-fn put_minute(book: &mut [u64], minute: u64)
-    requires { ⌜ Stored (now book) ⌝ }
-    ensures { λ u. ⌜ Means (now (book .exit)) (putMinute minute (ledgerOf (now (book .entry)))) ⌝ }
-{
-    let day = book::day(book);
-    book::put_day(
-        book,
-        Day {
-            number: day.number,
-            opened: day.opened,
-            kind: day.kind,
-            cycles: day.cycles,
-            minute: minute,
-        },
-    );
-}
-
-// This paper's number for what the reader answers.
+// The number of what the reader answers.
 fn number_of(read: Read) -> u64
     ensures { λ r. ⌜ r ≡ readNumber read ⌝ }
 {
@@ -102,6 +84,6 @@ pub fn call(book: &mut [u64], record: &[u8], area: &mut [u8]) -> Answer
         return Answer::Refused(refusal);
     }
     let counts = handle(book, order, area);
-    put_minute(book, order.minute);
+    day::put_minute(book, order.minute);
     Answer::Accepted(counts)
 }

@@ -2,5 +2,3 @@
 pub mod Putting
 -- a number's digits: how many there are, and that they read back as the number
 pub mod Digits
--- the paper's five lines
-pub mod Desk

@@ -4,3 +4,5 @@ pub mod AnswerLines
 pub mod Blocks
 -- the lines of the first securities, and one more
 mod CustodyLines
+-- the example of RULES 13.7
+pub mod FiveLines

@@ -1,2 +1,3 @@
--- What the printing program prints.
+-- What the printing program prints, and an example.
 pub mod Printed
+pub mod FiveLines

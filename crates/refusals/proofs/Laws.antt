@@ -19,7 +19,7 @@ use Rattle.words.specs.Places.{isFound}
 use Rattle.words.specs.declared.Found.{Found}
 use Rattle.words.specs.declared.Found.the-variants.{At, Nothing}
 use Rattle.search.specs.Place.{placeIn}
-use Rattle.search.proofs.Laws.{Passes, found-some, found-passes}
+use Rattle.search.proofs.Found.{Passes, found-some, found-passes}
 
 -- where none passes one test, none passes it together with another
 pub none-both : {A : Type 0} (one other : A → Bool) (l : List A) → some one l ≡ false → some (λ x. one x && other x) l ≡ false

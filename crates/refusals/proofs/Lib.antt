@@ -4,3 +4,4 @@ pub mod Windows
 pub mod Growth
 pub mod Orders
 pub mod Roomy
+pub mod Passed

@@ -14,7 +14,7 @@ use Rattle.rulebook.specs.declared.Order.{Order}
 use Rattle.rulebook.proofs.ByCall.{HasForm, by-row}
 use Rattle.rulebook.proofs.Orders.{OrderFits, Ranges, read-fits, read-ranges, needs, needed}
 use Rattle.accounts.specs.Keys.{InRange}
-use Rattle.book.specs.Handled.{WasRead}
+use Rattle.refusals.specs.Given.{WasRead}
 
 -- forms 3 to 9 have a quantity
 without-quantity : ℕ → Form → Bool

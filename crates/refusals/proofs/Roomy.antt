@@ -14,7 +14,7 @@ use Rattle.rulebook.proofs.ByCall.{HasForm}
 use Rattle.rulebook.proofs.Sizes.{never-grows}
 use Rattle.rulebook.proofs.Space.{deposit-space, transfer-space, instruct-space, trade-space, sides-apart}
 use Rattle.rulebook.proofs.Orders.{debit-enough}
-use Rattle.book.specs.Handled.{WasRead}
+use Rattle.refusals.specs.Given.{WasRead}
 use Rattle.refusals.specs.Room.{isFull, isListFull, SidesPassed}
 use Rattle.refusals.proofs.Laws.{within-parts}
 use Rattle.refusals.proofs.Growth.{wider, instruction, never}

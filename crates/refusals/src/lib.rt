@@ -9,7 +9,7 @@ ghost use Rattle.rulebook.specs.Lists.{if_then_else_, first};
 ghost use Rattle.rulebook.specs.Refusals.{refusals};
 ghost use Rattle.book.specs.Meaning.{ledgerOf};
 ghost use Rattle.book.specs.Stored.{Kept};
-ghost use Rattle.book.specs.Handled.{WasRead};
+ghost use Rattle.refusals.specs.Given.{WasRead};
 use rulebook::Order;
 
 // A refusal's number where its test applies, else what the later tests give. A stage puts its last test first.

@@ -5,7 +5,7 @@ ghost use Rattle.rulebook.specs.Lists.{first};
 ghost use Rattle.rulebook.specs.Refusals.{wrongSecurity, wrongPair, wrongParties, wrongDays, orderTests};
 ghost use Rattle.book.specs.Meaning.{ledgerOf};
 ghost use Rattle.book.specs.Stored.{Stored};
-ghost use Rattle.book.specs.Handled.{WasRead};
+ghost use Rattle.refusals.specs.Given.{WasRead};
 use rulebook::Order;
 
 // RULES 7.10: an unknown security, or one that is admitted again.

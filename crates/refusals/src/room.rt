@@ -4,7 +4,7 @@ ghost use Rattle.rulebook.specs.Lists.{first};
 ghost use Rattle.rulebook.specs.Refusals.{tooLittle, overCeiling, noSpace, roomTests};
 ghost use Rattle.book.specs.Meaning.{ledgerOf};
 ghost use Rattle.book.specs.Stored.{Kept};
-ghost use Rattle.book.specs.Handled.{WasRead};
+ghost use Rattle.refusals.specs.Given.{WasRead};
 ghost use Rattle.refusals.specs.Room.{isFull, isListFull, isMatched, OrderPassed, SidesPassed};
 use rulebook::Order;
 use rulebook::State;

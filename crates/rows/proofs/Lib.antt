@@ -1,3 +1,4 @@
 pub mod Laws
 pub mod RowBytes
 pub mod P2
+pub mod Notices

@@ -1,4 +1,4 @@
-// Posting rows and notices, 16 bytes each. The area that a function is lent starts at the next free byte; the bytes after its rows are kept.
+// Posting rows and notices, 16 bytes each, and the counts that are answered with them. The area that a function is lent starts at the next free byte; the bytes after its rows are kept.
 ghost use mathlib.Core.Path.{_≡_};
 ghost use mathlib.Core.List.{[], _∷_, _++_};
 ghost use Prim.Native.Nat.{_≤_};
@@ -6,9 +6,11 @@ ghost use lib.ListN.{length, drop};
 ghost use Rattle.rulebook.specs.Movements.{account, cashOf, move};
 ghost use Rattle.rulebook.specs.Cycle.{legs};
 ghost use Rattle.rulebook.specs.Rows.{postingBytes, noticeBytes, postingOf, postingRows, notice, noticeOf, rowsBytes, deliverReference, receiveReference};
+ghost use Rattle.rulebook.specs.Forms.{counts};
 ghost use Rattle.rows.specs.Widths.{PostingFits, NoticeFits, AccountFits, CashFits, TradeFits};
 use rulebook::Account;
 use rulebook::Cents;
+use rulebook::Counts;
 use rulebook::Item;
 use rulebook::Notice;
 use rulebook::Posting;
@@ -169,4 +171,18 @@ pub fn write_notice(area: &mut [u8], kind: u64, item: Item)
         0,
     ];
     bits::pack_bits(area, &NOTICE_WIDTHS, &values);
+}
+
+// The counts of a form that writes no row; one that does stores its own into them.
+pub fn no_counts() -> Counts
+    ensures { λ r. ⌜ r ≡ counts 0 0 0 0 0 0 ⌝ }
+{
+    Counts {
+        rows: 0,
+        settled: 0,
+        cancelled: 0,
+        deleted: 0,
+        suspended: 0,
+        left: 0,
+    }
 }

@@ -7,161 +7,116 @@ use borrow.Author.Tests.{le-leb}
 use borrow.Author.Needs.{needs}
 use Rattle.rulebook.specs.Forms.{forms, rowOf}
 use Rattle.rulebook.proofs.ByCall.{HasForm, effect-at}
-use Rattle.book.specs.Meaning.{ledgerOf}
 use Rattle.refusals.proofs.Orders.{ranges}
 use Rattle.refusals.proofs.Growth.{instruction}
 use Rattle.ledger.proofs.ByForm.{transfer-is, instruct-is, as-effect}
 use Rattle.ledger.proofs.handle.Statement.{statement}
 use Rattle.ledger.proofs.handle.Tie as tie
 
-abbrev start : tie.After-slice-known2 → tie.Start
-start c = c .before .before
+abbrev start : tie.At-match-rest → tie.Start
+start c = c .before .before .before
+
+abbrev form : tie.At-match-rest → ℕ
+form c = start c .args .order .form
 
 -- past one number more
 past : (k n : ℕ) → k ≤ n → (n ≡ k → ⊥) → k + 1 ≤ n
 past k n l a = omega (arith, a)
 
--- the forms that share a handler, past those before them, and the last
+-- the forms that share a handler, past those before them
 
-transfers : (c : tie.Then2) → (5 ≤ start (c .before .before .before) .args .order .form) × (start (c .before .before .before) .args .order .form < 10)
+transfers : (c : tie.Then2) → let n = form (c .before .before) in (5 ≤ n) × (n < 10)
 transfers c =
-    let rest = c .before .before .match .rest .0 .0 .0 .0 .0 in
+    let rest = c .before .before .match .rest .0 .0 .0 .0 .0 .0 in
     (past 4 _ (past 3 _ (past 2 _ (past 1 _ (c .before .if1 .left) (rest .0 .0 .0 .1)) (rest .0 .0 .1)) (rest .0 .1)) (rest .1), c .if2 .taken)
 
-instructs : (c : tie.Then3) → (12 ≤ start (c .before .before .before .before) .args .order .form) × (start (c .before .before .before .before) .args .order .form < 14)
+instructs : (c : tie.Then3) → let n = form (c .before .before .before) in (12 ≤ n) × (n < 14)
 instructs c =
-    let rest = c .before .before .before .match .rest .0 .0 .0 in
+    let rest = c .before .before .before .match .rest .0 .0 .0 .0 in
     (past 11 _ (past 10 _ (c .before .if2 .left) (rest .0 .1)) (rest .1), c .if3 .taken)
-
-last-form : (n : ℕ) → HasForm n → 17 ≤ n → n ≡ 17
-unfolding forms
-last-form n h l = omega (arith, h .1)
 
 either-way : {A B C : Type 0} → (A → C) → (B → C) → A ⊎ B → C
 either-way f g (inl a) = f a
 either-way f g (inr b) = g b
 
-closes : (c : tie.Joined1) → start (c .before .before) .args .order .form ≡ 17
-closes c =
-    let has : HasForm (start (c .before .before) .args .order .form) = ranges _ (start (c .before .before) .pre .read) .form in
+-- every form has an arm
+none-left : (n : ℕ) → HasForm n → 18 ≤ n → ⊥
+unfolding forms
+none-left n h l = omega (arith, h .1)
+
+no-form : tie.Joined1 → ⊥
+no-form c =
+    let has : HasForm (form (c .before)) = ranges _ (start (c .before) .pre .given .read) .form in
     let rest = c .before .match .rest in
     either-way (λ t. absurd (omega (arith, t .taken, has .0)))
-    (λ t. last-form _ has (past 16 _ (past 15 _ (past 14 _ (t .2 .left) (rest .0 .0 .1)) (rest .0 .1)) (rest .1)))
+    (λ t. none-left _ has (past 17 _ (past 16 _ (past 15 _ (past 14 _ (t .2 .left) (rest .0 .0 .0 .1)) (rest .0 .0 .1)) (rest .0 .1)) (rest .1)))
     (c .if1 .came)
 
 transfer-requires : tie.Need-transfer-requires
 transfer-requires c κs =
     let here = c .before .before in
     let f = transfers here in
-    (start (here .before .before .before) .pre, f .0, omega (arith, f .1))
+    (start (here .before .before) .pre, f .0, omega (arith, f .1))
 
 instruct-requires : tie.Need-instruct-requires
 instruct-requires c κs =
     let here = c .before in
-    let s = start (here .before .before .before .before) in
+    let s = start (here .before .before .before) in
     let f = instructs here in
-    (record { kept = s .pre .kept; read = s .pre .read; passes = s .pre .passes }, instruction (s .args .order .form) (rw (le-leb _ _ (f .0), le-leb (s .args .order .form) 13 (omega (arith, f .1)))))
-
-close-requires : tie.Need-close-requires
-close-requires c κs =
-    let here = c .before .before in
-    (start (here .before .before) .pre, closes here)
+    let least = le-leb _ _ (f .0) in
+    (s .pre .given, instruction (s .args .order .form) (rw (least, le-leb (s .args .order .form) 13 (omega (arith, f .1)))))
 
 returns : tie.Need-returns
 unfolding forms rowOf
-returns c =
-    let done = c .before .before in
-    let here = done .before .before in
-    let s = start (here .before) in
-    as-effect (ledgerOf (s .args .book .now)) (s .args .order) (effect-at 1 _ _ (here .match .keys1)) (done .open-day .ensures _)
+returns c = let done = c .before .before in as-effect _ _ (effect-at 1 _ _ (done .before .before .match .keys1)) (done .open-day .ensures _)
 
 returns-2 : tie.Need-returns-2
 unfolding forms rowOf
-returns-2 c =
-    let done = c .before .before .before .before in
-    let here = done .before .before .before in
-    let s = start (here .before) in
-    as-effect (ledgerOf (s .args .book .now)) (s .args .order) (effect-at 2 _ _ (here .match .keys2)) (done .admit .ensures)
+returns-2 c = let done = c .before .before .before .before in as-effect _ _ (effect-at 2 _ _ (done .before .before .before .match .keys2)) (done .admit .ensures)
 
 returns-3 : tie.Need-returns-3
 unfolding forms rowOf
-returns-3 c =
-    let done = c .before .before .before .before in
-    let here = done .before .before .before in
-    let s = start (here .before) in
-    as-effect (ledgerOf (s .args .book .now)) (s .args .order) (effect-at 3 _ _ (here .match .keys3)) (done .deposit .ensures)
+returns-3 c = let done = c .before .before .before .before in as-effect _ _ (effect-at 3 _ _ (done .before .before .before .match .keys3)) (done .deposit .ensures)
 
 returns-4 : tie.Need-returns-4
 unfolding forms rowOf
-returns-4 c =
-    let done = c .before .before .before .before in
-    let here = done .before .before .before in
-    let s = start (here .before) in
-    as-effect (ledgerOf (s .args .book .now)) (s .args .order) (effect-at 4 _ _ (here .match .keys4)) (done .withdraw .ensures)
+returns-4 c = let done = c .before .before .before .before in as-effect _ _ (effect-at 4 _ _ (done .before .before .before .match .keys4)) (done .withdraw .ensures)
 
 returns-5 : tie.Need-returns-5
 unfolding forms rowOf
-returns-5 c =
-    let done = c .before .before .before .before in
-    let here = done .before .before .before in
-    let s = start (here .before) in
-    as-effect (ledgerOf (s .args .book .now)) (s .args .order) (effect-at 10 _ _ (here .match .keys5)) (done .pay-in .ensures)
+returns-5 c = let done = c .before .before .before .before in as-effect _ _ (effect-at 10 _ _ (done .before .before .before .match .keys5)) (done .pay-in .ensures)
 
 returns-6 : tie.Need-returns-6
 unfolding forms rowOf
-returns-6 c =
-    let done = c .before .before .before .before in
-    let here = done .before .before .before in
-    let s = start (here .before) in
-    as-effect (ledgerOf (s .args .book .now)) (s .args .order) (effect-at 11 _ _ (here .match .keys6)) (done .pay-out .ensures)
+returns-6 c = let done = c .before .before .before .before in as-effect _ _ (effect-at 11 _ _ (done .before .before .before .match .keys6)) (done .pay-out .ensures)
 
 returns-7 : tie.Need-returns-7
 unfolding forms rowOf
-returns-7 c =
-    let done = c .before .before in
-    let here = done .before .before in
-    let s = start (here .before) in
-    as-effect (ledgerOf (s .args .book .now)) (s .args .order) (effect-at 14 _ _ (here .match .keys7)) (done .trade .ensures _)
+returns-7 c = let done = c .before .before in as-effect _ _ (effect-at 14 _ _ (done .before .before .match .keys7)) (done .trade .ensures _)
 
 returns-8 : tie.Need-returns-8
 unfolding forms rowOf
-returns-8 c =
-    let done = c .before .before .before .before in
-    let here = done .before .before .before in
-    let s = start (here .before) in
-    as-effect (ledgerOf (s .args .book .now)) (s .args .order) (effect-at 15 _ _ (here .match .keys8)) (done .cancel .ensures)
+returns-8 c = let done = c .before .before .before .before in as-effect _ _ (effect-at 15 _ _ (done .before .before .before .match .keys8)) (done .cancel .ensures)
 
 returns-9 : tie.Need-returns-9
 unfolding forms rowOf
-returns-9 c =
-    let done = c .before .before .before .before in
-    let here = done .before .before .before in
-    let s = start (here .before) in
-    as-effect (ledgerOf (s .args .book .now)) (s .args .order) (effect-at 16 _ _ (here .match .keys9)) (done .run .ensures _)
+returns-9 c = let done = c .before .before .before .before in as-effect _ _ (effect-at 16 _ _ (done .before .before .before .match .keys9)) (done .run .ensures _)
 
 returns-10 : tie.Need-returns-10
-returns-10 c =
-    let done = c .before .before .before .before in
-    let here = done .before .before .before in
-    let s = start (here .before .before .before) in
-    let f = transfers here in
-    as-effect (ledgerOf (s .args .book .now)) (s .args .order) (transfer-is _ _ (f .0) (f .1)) (done .transfer .ensures)
+unfolding forms rowOf
+returns-10 c = let done = c .before .before .before .before in as-effect _ _ (effect-at 17 _ _ (done .before .before .before .match .keys10)) (done .close .ensures)
 
 returns-11 : tie.Need-returns-11
 returns-11 c =
-    let done = c .before .before in
-    let here = done .before .before in
-    let s = start (here .before .before .before .before) in
-    let f = instructs here in
-    as-effect (ledgerOf (s .args .book .now)) (s .args .order) (instruct-is _ _ (f .0) (f .1)) (done .instruct .ensures _)
+    let done = c .before .before .before .before in
+    let f = transfers (done .before .before .before) in
+    as-effect _ _ (transfer-is _ _ (f .0) (f .1)) (done .transfer .ensures)
 
 returns-12 : tie.Need-returns-12
-unfolding forms rowOf
 returns-12 c =
-    let done = c .before .before .before .before in
-    let here = done .before .before .before in
-    let s = start (here .before .before) in
-    as-effect (ledgerOf (s .args .book .now)) (s .args .order) (effect-at 17 _ _ (closes here)) (done .close .ensures)
+    let done = c .before .before in
+    let f = instructs (done .before .before) in
+    as-effect _ _ (instruct-is _ _ (f .0) (f .1)) (done .instruct .ensures _)
 
 pub handle-spec : {M : Type 1} → statement M
 handle-spec =
@@ -176,9 +131,10 @@ handle-spec =
     (λ c κs. search needs)
     (λ c κs. search needs)
     (λ c κs. search needs)
+    (λ c κs. search needs)
     transfer-requires
     instruct-requires
-    close-requires
+    (λ c κs. search needs)
     (λ c. search needs)
     returns
     (λ c. search needs)
@@ -208,7 +164,8 @@ handle-spec =
     (λ c. search needs)
     returns-10
     (λ c. search needs)
+    (λ c. search needs)
     returns-11
     (λ c. search needs)
-    (λ c. search needs)
-    returns-12)
+    returns-12
+    (λ c. absurd (no-form (c .before))))

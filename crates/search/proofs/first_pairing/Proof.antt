@@ -8,7 +8,7 @@ use Rattle.rulebook.specs.Matching.{pairsWith}
 use Rattle.book.specs.Meaning.{waitingOf}
 use Rattle.waiting_list.specs.Waiting.{itemOf}
 use Rattle.search.specs.Place.{placeFrom, placeIn}
-use Rattle.search.proofs.Laws.{place-here, place-later, place-none}
+use Rattle.search.proofs.Found.{place-here, place-later, place-none}
 use Rattle.search.proofs.first_pairing.Statement.{statement}
 use Rattle.search.proofs.first_pairing.Tie as tie
 

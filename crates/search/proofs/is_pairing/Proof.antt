@@ -2,7 +2,7 @@
 use mathlib.Core.Path.{_≡_, refl, sym, ap, _∙_}
 use borrow.Author.Needs.{needs}
 use Rattle.rulebook.specs.Matching.{pairsWith}
-use Rattle.search.proofs.Laws.{not-true}
+use Rattle.search.proofs.Found.{not-true}
 use Rattle.search.proofs.is_pairing.Statement.{statement}
 use Rattle.search.proofs.is_pairing.Tie as tie
 

@@ -4,7 +4,7 @@ use borrow.Author.Tests.{not-true}
 use borrow.Author.Needs.{needs}
 use Rattle.rulebook.specs.Refusals.{wrongReference}
 use Rattle.words.specs.Places.{isFound}
-use Rattle.search.proofs.Laws.{found-some}
+use Rattle.search.proofs.Found.{found-some}
 use Rattle.refusals.proofs.Laws.{not-waiting}
 use Rattle.refusals.proofs.items.wrong_reference.Statement.{statement}
 use Rattle.refusals.proofs.items.wrong_reference.Tie as tie

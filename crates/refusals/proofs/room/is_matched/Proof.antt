@@ -2,7 +2,7 @@
 use mathlib.Core.Path.{ap, _∙_}
 use borrow.Author.Needs.{needs}
 use Rattle.words.specs.Places.{isFound}
-use Rattle.search.proofs.Laws.{found-some}
+use Rattle.search.proofs.Found.{found-some}
 use Rattle.rulebook.specs.Matching.{pairsWith}
 use Rattle.refusals.proofs.room.is_matched.Statement.{statement}
 use Rattle.refusals.proofs.room.is_matched.Tie as tie

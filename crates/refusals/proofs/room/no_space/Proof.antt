@@ -12,7 +12,7 @@ use Rattle.rulebook.specs.declared.Order.{Order}
 use Rattle.refusals.specs.Room.{isListFull}
 use Rattle.rulebook.proofs.Space.{admit-space, deposit-space, transfer-space, instruct-space, sides-apart}
 use Rattle.rulebook.proofs.Orders.{debit-enough}
-use Rattle.search.proofs.Laws.{not-true}
+use Rattle.search.proofs.Found.{not-true}
 use Rattle.refusals.proofs.Laws.{within-parts}
 use Rattle.refusals.proofs.Growth.{wider, instruction}
 use Rattle.refusals.proofs.Roomy.{not-false, roomy, last}

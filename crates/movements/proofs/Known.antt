@@ -1,0 +1,173 @@
+-- What is known of a book and an order that no refusal applies to, as the book's functions ask for it. Assumes nothing.
+use Prim.Native.Nat.{ℕ, _+_, _-_, _≤_, _<_, _^_}
+use mathlib.Core.Path.{_≡_, refl, sym, ap, subst, _∙_}
+use mathlib.Core.Bool.{Bool, true, false, _&&_, not, false≢true}
+use mathlib.Core.List.{List}
+use native.Mathlib.Omega.{arith}
+use lib.ListN.{length}
+use borrow.Author.Tests.{ltb-false, eq-eqb, eqb-true, ne-eqb}
+use Rattle.rulebook.specs.Lists.{if_then_else_, _is_, _isNot_, _below_, within, first}
+use Rattle.rulebook.specs.Ledger.{Ledger, Holdings, accountOf, sameAccount, admitted, outsideOf, counted, putBalance, putHoldings}
+use Rattle.rulebook.specs.Movements.{account, credit, debit}
+use Rattle.rulebook.specs.Premise.{Premise, CashFits}
+use Rattle.rulebook.specs.Field as Field
+use Rattle.rulebook.specs.Forms.{forms, rowOf, used, least}
+use Rattle.rulebook.specs.Refusals.{refusals, wrongSecurity, overCeiling}
+use Rattle.rulebook.specs.declared.Account.{Account}
+use Rattle.rulebook.specs.declared.Order.{Order}
+use Rattle.rulebook.proofs.Orders.{little-parts, debit-enough, not-admitted, needed}
+use Rattle.rulebook.proofs.Bounds.{balance-fits, outside-fits, cash-fits}
+use Rattle.rulebook.proofs.Space.{admit-space, deposit-space, transfer-space, sides-apart, same-sym}
+use Rattle.accounts.specs.Keys.{InRange}
+use Rattle.accounts.specs.Map.{CreditFits}
+use Rattle.parties.specs.Counted.{outsideAccount}
+use Rattle.rows.specs.Widths.{AccountFits}
+use Rattle.rows.specs.Widths as rows
+use Rattle.book.specs.Meaning.{ledgerOf}
+use Rattle.book.proofs.Laws.{stored-counted}
+use Rattle.refusals.specs.Given.{Given}
+use Rattle.refusals.proofs.Passed.{known}
+use Rattle.refusals.proofs.Orders.{fits, ranges, debited-named, credited-named, some-quantity, payer}
+use Rattle.movements.proofs.Swap.{counted-among, counted-some, counted-most, counted-zero, debit-first}
+
+-- what a posting row can name is what an account's key can
+pub row-fits : (a : Account) → InRange a → AccountFits a
+row-fits a r = record { security = r.security; member = r.member; typ = r.typ; shareholder = r.shareholder }
+
+-- types 90 and 91
+pub outside-row : (typ security : ℕ) → typ < 2 ^ 8 → security < 2 ^ 14 → AccountFits (outsideAccount typ security)
+outside-row typ security l m = record { security = m; member = omega arith; typ = l; shareholder = omega arith }
+
+-- a member's cash as a row names it, and member 0
+pub cash-row : (m c : ℕ) → CashFits m c → rows.CashFits m c × rows.CashFits 0 c
+cash-row m c f = (
+  record { member-fits = omega (arith, f .member-most); currency-fits = omega (arith, f .currency-most) },
+  record { member-fits = omega arith; currency-fits = omega (arith, f .currency-most) },
+)
+
+both-false : (x y : Bool) → (x && y) ≡ false → x ≡ true → y ≡ false
+both-false true y e t = e
+both-false false y e t = absurd (false≢true t)
+
+module _ (book : List ℕ) (o : Order) (g : Given book o) where
+  abbrev b : Ledger
+  b = ledgerOf book
+
+  abbrev from : Account
+  from = accountOf o.security o.debited
+
+  abbrev to : Account
+  to = accountOf o.security o.credited
+
+  abbrev room : ℕ
+  room = b.holdings.accounts + length b.waiting
+
+  -- ---- form 2
+
+  pub new-security : o.form ≡ 2 → (length b.holdings.securities < 32) × (admitted o.security b.holdings ≡ false)
+  unfolding admitted
+  new-security e =
+      let full = ltb-false 31 (length b.holdings.securities) (sym (admit-space b o g.kept.premise.sizes e) ∙ known g .space) in
+      (omega (arith, full), not-admitted b o e (known g .security))
+
+  -- ---- forms 3 and 4
+
+  pub deposit-enough : o.form ≡ 3 → o.quantity.0 ≤ outsideOf o.security b.holdings
+  deposit-enough e = ltb-false _ _ (both-false _ _ (little-parts b o (known g .little) .0) (eq-eqb o.form 3 e))
+
+  pub deposit-fits : o.form ≡ 3 → CreditFits to (b.holdings.balance to) b.holdings.accounts o.quantity.0
+  deposit-fits e =
+      let l : 3 ≤ o.form = omega (arith, e) in
+      let u : o.form ≤ 9 = omega (arith, e) in
+      let q = some-quantity o g.read l u in
+      let full = sym (deposit-space b o g.kept.premise.sizes e q) ∙ known g .space in
+      record {
+        named = credited-named o g.read;
+        some = q;
+        word = omega (arith, balance-fits b g.kept.premise to, fits o g.read .quantity);
+        room = λ z. omega (arith, ltb-false 255 room (both-false (b.holdings.balance to is 0) (255 below room) full (eq-eqb _ 0 z)));
+      }
+
+  pub outside-fits-word : outsideOf o.security b.holdings + o.quantity.0 < 2 ^ 64
+  outside-fits-word = omega (arith, outside-fits b g.kept.premise o.security, fits o g.read .quantity)
+
+  -- ---- forms 4 to 9
+
+  pub debits-enough : {a : Account} → a ≡ from → within 4 9 o.form ≡ true → o.quantity.0 ≤ b.holdings.balance a
+  debits-enough e t = rw e (debit-enough b o (known g .little) t)
+
+  -- ---- forms 5 to 9
+
+  module _ (l : 5 ≤ o.form) (u : o.form ≤ 9) (t : within 4 9 o.form ≡ true) where
+    quantity : 1 ≤ o.quantity.0
+    quantity = some-quantity o g.read (omega arith) u
+
+    apart : sameAccount to from ≡ false
+    apart = sides-apart b o l u (known g .types) (known g .parties)
+
+    listed : 1 ≤ b.holdings.accounts
+    listed =
+        let some = counted-some (b.holdings.balance from) (omega (arith, debits-enough refl t, quantity)) in
+        omega (arith, stored-counted book g.kept.stored, counted-among b.holdings from (debited-named o g.read), some)
+
+    apart′ : sameAccount from to ≡ false
+    apart′ = same-sym from to ∙ apart
+
+    pub transfer-swap :
+        {x y : Account} → x ≡ from → y ≡ to
+        → credit (account y) o.quantity.0 (debit (account x) o.quantity.0 b.holdings)
+        ≡ debit (account x) o.quantity.0 (credit (account y) o.quantity.0 b.holdings)
+    transfer-swap e f = rw (e, f) (debit-first b.holdings from to o.quantity.0 quantity (debits-enough refl t) apart apart′ listed)
+
+    abbrev opens : Bool
+    opens = b.holdings.balance to is 0 && b.holdings.balance from isNot o.quantity.0
+
+    abbrev debited : Holdings
+    debited = debit (account from) o.quantity.0 b.holdings
+
+    debited-fits : CreditFits to (debited .balance to) (debited .accounts) o.quantity.0
+    unfolding debit putBalance
+    debited-fits = rw apart′ (record {
+      named = credited-named o g.read;
+      some = quantity;
+      word = omega (arith, balance-fits b g.kept.premise to, fits o g.read .quantity);
+      room = λ z. left (b.holdings.balance from is o.quantity.0) refl (eq-eqb _ 0 z);
+    })
+      where
+        full : (opens && 255 below room) ≡ false
+        full = sym (transfer-space b o g.kept.premise.sizes l u quantity (debits-enough refl t) apart) ∙ known g .space
+
+        -- the debited account is emptied, or there is room
+        left :
+            (same : Bool) → (b.holdings.balance from is o.quantity.0) ≡ same → (b.holdings.balance to is 0) ≡ true
+            → b.holdings.accounts + counted (b.holdings.balance from - o.quantity.0) - counted (b.holdings.balance from) < 256
+        left true e z =
+            let gone : b.holdings.balance from - o.quantity.0 ≡ 0 = omega (arith, eqb-true (b.holdings.balance from) o.quantity.0 e) in
+            let some = counted-some (b.holdings.balance from) (omega (arith, debits-enough refl t, quantity)) in
+            omega (arith, ap counted gone ∙ counted-zero, some, listed, g.kept.premise.sizes.accounts)
+        left false e z =
+            let some = counted-some (b.holdings.balance from) (omega (arith, debits-enough refl t, quantity)) in
+            let space = ltb-false 255 room (both-false opens (255 below room) full (rw (z, e))) in
+            omega (arith, space, counted-most (b.holdings.balance from - o.quantity.0), some)
+
+    -- once the debited account is debited
+    pub transfer-fits :
+        {x y : Account} {now : Ledger} → x ≡ from → y ≡ to → now ≡ putHoldings (debit (account x) o.quantity.0 b.holdings) b
+        → CreditFits y (now .holdings .balance y) (now .holdings .accounts) o.quantity.0
+    unfolding putHoldings
+    transfer-fits e f n = rw (n, e, f) debited-fits
+
+  -- ---- forms 10 and 11
+
+  pub payee : o.form ≡ 10 → CashFits o.credited.member o.currency
+  unfolding used least forms rowOf
+  payee e =
+      let m = ranges o g.read .credited (needed 10 Field.credited-member o e refl) in
+      let c = ranges o g.read .currency (needed 10 Field.currency o e refl) in
+      record { member-least = m .0; member-most = m .1; currency-least = c .0; currency-most = c .1 }
+
+  pub pay-in-fits : b.holdings.cash o.credited.member o.currency + o.amount.0 < 2 ^ 64
+  pay-in-fits = omega (arith, cash-fits b g.kept.premise o.credited.member o.currency, fits o g.read .amount)
+
+  pub pay-out-enough : o.form ≡ 11 → o.amount.0 ≤ b.holdings.cash o.debited.member o.currency
+  pay-out-enough e = ltb-false _ _ (both-false _ _ (little-parts b o (known g .little) .2) (eq-eqb o.form 11 e))

@@ -1,0 +1,79 @@
+-- `movements::deposit` meets its contract. Assumes nothing.
+use mathlib.Core.Path.{refl, sym, subst}
+use native.Mathlib.Omega.{arith}
+use borrow.Author.Needs.{needs}
+use Rattle.rulebook.specs.Movements.{account, type91}
+use Rattle.rulebook.specs.Rows.{postingRows, postingOf}
+use Rattle.rulebook.specs.Forms.{deposit}
+use Rattle.rulebook.specs.declared.Account.{Account}
+use Rattle.accounts.specs.Map.{CreditFits}
+use Rattle.rows.specs.Widths.{AccountFits}
+use Rattle.book.specs.Meaning.{ledgerOf}
+use Rattle.refusals.proofs.Orders.{fits, credited-named}
+use Rattle.movements.proofs.Known.{deposit-fits, deposit-enough, outside-row, row-fits}
+use Rattle.movements.proofs.Moved.{outside-kept, between}
+use Rattle.movements.proofs.deposit.Statement.{statement}
+use Rattle.movements.proofs.deposit.Tie as tie
+
+abbrev start : tie.After-account-of → tie.Start
+start c = c .before .before .before .before
+
+abbrev to : tie.After-credit → tie.After-account-of
+to c = c .before .before
+
+abbrev credited : tie.After-debit-outside → tie.After-credit
+credited c = c .before .before .before .before
+
+abbrev debited : tie.After-write-shares-arg → tie.After-debit-outside
+debited c = c .before .before .before
+
+credit-requires : tie.Need-credit-requires
+credit-requires c κs =
+    let s = start (c .before) in
+    let h = ledgerOf (s .args .book .now) .holdings in (
+      s .pre .0 .given .kept .stored,
+      subst (λ (a : Account). CreditFits a (h .balance a) (h .accounts) (s .args .order .quantity .0)) (sym (c .before .account-of .ensures))
+          (deposit-fits _ _ (s .pre .0 .given) (s .pre .1)),
+    )
+
+debit-outside-requires : tie.Need-debit-outside-requires
+debit-outside-requires c κs =
+    let credited = c .before .before .before in
+    let s = start (to credited) in
+    let same = outside-kept (ledgerOf (s .args .book .now)) _ _ _ (s .args .order .security) (credited .credit .ensures) in
+    (credited .credit .ensures .stored, rw same (deposit-enough _ _ (s .pre .0 .given) (s .pre .1)))
+
+write-shares-requires : tie.Need-write-shares-requires
+write-shares-requires c κs =
+    let to = to (credited (debited c)) in
+    let s = start to in (
+      omega (arith, s .pre .0 .room),
+      subst AccountFits (sym (to .before .outside-account .ensures)) (outside-row 91 _ (omega arith) (fits _ (s .pre .0 .given .read) .security)),
+      subst AccountFits (sym (to .account-of .ensures)) (row-fits _ (credited-named _ (s .pre .0 .given .read))),
+    )
+
+returns : tie.Need-returns
+unfolding deposit postingRows postingOf
+returns c =
+    let wrote = c .before .before .before in
+    let debited = debited (wrote .before) in
+    let credited = credited debited in
+    let to = to credited in
+    let order = start to .args .order in
+    between (ledgerOf (start to .args .book .now)) (c .two-rows .ensures) (λ a. type91 (order .security)) account (order .quantity .0)
+    (to .before .outside-account .ensures) (to .account-of .ensures) refl
+    (credited .credit .ensures) (debited .debit-outside .ensures) (wrote .write-shares .ensures)
+
+pub deposit-spec : {M : Type 1} → statement M
+deposit-spec =
+    tie.close
+    (tie.spec
+    (λ c κs. search needs)
+    (λ c κs. search needs)
+    credit-requires
+    debit-outside-requires
+    write-shares-requires
+    (λ c κs. search needs)
+    (λ c. search needs)
+    (λ c. search needs)
+    returns)

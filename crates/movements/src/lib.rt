@@ -1,0 +1,92 @@
+// Forms 2 to 11, on a book of words: admission, and what moves shares or cash.
+ghost use mathlib.Core.Path.{_≡_};
+ghost use Prim.Native.Nat.{_≤_};
+ghost use Rattle.rulebook.specs.Forms.{counts, admit, deposit, withdraw, transfer, payIn, payOut};
+ghost use Rattle.book.specs.Meaning.{ledgerOf};
+ghost use Rattle.book.specs.Handled.{Handled};
+ghost use Rattle.refusals.specs.Given.{Accepted};
+use rulebook::Counts;
+use rulebook::Order;
+
+// A movement is written as two rows, and nothing else is counted.
+fn two_rows() -> Counts
+    ensures { λ r. ⌜ r ≡ counts 2 0 0 0 0 0 ⌝ }
+{
+    let mut counts = rows::no_counts();
+    counts.rows = 2;
+    counts
+}
+
+// 2. Admit: 90 to 91; issued and outside both become the quantity.
+pub fn admit(book: &mut [u64], order: Order, area: &mut [u8]) -> Counts
+    requires { ⌜ Accepted (now book) order (now area) × (order .form ≡ 2) ⌝ }
+    ensures { λ r. ⌜ Handled (admit (ledgerOf (now (book .entry))) order) (now (book .exit)) (now (area .entry)) (now (area .exit)) r ⌝ }
+{
+    book::admit(book, order.security, order.quantity);
+    let issued = parties::issued_account(order.security);
+    let outside = parties::outside_account(order.security);
+    rows::write_shares(area, issued, outside, order.quantity);
+    two_rows()
+}
+
+// 3. Deposit: 91 to the account.
+pub fn deposit(book: &mut [u64], order: Order, area: &mut [u8]) -> Counts
+    requires { ⌜ Accepted (now book) order (now area) × (order .form ≡ 3) ⌝ }
+    ensures { λ r. ⌜ Handled (deposit (ledgerOf (now (book .entry))) order) (now (book .exit)) (now (area .entry)) (now (area .exit)) r ⌝ }
+{
+    let outside = parties::outside_account(order.security);
+    let to = parties::account_of(order.security, order.credited);
+    book::credit(book, to, order.quantity);
+    book::debit_outside(book, order.security, order.quantity);
+    rows::write_shares(area, outside, to, order.quantity);
+    two_rows()
+}
+
+// 4. Withdrawal the reverse.
+pub fn withdraw(book: &mut [u64], order: Order, area: &mut [u8]) -> Counts
+    requires { ⌜ Accepted (now book) order (now area) × (order .form ≡ 4) ⌝ }
+    ensures { λ r. ⌜ Handled (withdraw (ledgerOf (now (book .entry))) order) (now (book .exit)) (now (area .entry)) (now (area .exit)) r ⌝ }
+{
+    let outside = parties::outside_account(order.security);
+    let from = parties::account_of(order.security, order.debited);
+    book::credit_outside(book, order.security, order.quantity);
+    book::debit(book, from, order.quantity);
+    rows::write_shares(area, from, outside, order.quantity);
+    two_rows()
+}
+
+// 5 to 9. Transfer, pledge, release, block, unblock: the debited account to the credited one. The debit comes first, so that a full book has
+// room for the account that is opened where one is emptied.
+pub fn transfer(book: &mut [u64], order: Order, area: &mut [u8]) -> Counts
+    requires { ⌜ Accepted (now book) order (now area) × (5 ≤ order .form) × (order .form ≤ 9) ⌝ }
+    ensures { λ r. ⌜ Handled (transfer (ledgerOf (now (book .entry))) order) (now (book .exit)) (now (area .entry)) (now (area .exit)) r ⌝ }
+{
+    let from = parties::account_of(order.security, order.debited);
+    let to = parties::account_of(order.security, order.credited);
+    book::debit(book, from, order.quantity);
+    book::credit(book, to, order.quantity);
+    rows::write_shares(area, from, to, order.quantity);
+    two_rows()
+}
+
+// 10. Pay-in: member 0 to the member.
+pub fn pay_in(book: &mut [u64], order: Order, area: &mut [u8]) -> Counts
+    requires { ⌜ Accepted (now book) order (now area) × (order .form ≡ 10) ⌝ }
+    ensures { λ r. ⌜ Handled (payIn (ledgerOf (now (book .entry))) order) (now (book .exit)) (now (area .entry)) (now (area .exit)) r ⌝ }
+{
+    let member = order.credited.member;
+    book::credit_cash(book, member, order.currency, order.amount);
+    rows::write_cash(area, order.currency, 0, member, order.amount);
+    two_rows()
+}
+
+// 11. Pay-out the reverse.
+pub fn pay_out(book: &mut [u64], order: Order, area: &mut [u8]) -> Counts
+    requires { ⌜ Accepted (now book) order (now area) × (order .form ≡ 11) ⌝ }
+    ensures { λ r. ⌜ Handled (payOut (ledgerOf (now (book .entry))) order) (now (book .exit)) (now (area .entry)) (now (area .exit)) r ⌝ }
+{
+    let member = order.debited.member;
+    book::debit_cash(book, member, order.currency, order.amount);
+    rows::write_cash(area, order.currency, member, 0, order.amount);
+    two_rows()
+}
