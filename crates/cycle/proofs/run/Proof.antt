@@ -77,7 +77,8 @@ returns c = λ order.
     let k = booked l in
     let n = selected (written k) in
     let e = counted n .items .ensures in
-    handled (ledger n) _ _ (n .select .ensures) _ _ (k .book-marked .ensures) (l .leave-marked .ensures) _ (o .count-cycle .ensures) order (entry n .args .area .now) _
+    handled (ledger n) _ _ (n .select .ensures) _ _ (k .book-marked .ensures) (l .leave-marked .ensures) _ (o .count-cycle .ensures) order
+    (entry n .args .area .now) _
     (c .counts-of .result) (written k .write-marked .ensures) (rw e at (c .counts-of .ensures))
 
 pub run-spec : {M : Type 1} → statement M

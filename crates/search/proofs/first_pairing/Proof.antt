@@ -29,7 +29,8 @@ is-pairing-requires c κs = (c .before .before .before .before .pre, inside c)
 returns : tie.Need-returns Inv-loop μ-loop
 returns c =
     let turn = c .before .before in
-    sym (place-here (pairsWith _ _) _ _ (inside turn) (itemOf []) (sym (c .before .is-pairing .ensures (itemOf [])) ∙ c .if1 .taken)) ∙ turn .before .loop .inv .1
+    sym (place-here (pairsWith _ _) _ _ (inside turn) (itemOf []) (sym (c .before .is-pairing .ensures (itemOf [])) ∙ c .if1 .taken))
+    ∙ turn .before .loop .inv .1
 
 loop-again : tie.Need-loop-again Inv-loop μ-loop
 loop-again c =

@@ -60,7 +60,8 @@ loop-again c =
     ⊎-elim
     (λ w. (
       omega arith,
-      subst (Credited b marks (l .i + 1)) (sym (w .7)) (credit-on b marks (l .i) (l .book) (test ∙ w .0 .taken) _ (w .2 .ensures noItem) (l .inv .1) _ (w .4 .ensures)),
+      subst (Credited b marks (l .i + 1)) (sym (w .7))
+          (credit-on b marks (l .i) (l .book) (test ∙ w .0 .taken) _ (w .2 .ensures noItem) (l .inv .1) _ (w .4 .ensures)),
     ))
     (λ w. (omega arith, subst (Credited b marks (l .i + 1)) (sym (w .1)) (credit-off b marks (l .i) (l .book) (l .inv .1) (test ∙ w .0 .left))))
     (c .if1 .came)

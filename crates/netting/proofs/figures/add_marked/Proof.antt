@@ -14,7 +14,8 @@ use Rattle.netting.proofs.figures.add_marked.Statement.{statement}
 use Rattle.netting.proofs.figures.add_marked.Tie as tie
 
 abbrev Inv-loop : tie.InvT-loop
-Inv-loop figures₀ legs slots marks n j₀ figures j = (j ≤ n) × (length figures ≡ 128) × Added n (isOn marks) legs (viewed slots figures₀) j (viewed slots figures)
+Inv-loop figures₀ legs slots marks n j₀ figures j =
+    (j ≤ n) × (length figures ≡ 128) × Added n (isOn marks) legs (viewed slots figures₀) j (viewed slots figures)
 
 abbrev μ-loop : tie.MeasureT-loop
 μ-loop figures₀ legs slots marks n j₀ figures j = n - j
@@ -34,7 +35,8 @@ add-trade-requires c κs =
       record { figures-long = l .inv .1; legs-long = s .pre .0 .legs-long; size = s .pre .0 .size },
       s .pre .1,
       c .before .before .before .loop-test .taken,
-      added-room (s .args .n) (isOn (s .args .marks)) (s .args .legs .now) (before s) (l .j) (c .before .before .before .loop-test .taken) (viewed (s .args .slots .now) (l .figures)) (l .inv .2) (sym (c .before .before .is-on .ensures) ∙ c .before .if1 .taken) (s .pre .2),
+      added-room (s .args .n) (isOn (s .args .marks)) (s .args .legs .now) (before s) (l .j) (c .before .before .before .loop-test .taken)
+          (viewed (s .args .slots .now) (l .figures)) (l .inv .2) (sym (c .before .before .is-on .ensures) ∙ c .before .if1 .taken) (s .pre .2),
     )
 
 loop-again : tie.Need-loop-again Inv-loop μ-loop
@@ -43,7 +45,9 @@ loop-again c =
     let l = c .before .before .before .loop in
     let low = c .before .before .loop-test .taken in
     let test = c .before .is-on .ensures in
-    let now : List ℕ → Type 0 = λ f. (length f ≡ 128) × Added (s .args .n) (isOn (s .args .marks)) (s .args .legs .now) (before s) (l .j + 1) (viewed (s .args .slots .now) f) in
+    let now : List ℕ → Type 0 =
+    λ f. (length f ≡ 128) × Added (s .args .n) (isOn (s .args .marks)) (s .args .legs .now) (before s) (l .j + 1) (viewed (s .args .slots .now) f)
+    in
     ⊎-elim
     (λ w. let p = subst now (sym (w .5)) (w .2 .ensures .1, added-on (s .args .n) (isOn (s .args .marks)) (s .args .legs .now) (before s) (l .j) low (viewed (s .args .slots .now) (l .figures)) (l .inv .2) (sym test ∙ w .0 .taken) _ (w .2 .ensures .0)) in (omega arith, p .0, p .1))
     (λ w. let p = subst now (sym (w .1)) (l .inv .1, added-off (s .args .n) (isOn (s .args .marks)) (s .args .legs .now) (before s) (l .j) low (viewed (s .args .slots .now) (l .figures)) (l .inv .2) (sym test ∙ w .0 .left)) in (omega arith, p .0, p .1))

@@ -10,4 +10,5 @@ returns c =
     rw (has-viewed (s .args .slots .now) (s .args .figures .now) (s .args .i) (s .pre .2), owes-viewed (s .args .slots .now) (s .args .figures .now) (s .args .i) (s .pre .2))
 
 pub is-short-spec : {M : Type 1} → statement M
-is-short-spec = tie.close (tie.spec (λ c. search needs) (λ c. search needs) (λ c. search needs) (λ c. search needs) (λ c. search needs) (λ c. search needs) (λ c. search needs) returns)
+is-short-spec =
+    tie.close (tie.spec (λ c. search needs) (λ c. search needs) (λ c. search needs) (λ c. search needs) (λ c. search needs) (λ c. search needs) (λ c. search needs) returns)

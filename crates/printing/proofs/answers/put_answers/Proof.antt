@@ -40,24 +40,33 @@ part-put-answer-end c =
 put-answer-requires : tie.Need-put-answer-requires Inv-loop μ-loop
 put-answer-requires c κs =
     let walk = c .before .before .before .before .before .before .before .before .loop .inv .0 in
-    let more = fewer walk (sym (c .before .before .before .before .before .before .before .next-record .ensures) ∙ c .before .before .before .before .before .found .given .1) in
+    let more =
+    fewer walk
+    (sym (c .before .before .before .before .before .before .before .next-record .ensures) ∙ c .before .before .before .before .before .found .given .1)
+    in
     (walk .answered .kept, omega (arith, walk .room, c .before .before .before .before .before .before .before .before .loop .inv .1))
 
 add-n : tie.Need-add-n Inv-loop μ-loop
 add-n c =
     let walk = c .before .before .before .before .before .before .before .before .before .before .before .before .before .before .before .loop .inv .0 in
-    let more = fewer walk (sym (c .before .before .before .before .before .before .before .before .before .before .before .before .before .before .next-record .ensures) ∙ c .before .before .before .before .before .before .before .before .before .before .before .before .found .given .1) in
+    let more =
+    fewer walk (sym (c .before .before .before .before .before .before .before .before .before .before .before .before .before .before .next-record .ensures) ∙ c .before .before .before .before .before .before .before .before .before .before .before .before .found .given .1)
+    in
     omega (arith, walk .counted)
 
 loop-less : tie.Need-loop-less Inv-loop μ-loop
-loop-less c = less-left (c .before .before .before .before .before .before .before .before .before .before .before .before .before .before .before .loop .inv .0) (sym (c .before .before .before .before .before .before .before .before .before .before .before .before .before .before .next-record .ensures) ∙ c .before .before .before .before .before .before .before .before .before .before .before .before .found .given .1)
+loop-less c =
+    less-left (c .before .before .before .before .before .before .before .before .before .before .before .before .before .before .before .loop .inv .0) (sym (c .before .before .before .before .before .before .before .before .before .before .before .before .before .before .next-record .ensures) ∙ c .before .before .before .before .before .before .before .before .before .before .before .before .found .given .1)
 
 loop-again : tie.Need-loop-again Inv-loop μ-loop
 loop-again c = (
   walked-more (c .before .before .before .before .before .before .before .before .before .before .before .before .before .before .before .loop .inv .0) (sym (c .before .before .before .before .before .before .before .before .before .before .before .before .before .before .next-record .ensures) ∙ c .before .before .before .before .before .before .before .before .before .before .before .before .found .given .1) _ (c .before .before .before .before .before .before .put-answer .ensures .0) (c .before .before .before .before .before .before .put-answer .ensures .1),
-  c .before .before .before .before .before .before .put-answer .kept .0 ∙ c .before .before .before .before .before .before .before .before .before .before .before .before .before .before .before .loop .inv .1,
-  c .before .before .before .before .before .before .put-answer .kept .1 .1 .1 .0 ∙ c .before .before .before .before .before .before .before .before .before .before .before .before .before .before .before .loop .inv .2,
-  c .before .before .before .before .before .before .put-answer .kept .1 .1 .1 .1 .1 .0 ∙ c .before .before .before .before .before .before .before .before .before .before .before .before .before .before .before .loop .inv .3,
+  c .before .before .before .before .before .before .put-answer .kept .0
+      ∙ c .before .before .before .before .before .before .before .before .before .before .before .before .before .before .before .loop .inv .1,
+  c .before .before .before .before .before .before .put-answer .kept .1 .1 .1 .0
+      ∙ c .before .before .before .before .before .before .before .before .before .before .before .before .before .before .before .loop .inv .2,
+  c .before .before .before .before .before .before .put-answer .kept .1 .1 .1 .1 .1 .0
+      ∙ c .before .before .before .before .before .before .before .before .before .before .before .before .before .before .before .loop .inv .3,
 )
 
 pub put-answers-spec : {M : Type 1} → statement M

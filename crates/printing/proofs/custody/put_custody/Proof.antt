@@ -20,7 +20,8 @@ none = record { code = 0; issued = record { 0 = 0 }; outside = record { 0 = 0 } 
 
 abbrev Inv-loop : tie.InvT-loop
 Inv-loop out₀ at book n next₀ i₀ out next i =
-    (i ≤ n) × (next ≤ at + 112 * i) × (length out ≡ length out₀) × Put out₀ at (custodyFrom (ledgerOf book .holdings) (take i (ledgerOf book .holdings .securities))) out next
+    (i ≤ n) × (next ≤ at + 112 * i) × (length out ≡ length out₀)
+    × Put out₀ at (custodyFrom (ledgerOf book .holdings) (take i (ledgerOf book .holdings .securities))) out next
 
 abbrev μ-loop : tie.MeasureT-loop
 μ-loop out₀ at book n next₀ i₀ out next i = n - i
@@ -48,7 +49,9 @@ same-length c = c .before .loop .inv .2
 returns : tie.Need-returns Inv-loop μ-loop
 unfolding custodyLines
 returns c =
-    let all : length (ledgerOf (c .before .before .before .before .before .args .book .now) .holdings .securities) ≤ c .before .loop .i = omega (arith, c .before .before .securities .ensures) in
+    let all : length (ledgerOf (c .before .before .before .before .before .args .book .now) .holdings .securities) ≤ c .before .loop .i =
+    omega (arith, c .before .before .securities .ensures)
+    in
     rw (take-all _ _ all) at (c .before .loop .inv .3)
 
 pub put-custody-spec : {M : Type 1} → statement M
