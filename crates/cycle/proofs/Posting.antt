@@ -50,7 +50,9 @@ passing-last test [] b t = go (test b)
     go false = refl
 passing-last test (x ∷ xs) b t = go (test (x .0)) refl (passing-last test xs b t)
   where
-    go : (c : Bool) → test (x .0) ≡ c → passing test (xs ++ ((b, t) ∷ [])) ≡ passing test xs ++ ifMarked (test b) t → passing test ((x ∷ xs) ++ ((b, t) ∷ [])) ≡ passing test (x ∷ xs) ++ ifMarked (test b) t
+    go :
+        (c : Bool) → test (x .0) ≡ c → passing test (xs ++ ((b, t) ∷ [])) ≡ passing test xs ++ ifMarked (test b) t
+        → passing test ((x ∷ xs) ++ ((b, t) ∷ [])) ≡ passing test (x ∷ xs) ++ ifMarked (test b) t
     go true e ih = rw e (ap (λ (l : List Item). x .1 ∷ l) ih)
     go false e ih = rw e ih
 
@@ -64,7 +66,8 @@ module _ (item : ℕ → Item) (on : ℕ → Bool) where
   passing-next test i =
       let z : 0 + i ≡ i = omega arith in
       ap (λ (k : ℕ). passing test (marking on item k)) (add-one i)
-      ∙ ap (passing test) (from-push (λ k. (on k, item k)) (λ k. (on k, item k)) 0 i (λ k l. refl) ∙ ap (λ (k : ℕ). marking on item i ++ ((on k, item k) ∷ [])) z)
+      ∙ ap (passing test)
+      (from-push (λ k. (on k, item k)) (λ k. (on k, item k)) 0 i (λ k l. refl) ∙ ap (λ (k : ℕ). marking on item i ++ ((on k, item k) ∷ [])) z)
       ∙ passing-last test (marking on item i) (on i) (item i)
 
   pub first-next : (i : ℕ) → first (i + 1) ≡ first i ++ ifMarked (on i) (item i)
@@ -76,32 +79,46 @@ module _ (item : ℕ → Item) (on : ℕ → Bool) where
   without-next i = passing-next not i
 
   pub credits-next : (i : ℕ) (h : Holdings) → credits (legs (first (i + 1))) h ≡ credits (legs (ifMarked (on i) (item i))) (credits (legs (first i)) h)
-  credits-next i h = ap (λ (l : List Item). credits (legs l) h) (first-next i) ∙ ap (λ (l : List Movement). credits l h) (legs-append (first i) (ifMarked (on i) (item i))) ∙ credits-append (legs (first i)) (legs (ifMarked (on i) (item i))) h
+  credits-next i h =
+      ap (λ (l : List Item). credits (legs l) h) (first-next i)
+      ∙ ap (λ (l : List Movement). credits l h) (legs-append (first i) (ifMarked (on i) (item i)))
+      ∙ credits-append (legs (first i)) (legs (ifMarked (on i) (item i))) h
 
   pub debits-next : (i : ℕ) (h : Holdings) → debits (legs (first (i + 1))) h ≡ debits (legs (ifMarked (on i) (item i))) (debits (legs (first i)) h)
-  debits-next i h = ap (λ (l : List Item). debits (legs l) h) (first-next i) ∙ ap (λ (l : List Movement). debits l h) (legs-append (first i) (ifMarked (on i) (item i))) ∙ debits-append (legs (first i)) (legs (ifMarked (on i) (item i))) h
+  debits-next i h =
+      ap (λ (l : List Item). debits (legs l) h) (first-next i)
+      ∙ ap (λ (l : List Movement). debits l h) (legs-append (first i) (ifMarked (on i) (item i)))
+      ∙ debits-append (legs (first i)) (legs (ifMarked (on i) (item i))) h
 
 -- ---- what a trade does to one account and to one member's cash
 
 module _ (t : Item) (h : Holdings) where
   credit-one-balance : (b : Bool) (a : Account) → credits (legs (ifMarked b t)) h .balance a ≡ h.balance a + (if b then bringsShares a t else 0)
   unfolding credits legs bringsShares
-  credit-one-balance true a = omega (arith, credit-balance a (cashOf t.debited.member t.currency) t.amount.0 (credit (account (buyer t)) t.quantity.0 h), credit-balance a (account (buyer t)) t.quantity.0 h)
+  credit-one-balance true a =
+      let first = credit-balance a (account (buyer t)) t.quantity.0 h in
+      omega (arith, credit-balance a (cashOf t.debited.member t.currency) t.amount.0 (credit (account (buyer t)) t.quantity.0 h), first)
   credit-one-balance false a = omega arith
 
   credit-one-cash : (b : Bool) (m c : ℕ) → credits (legs (ifMarked b t)) h .cash m c ≡ h.cash m c + (if b then bringsCash m c t else 0)
   unfolding credits legs bringsCash
-  credit-one-cash true m c = omega (arith, credit-cash m c (cashOf t.debited.member t.currency) t.amount.0 (credit (account (buyer t)) t.quantity.0 h), credit-cash m c (account (buyer t)) t.quantity.0 h)
+  credit-one-cash true m c =
+      let first = credit-cash m c (account (buyer t)) t.quantity.0 h in
+      omega (arith, credit-cash m c (cashOf t.debited.member t.currency) t.amount.0 (credit (account (buyer t)) t.quantity.0 h), first)
   credit-one-cash false m c = omega arith
 
   debit-one-balance : (b : Bool) (a : Account) → debits (legs (ifMarked b t)) h .balance a ≡ h.balance a - (if b then takesShares a t else 0)
   unfolding debits legs takesShares
-  debit-one-balance true a = omega (arith, debit-balance a (cashOf t.credited.member t.currency) t.amount.0 (debit (account (seller t)) t.quantity.0 h), debit-balance a (account (seller t)) t.quantity.0 h)
+  debit-one-balance true a =
+      let first = debit-balance a (account (seller t)) t.quantity.0 h in
+      omega (arith, debit-balance a (cashOf t.credited.member t.currency) t.amount.0 (debit (account (seller t)) t.quantity.0 h), first)
   debit-one-balance false a = omega arith
 
   debit-one-cash : (b : Bool) (m c : ℕ) → debits (legs (ifMarked b t)) h .cash m c ≡ h.cash m c - (if b then takesCash m c t else 0)
   unfolding debits legs takesCash
-  debit-one-cash true m c = omega (arith, debit-cash m c (cashOf t.credited.member t.currency) t.amount.0 (debit (account (seller t)) t.quantity.0 h), debit-cash m c (account (seller t)) t.quantity.0 h)
+  debit-one-cash true m c =
+      let first = debit-cash m c (account (seller t)) t.quantity.0 h in
+      omega (arith, debit-cash m c (cashOf t.credited.member t.currency) t.amount.0 (debit (account (seller t)) t.quantity.0 h), first)
   debit-one-cash false m c = omega arith
 
 -- a trade's own account and cash get what it brings, and lose what it takes
@@ -143,15 +160,21 @@ module _ (item : ℕ → Item) (on : ℕ → Bool) where
 
   -- any balance or amount of cash that a trade changes by a figure, they change by its sum
   module _ (kept : Holdings → ℕ) (f : Item → ℕ) (h : Holdings) where
-    credited : ((t : Item) (h : Holdings) (b : Bool) → kept (credits (legs (ifMarked b t)) h) ≡ kept h + (if b then f t else 0)) → (i : ℕ) → kept (credits (legs (first item on i)) h) ≡ kept h + upto f i
+    credited :
+        ((t : Item) (h : Holdings) (b : Bool) → kept (credits (legs (ifMarked b t)) h) ≡ kept h + (if b then f t else 0)) → (i : ℕ)
+        → kept (credits (legs (first item on i)) h) ≡ kept h + upto f i
     unfolding sumBelow
     credited one zero = ap kept (credits-none h) ∙ omega arith
-    credited one (suc i) = omega (arith, ap kept (rw add-one at (credits-next item on i h)), one (item i) (credits (legs (first item on i)) h) (on i), credited one i)
+    credited one (suc i) =
+        omega (arith, ap kept (rw add-one at (credits-next item on i h)), one (item i) (credits (legs (first item on i)) h) (on i), credited one i)
 
-    debited : ((t : Item) (h : Holdings) (b : Bool) → kept (debits (legs (ifMarked b t)) h) ≡ kept h - (if b then f t else 0)) → (i : ℕ) → kept (debits (legs (first item on i)) h) ≡ kept h - upto f i
+    debited :
+        ((t : Item) (h : Holdings) (b : Bool) → kept (debits (legs (ifMarked b t)) h) ≡ kept h - (if b then f t else 0)) → (i : ℕ)
+        → kept (debits (legs (first item on i)) h) ≡ kept h - upto f i
     unfolding sumBelow
     debited one zero = ap kept (debits-none h) ∙ omega arith
-    debited one (suc i) = omega (arith, ap kept (rw add-one at (debits-next item on i h)), one (item i) (debits (legs (first item on i)) h) (on i), debited one i)
+    debited one (suc i) =
+        omega (arith, ap kept (rw add-one at (debits-next item on i h)), one (item i) (debits (legs (first item on i)) h) (on i), debited one i)
 
   pub credited-balance : (a : Account) (h : Holdings) (i : ℕ) → credits (legs (first item on i)) h .balance a ≡ h.balance a + upto (bringsShares a) i
   credited-balance a h i = credited (λ x. x .balance a) (bringsShares a) h (λ t x b. credit-one-balance t x b a) i

@@ -31,8 +31,18 @@ fits-bookable b t f =
       buys = named t.security t.credited f.terms.security-most (p .credited);
       some = omega (arith, f.terms.quantity-least);
       quantity = f.terms.quantity-most;
-      pays = record { member-least = p .credited .least; member-most = p .credited .most; currency-least = f.terms.currency-least; currency-most = f.terms.currency-most };
-      paid = record { member-least = p .debited .least; member-most = p .debited .most; currency-least = f.terms.currency-least; currency-most = f.terms.currency-most };
+      pays = record {
+        member-least = p .credited .least;
+        member-most = p .credited .most;
+        currency-least = f.terms.currency-least;
+        currency-most = f.terms.currency-most;
+      };
+      paid = record {
+        member-least = p .debited .least;
+        member-most = p .debited .most;
+        currency-least = f.terms.currency-least;
+        currency-most = f.terms.currency-most;
+      };
       amount = f.terms.amount-most;
     }
 

@@ -42,10 +42,16 @@ module _ (b : Ledger) (marks : ℕ) where
     long = p .long;
     behind = omega (arith, p .behind);
     rest = λ k l. p .rest k (omega arith);
-    made = p .made ∙ sym (without-next item on i ∙ ap (λ (x : Bool). withoutMark (marking on item i) ++ ifMarked (not x) (item i)) e ∙ append-nil (withoutMark (marking on item i)));
+    made =
+        p .made
+        ∙ sym
+        (without-next item on i
+        ∙ ap (λ (x : Bool). withoutMark (marking on item i) ++ ifMarked (not x) (item i)) e
+        ∙ append-nil (withoutMark (marking on item i)));
   }
 
-  packed-on : (now : List Item) (j i : ℕ) → Packed now j i → i < length b.waiting → on i ≡ false → (t : Item) → t ≡ itemIn now i → Packed (set now j t) (j + 1) (i + 1)
+  packed-on :
+      (now : List Item) (j i : ℕ) → Packed now j i → i < length b.waiting → on i ≡ false → (t : Item) → t ≡ itemIn now i → Packed (set now j t) (j + 1) (i + 1)
   packed-on now j i p l e t same = record {
     long = length-set now j t ∙ p .long;
     behind = omega (arith, p .behind);
@@ -82,11 +88,16 @@ module _ (b : Ledger) (marks : ℕ) where
           packed = subst (λ (w : List Item). Packed w (j + 1) (i + 1)) (sym f) (packed-on _ j i (s .packed) l e t same);
         }
 
-    pub staying-done : i ≡ length b.waiting → (after : List ℕ) → Means after (putWaiting (take j (ledgerOf book .waiting)) (ledgerOf book)) → Means after (putWaiting (withoutMark (markedOf marks b.waiting)) b)
+    pub staying-done :
+        i ≡ length b.waiting → (after : List ℕ) → Means after (putWaiting (take j (ledgerOf book .waiting)) (ledgerOf book))
+        → Means after (putWaiting (withoutMark (markedOf marks b.waiting)) b)
     unfolding markedOf
     staying-done e after m =
         subst (λ (w : List Item). Means after (putWaiting w b)) (s .packed .made ∙ ap (λ (k : ℕ). withoutMark (marking on item k)) e) (other-list after _ m)
 
 pub staying-none : (marks : ℕ) (book : List ℕ) → Stored book → Staying (ledgerOf book) marks book 0 0
 unfolding putWaiting withoutMark listFrom
-staying-none marks book s = record { means = record { stored = s; ledger = refl }; packed = record { long = refl; behind = omega arith; rest = λ k l. refl; made = refl } }
+staying-none marks book s = record {
+  means = record { stored = s; ledger = refl };
+  packed = record { long = refl; behind = omega arith; rest = λ k l. refl; made = refl };
+}

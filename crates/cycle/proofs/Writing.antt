@@ -41,13 +41,18 @@ postings-append [] ys = refl
 postings-append (x ∷ xs) ys = rw (postings-append xs ys)
 
 bytes-append : (xs ys : List Item) → bytes (xs ++ ys) ≡ bytes xs ++ bytes ys
-bytes-append xs ys = ap (λ (l : List Movement). rowsBytes (postingRows l)) (legs-append xs ys) ∙ ap rowsBytes (postings-append (legs xs) (legs ys)) ∙ rows-append (postingRows (legs xs)) (postingRows (legs ys))
+bytes-append xs ys =
+    ap (λ (l : List Movement). rowsBytes (postingRows l)) (legs-append xs ys)
+    ∙ ap rowsBytes (postings-append (legs xs) (legs ys))
+    ∙ rows-append (postingRows (legs xs)) (postingRows (legs ys))
 
 trade-long : (t : Item) → length (bytes (t ∷ [])) ≡ 64
 trade-long t =
+    let shares = move (account (seller t)) (account (buyer t)) t.quantity.0 in
+    let cash = move (cashOf t.credited.member t.currency) (cashOf t.debited.member t.currency) t.amount.0 in
     ap length (sym (trade-rows t))
-    ∙ length-append (rowsBytes (postingRows (move (account (seller t)) (account (buyer t)) t.quantity.0 ∷ []))) (rowsBytes (postingRows (move (cashOf t.credited.member t.currency) (cashOf t.debited.member t.currency) t.amount.0 ∷ [])))
-    ∙ omega (arith, movement-rows (move (account (seller t)) (account (buyer t)) t.quantity.0), movement-rows (move (cashOf t.credited.member t.currency) (cashOf t.debited.member t.currency) t.amount.0))
+    ∙ length-append (rowsBytes (postingRows (shares ∷ []))) (rowsBytes (postingRows (cash ∷ [])))
+    ∙ omega (arith, movement-rows shares, movement-rows cash)
 
 module _ (b : Ledger) (marks : ℕ) where
   abbrev item : ℕ → Item
@@ -75,7 +80,10 @@ module _ (b : Ledger) (marks : ℕ) where
     written-long = ap length (w .rows) ∙ length-append (bytes (first item on i)) (drop at before) ∙ omega (arith, w .inside, w .long, length-drop at before)
 
     step : (x : Bool) → on i ≡ x → bytes (first item on (i + 1)) ≡ bytes (first item on i) ++ bytes (ifMarked x (item i))
-    step x e = ap bytes (first-next item on i) ∙ ap (λ (y : Bool). bytes (first item on i ++ ifMarked y (item i))) e ∙ bytes-append (first item on i) (ifMarked x (item i))
+    step x e =
+        ap bytes (first-next item on i)
+        ∙ ap (λ (y : Bool). bytes (first item on i ++ ifMarked y (item i))) e
+        ∙ bytes-append (first item on i) (ifMarked x (item i))
 
     counted : (x : Bool) → on i ≡ x → countOn on (i + 1) ≡ countOn on i + (if x then 1 else 0)
     counted x e = sum-last i (λ k. if on k then 1 else 0) ∙ ap (λ (y : Bool). countOn on i + (if y then 1 else 0)) e
@@ -84,7 +92,12 @@ module _ (b : Ledger) (marks : ℕ) where
     unfolding legs postingRows rowsBytes
     written-off e =
         let s : bytes (first item on (i + 1)) ≡ bytes (first item on i) = step false e ∙ append-nil (bytes (first item on i)) in
-        record { next = omega (arith, w .next, counted false e); inside = w .inside; long = ap length s ∙ w .long; rows = w .rows ∙ ap (λ (l : List ℕ). l ++ drop at before) (sym s) }
+        record {
+          next = omega (arith, w .next, counted false e);
+          inside = w .inside;
+          long = ap length s ∙ w .long;
+          rows = w .rows ∙ ap (λ (l : List ℕ). l ++ drop at before) (sym s);
+        }
 
     pub written-on :
         on i ≡ true → at + 64 ≤ length before → (t : Item) → t ≡ item i → (part : List ℕ) → part ≡ bytes (t ∷ []) ++ drop 64 (midOf at (length now - at) now)
@@ -96,12 +109,17 @@ module _ (b : Ledger) (marks : ℕ) where
           next = omega (arith, w .next, counted true e);
           inside = l;
           long = ap length s ∙ length-append q (bytes (t ∷ [])) ∙ omega (arith, w .long, trade-long t);
-          rows = behind before now part q (bytes (t ∷ [])) at 64 (w .rows) (w .long) (trade-long t) l f ∙ ap (λ (x : List ℕ). x ++ drop (at + 64) before) (sym s);
+          rows =
+              behind before now part q (bytes (t ∷ [])) at 64 (w .rows) (w .long) (trade-long t) l f ∙ ap (λ (x : List ℕ). x ++ drop (at + 64) before) (sym s);
         }
 
-    pub written-done : i ≡ length b.waiting → now ≡ rowsBytes (rowsOf (markedOf marks b.waiting)) ++ drop (16 * length (rowsOf (markedOf marks b.waiting))) before
+    pub written-done :
+        i ≡ length b.waiting → now ≡ rowsBytes (rowsOf (markedOf marks b.waiting)) ++ drop (16 * length (rowsOf (markedOf marks b.waiting))) before
     unfolding markedOf
     written-done e =
         let all : first item on i ≡ first item on (length b.waiting) = ap (first item on) e in
-        let k : at ≡ 16 * length (postingRows (legs (first item on i))) = omega (arith, w .next, posting-length (legs (first item on i)), legs-length (first item on i), count-marked item i on) in
-        subst (λ (ts : List Item). now ≡ bytes ts ++ drop (16 * length (postingRows (legs ts))) before) all (w .rows ∙ ap (λ (m : ℕ). bytes (first item on i) ++ drop m before) k)
+        let k : at ≡ 16 * length (postingRows (legs (first item on i))) =
+        omega (arith, w .next, posting-length (legs (first item on i)), legs-length (first item on i), count-marked item i on)
+        in
+        subst (λ (ts : List Item). now ≡ bytes ts ++ drop (16 * length (postingRows (legs ts))) before) all
+        (w .rows ∙ ap (λ (m : ℕ). bytes (first item on i) ++ drop m before) k)

@@ -99,7 +99,8 @@ module _ {n : ℕ} {legs slots figures : List ℕ} {j : ℕ} (p : Spot n legs sl
 
     pub changed-one : to ≡ 64 → Changed one
     changed-one e =
-        figures-as n _ _ _ _ _ (changed-none n legs slots figures (p .size) (p .long) (p .slots-as) j (p .low) e (change (owesAt figures from) (numberAt legs j)))
+        figures-as n _ _ _ _ _
+        (changed-none n legs slots figures (p .size) (p .long) (p .slots-as) j (p .low) e (change (owesAt figures from) (numberAt legs j)))
         (λ k h. rw (none-credited e k h) (sym (by-none (hasAt (viewed slots figures) k)))) owes-are
 
     pub changed-two : to < 64 → Changed both

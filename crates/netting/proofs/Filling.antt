@@ -75,7 +75,12 @@ legs-more from to number legs i low d f t m ef et em = record {
 
 pub legs-done : (from to number : ℕ → ℕ) (legs : List ℕ) (n i : ℕ) → n ≤ i → Legs i from to number legs → Legs n from to number legs
 legs-done from to number legs n i h d =
-    record { long = d .long; from-as = λ k m. d .from-as k (omega arith); to-as = λ k m. d .to-as k (omega arith); number-as = λ k m. d .number-as k (omega arith) }
+    record {
+      long = d .long;
+      from-as = λ k m. d .from-as k (omega arith);
+      to-as = λ k m. d .to-as k (omega arith);
+      number-as = λ k m. d .number-as k (omega arith);
+    }
 
 -- ---- figures
 

@@ -112,7 +112,10 @@ module _ (legs links : List ℕ) (n : ℕ) (size : n ≤ 64) (d : Linked n legs 
     pub along-found : fromAt legs k ≡ key → slotOf legs n key ≡ k
     along-found e =
         let z : k + 1 - 1 ≡ k = omega arith in
-        a .same ∙ ap (λ (x : ℕ). slotAt (lastBelow wanted x)) more ∙ ap slotAt (last-here wanted (k + 1) (omega arith) (rw z (eq-eqb (fromAt legs k) key e))) ∙ z
+        a .same
+        ∙ ap (λ (x : ℕ). slotAt (lastBelow wanted x)) more
+        ∙ ap slotAt (last-here wanted (k + 1) (omega arith) (rw z (eq-eqb (fromAt legs k) key e)))
+        ∙ z
 
     pub along-next : (fromAt legs k ≡ key → ⊥) → Along legs n key (getD links k 0) × (left (getD links k 0) < left k)
     along-next e =
@@ -155,7 +158,10 @@ module _ (legs links : List ℕ) (i : ℕ) (low : i < 64) (d : Linked i legs lin
     next-as =
         below-more _ _
         (λ k h. getD-set-other one (b + 64) k i 0 (λ e. omega (arith, e)) ∙ getD-set-other links i k next 0 (λ e. omega (arith, e)) ∙ d .next-as k h)
-        (getD-set-other one (b + 64) i i 0 (λ e. omega (arith, e)) ∙ getD-set-same links i next 0 (omega (arith, d .long)) ∙ d .head-as b small ∙ ap (lastIn legs i) own);
+        (getD-set-other one (b + 64) i i 0 (λ e. omega (arith, e))
+        ∙ getD-set-same links i next 0 (omega (arith, d .long))
+        ∙ d .head-as b small
+        ∙ ap (lastIn legs i) own);
     head-as = λ c h. go c h (ℕ-discrete c b);
   }
     where
@@ -165,10 +171,14 @@ module _ (legs links : List ℕ) (i : ℕ) (low : i < 64) (d : Linked i legs lin
       go : (c : ℕ) → c < 64 → Dec (c ≡ b) → getD (set one (b + 64) i) (c + 64) 0 ≡ lastIn legs (i + 1) c
       go c h (yes e) =
           ap (λ (x : ℕ). getD (set one (b + 64) i) (x + 64) 0) e ∙ getD-set-same one (b + 64) i 0 (omega (arith, one-long))
-          ∙ sym (ap slotAt (last-here (λ k. bucketOf (fromAt legs k) is c) (i + 1) (omega arith) (rw z (eq-eqb (bucketOf (fromAt legs i)) c (sym own ∙ sym e)))) ∙ z)
+          ∙ sym
+          (ap slotAt (last-here (λ k. bucketOf (fromAt legs k) is c) (i + 1) (omega arith) (rw z (eq-eqb (bucketOf (fromAt legs i)) c (sym own ∙ sym e)))) ∙ z)
       go c h (no n) =
           getD-set-other one (b + 64) (c + 64) i 0 (λ e. n (omega (arith, e))) ∙ getD-set-other links i (c + 64) next 0 (λ e. omega (arith, e)) ∙ d .head-as c h
-          ∙ sym (ap slotAt (last-before (λ k. bucketOf (fromAt legs k) is c) (i + 1) (omega arith) (rw z (ne-eqb (bucketOf (fromAt legs i)) c (λ e. n (sym e ∙ sym own)))) ∙ ap (lastBelow (λ k. bucketOf (fromAt legs k) is c)) z))
+          ∙ sym
+          (ap slotAt
+          (last-before (λ k. bucketOf (fromAt legs k) is c) (i + 1) (omega arith) (rw z (ne-eqb (bucketOf (fromAt legs i)) c (λ e. n (sym e ∙ sym own))))
+          ∙ ap (lastBelow (λ k. bucketOf (fromAt legs k) is c)) z))
 
 pub linked-done : (legs links : List ℕ) (n i : ℕ) → i ≡ n → Linked i legs links → Linked n legs links
 linked-done legs links n i e d = rw (sym e) d

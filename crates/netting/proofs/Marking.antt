@@ -46,7 +46,10 @@ module _ (item : ℕ → Item) (n : ℕ) where
       (f : Item → ℕ) (on more : ℕ → Bool) (j : ℕ) → j < n → on j ≡ false → more j ≡ true → ((k : ℕ) → k < n → k ≢ j → more k ≡ on k)
       → over f (marking more item n) ≡ over f (marking on item n) + f (item j)
   over-more f on more j l off now e =
-      let s = sum-change n j (λ k. if on k then f (item k) else 0) (λ k. if more k then f (item k) else 0) l (λ k h d. ap (λ (b : Bool). if b then f (item k) else 0) (e k h d)) in
+      let s =
+      sum-change n j (λ k. if on k then f (item k) else 0) (λ k. if more k then f (item k) else 0) l
+      (λ k h d. ap (λ (b : Bool). if b then f (item k) else 0) (e k h d))
+      in
       let t = rw (off, now) at s in
       omega (arith, over-sum f on, over-sum f more, t)
 
@@ -54,7 +57,9 @@ length-kept : (ms : List Marked) → length (keep (λ m. m .0) ms) ≡ total (λ
 length-kept [] = refl
 length-kept (m ∷ rest) = go (m .0) refl (length-kept rest)
   where
-    go : (b : Bool) → m .0 ≡ b → length (keep (λ m. m .0) rest) ≡ total (λ (m : Marked). if m .0 then 1 else 0) rest → length (keep (λ m. m .0) (m ∷ rest)) ≡ total (λ (m : Marked). if m .0 then 1 else 0) (m ∷ rest)
+    go :
+        (b : Bool) → m .0 ≡ b → length (keep (λ m. m .0) rest) ≡ total (λ (m : Marked). if m .0 then 1 else 0) rest
+        → length (keep (λ m. m .0) (m ∷ rest)) ≡ total (λ (m : Marked). if m .0 then 1 else 0) (m ∷ rest)
     go true e ih = rw e (omega arith)
     go false e ih = rw e (omega arith)
 
@@ -66,7 +71,9 @@ count-marked item n on =
     ∙ from-total (λ (m : Marked). if m .0 then 1 else 0) (λ k. (on k, item k)) n
 
 -- the marks of the trades whose day has come
-pub taken-marked : (day marks : ℕ) (waiting : List Item) → ((k : ℕ) → k < length waiting → isOn marks k ≡ due day (itemIn waiting k)) → markedOf marks waiting ≡ taken day waiting
+pub taken-marked :
+    (day marks : ℕ) (waiting : List Item) → ((k : ℕ) → k < length waiting → isOn marks k ≡ due day (itemIn waiting k))
+    → markedOf marks waiting ≡ taken day waiting
 unfolding markedOf taken
 taken-marked day marks waiting e =
     marking-same (itemIn waiting) (length waiting) (isOn marks) (λ k. due day (itemIn waiting k)) e
@@ -82,7 +89,9 @@ module _ (day : ℕ) (waiting : List Item) (marks i : ℕ) (low : i < 64) (d : D
   pub due-not : due day (itemIn waiting i) ≡ false → DueBelow day waiting marks (i + 1)
   due-not e = record { first = below-more _ _ (d .first) (d .rest i (omega arith) low ∙ sym e); rest = λ k h l. d .rest k (omega arith) l }
 
-  pub due-one : (now : ℕ) → ((k : ℕ) → k < 64 → isOn now k ≡ (if k is i then not (isOn marks i) else isOn marks k)) → due day (itemIn waiting i) ≡ true → DueBelow day waiting now (i + 1)
+  pub due-one :
+      (now : ℕ) → ((k : ℕ) → k < 64 → isOn now k ≡ (if k is i then not (isOn marks i) else isOn marks k)) → due day (itemIn waiting i) ≡ true
+      → DueBelow day waiting now (i + 1)
   due-one now f e = record {
     first = below-more _ _ (λ k h. other k (omega arith) (omega arith) ∙ d .first k h) (f i low ∙ rw (eq-eqb i i refl, d .rest i (omega arith) low) (sym e));
     rest = λ k h l. other k l (omega arith) ∙ d .rest k (omega arith) l;

@@ -43,24 +43,31 @@ module _ (item : ℕ → Item) (n : ℕ) (into out : ℕ → Item → ℕ) (legs
   module _ (a : Are) (on : ℕ → Bool) where
     brought : (k : ℕ) → k < n → bringsAll n on legs k ≡ over (into k) (marking on item n)
     brought k h =
-        sum-same n (λ j. if on j then into k (item j) else 0) (λ j. if on j then brings legs j k else 0) (λ j l. ap (λ (x : ℕ). if on j then x else 0) (a .brings-as j k l h))
+        sum-same n (λ j. if on j then into k (item j) else 0) (λ j. if on j then brings legs j k else 0)
+        (λ j l. ap (λ (x : ℕ). if on j then x else 0) (a .brings-as j k l h))
         ∙ sym (over-sum item n (into k) on)
 
     taken : (k : ℕ) → k < n → takesAll n on legs k ≡ over (out k) (marking on item n)
     taken k h =
-        sum-same n (λ j. if on j then out k (item j) else 0) (λ j. if on j then takes legs j k else 0) (λ j l. ap (λ (x : ℕ). if on j then x else 0) (a .takes-as j k l h))
+        sum-same n (λ j. if on j then out k (item j) else 0) (λ j. if on j then takes legs j k else 0)
+        (λ j l. ap (λ (x : ℕ). if on j then x else 0) (a .takes-as j k l h))
         ∙ sym (over-sum item n (out k) on)
 
     module _ (have : ℕ → ℕ) (before : List ℕ) (f : Figures n have (λ k. 0) before) where
       -- the marked legs can be added
       pub lined-room : n ≤ 64 → ((k : ℕ) → k < n → have k < 2 ^ 63) → Small → RoomAll n on legs before
       lined-room few rich s = record {
-        has = λ k h. omega (arith, f .has-as k h, rich k h, brought k h, over-sum item n (into k) on, sum-most n (λ j. if on j then into k (item j) else 0) (λ j l. if-below (on j) _ (s .into-small j k l h)));
-        owes = λ k h. omega (arith, f .owes-as k h, taken k h, over-sum item n (out k) on, sum-most n (λ j. if on j then out k (item j) else 0) (λ j l. if-below (on j) _ (s .out-small j k l h)));
+        has = λ k h.
+            let most = sum-most n (λ j. if on j then into k (item j) else 0) (λ j l. if-below (on j) _ (s .into-small j k l h)) in
+            omega (arith, f .has-as k h, rich k h, brought k h, over-sum item n (into k) on, most);
+        owes = λ k h.
+            let most = sum-most n (λ j. if on j then out k (item j) else 0) (λ j l. if-below (on j) _ (s .out-small j k l h)) in
+            omega (arith, f .owes-as k h, taken k h, over-sum item n (out k) on, most);
       }
 
       -- and then the figures are those under the marks
-      pub lined-start : (after : List ℕ) → Figures n (λ k. hasAt before k + bringsAll n on legs k) (λ k. owesAt before k + takesAll n on legs k) after → Lined have on after
+      pub lined-start :
+          (after : List ℕ) → Figures n (λ k. hasAt before k + bringsAll n on legs k) (λ k. owesAt before k + takesAll n on legs k) after → Lined have on after
       lined-start after g = record {
         long = g .long;
         has-as = λ k h. omega (arith, g .has-as k h, f .has-as k h, brought k h);

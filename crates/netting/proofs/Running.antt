@@ -299,7 +299,9 @@ module _ (b : Ledger) (r : Ready b) where
         dropped : marking (isOn now) item n ≡ dropLast (debitsShort b.holdings ms) ms
         dropped =
             let z : 0 + j ≡ j = omega arith in
-            let same : _≡_ {A = Marked} (false, item j) (false, getD ms j noMark .1) = ap (λ (m : Marked). (false, m .1)) (sym (mark-at (isOn marks) j inside)) in
+            let same : _≡_ {A =
+            Marked} (false, item j) (false, getD ms j noMark .1) = ap (λ (m : Marked). (false, m .1)) (sym (mark-at (isOn marks) j inside))
+            in
             let off : set ms j (isOn now (0 + j), item (0 + j)) ≡ set ms j (false, getD ms j noMark .1) =
             ap (λ (m : Marked). set ms j m) (ap (λ (k : ℕ). (isOn now k, item k)) z ∙ ap (λ (x : Bool). (x, item j)) gone ∙ same)
             in

@@ -17,7 +17,8 @@ returns : tie.Need-returns
 returns c =
     let put = c .before .before in
     let s = read put .before .before .before in
-    subst (λ (d : Day). Means (put .put-day .last .0) (putDay (oneMoreCycle d) (ledgerOf (s .args .book .now)))) (read put .day .ensures) (put .put-day .ensures)
+    subst (λ (d : Day). Means (put .put-day .last .0) (putDay (oneMoreCycle d) (ledgerOf (s .args .book .now)))) (read put .day .ensures)
+    (put .put-day .ensures)
 
 pub count-cycle-spec : {M : Type 1} → statement M
 count-cycle-spec =

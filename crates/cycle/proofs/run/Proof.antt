@@ -68,7 +68,8 @@ counts-of-requires c κs =
     let n = selected (written (booked (left (c .before .before)))) in
     let e = counted n .items .ensures in
     let chosen = n .select .result in
-    (omega (arith, e, ready (entry n) .size), subst (λ (k : ℕ). countOn (isOn (chosen .settled)) k ≤ countOn (isOn (chosen .due)) k) (sym e) (n .select .ensures .fewer))
+    let fewer = subst (λ (k : ℕ). countOn (isOn (chosen .settled)) k ≤ countOn (isOn (chosen .due)) k) (sym e) (n .select .ensures .fewer) in
+    (omega (arith, e, ready (entry n) .size), fewer)
 
 returns : tie.Need-returns
 returns c = λ order.
@@ -77,7 +78,8 @@ returns c = λ order.
     let k = booked l in
     let n = selected (written k) in
     let e = counted n .items .ensures in
-    handled (ledger n) _ _ (n .select .ensures) _ _ (k .book-marked .ensures) (l .leave-marked .ensures) _ (o .count-cycle .ensures) order (entry n .args .area .now) _
+    handled (ledger n) _ _ (n .select .ensures) _ _ (k .book-marked .ensures) (l .leave-marked .ensures) _ (o .count-cycle .ensures) order
+    (entry n .args .area .now) _
     (c .counts-of .result) (written k .write-marked .ensures) (rw e at (c .counts-of .ensures))
 
 pub run-spec : {M : Type 1} → statement M

@@ -34,7 +34,8 @@ unfolding putHoldings booked
 returns c =
     let k = c .before .before in
     let marks = entry (credited k) .args .marks in
-    next (λ x. putHoldings (debits (legs (withMark (markedOf marks (x .waiting)))) (x .holdings)) x) (credited k .credit-marked .ensures) (k .debit-marked .ensures)
+    next (λ x. putHoldings (debits (legs (withMark (markedOf marks (x .waiting)))) (x .holdings)) x) (credited k .credit-marked .ensures)
+    (k .debit-marked .ensures)
 
 pub book-marked-spec : {M : Type 1} → statement M
 book-marked-spec = tie.close (tie.spec (λ c κs. search needs) debit-marked-requires (λ c. search needs) returns)

@@ -53,7 +53,8 @@ returns c =
     let s = entry (first k) in
     let t = s .args .trade in
     let b = ledgerOf (s .args .book .now) in
-    then-holdings b _ (credit (account (buyer t)) (t .quantity .0) (b .holdings)) (shares (first k)) (credit (cashOf (t .debited .member) (t .currency)) (t .amount .0)) _
+    then-holdings b _ (credit (account (buyer t)) (t .quantity .0) (b .holdings)) (shares (first k))
+    (credit (cashOf (t .debited .member) (t .currency)) (t .amount .0)) _
     (k .credit-cash .ensures)
 
 pub credit-trade-spec : {M : Type 1} → statement M

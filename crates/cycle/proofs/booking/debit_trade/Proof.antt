@@ -50,7 +50,8 @@ returns c =
     let s = entry (first k) in
     let t = s .args .trade in
     let b = ledgerOf (s .args .book .now) in
-    then-holdings b _ (debit (account (seller t)) (t .quantity .0) (b .holdings)) (shares (first k)) (debit (cashOf (t .credited .member) (t .currency)) (t .amount .0)) _
+    then-holdings b _ (debit (account (seller t)) (t .quantity .0) (b .holdings)) (shares (first k))
+    (debit (cashOf (t .credited .member) (t .currency)) (t .amount .0)) _
     (k .debit-cash .ensures)
 
 pub debit-trade-spec : {M : Type 1} → statement M

@@ -71,7 +71,8 @@ loop-again c =
     let has = c .before .before .before .cash .ensures ∙ ap (cashOf (ledger t)) e in
     let shown = start c .before .before .before .put-cash-leg .ensures in (
       omega (arith, t .loop-test .taken),
-      filled-more _ _ _ _ (l .legs) (l .figures) (l .i) (low t) (l .inv .1) _ _ _ _ from to (ap (λ (x : Item). x .amount .0) e) has _ _ shown (c .before .before .start-cash .ensures),
+      filled-more _ _ _ _ (l .legs) (l .figures) (l .i) (low t) (l .inv .1) _ _ _ _ from to (ap (λ (x : Item). x .amount .0) e) has _ _ shown
+          (c .before .before .start-cash .ensures),
     )
 
 returns : tie.Need-returns Inv-loop μ-loop
