@@ -96,25 +96,29 @@ module _ (t : Item) (h : Holdings) where
   credit-one-balance : (b : Bool) (a : Account) → credits (legs (ifMarked b t)) h .balance a ≡ h.balance a + (if b then bringsShares a t else 0)
   unfolding credits legs bringsShares
   credit-one-balance true a =
-      omega (arith, credit-balance a (cashOf t.debited.member t.currency) t.amount.0 (credit (account (buyer t)) t.quantity.0 h), credit-balance a (account (buyer t)) t.quantity.0 h)
+      let first = credit-balance a (account (buyer t)) t.quantity.0 h in
+      omega (arith, credit-balance a (cashOf t.debited.member t.currency) t.amount.0 (credit (account (buyer t)) t.quantity.0 h), first)
   credit-one-balance false a = omega arith
 
   credit-one-cash : (b : Bool) (m c : ℕ) → credits (legs (ifMarked b t)) h .cash m c ≡ h.cash m c + (if b then bringsCash m c t else 0)
   unfolding credits legs bringsCash
   credit-one-cash true m c =
-      omega (arith, credit-cash m c (cashOf t.debited.member t.currency) t.amount.0 (credit (account (buyer t)) t.quantity.0 h), credit-cash m c (account (buyer t)) t.quantity.0 h)
+      let first = credit-cash m c (account (buyer t)) t.quantity.0 h in
+      omega (arith, credit-cash m c (cashOf t.debited.member t.currency) t.amount.0 (credit (account (buyer t)) t.quantity.0 h), first)
   credit-one-cash false m c = omega arith
 
   debit-one-balance : (b : Bool) (a : Account) → debits (legs (ifMarked b t)) h .balance a ≡ h.balance a - (if b then takesShares a t else 0)
   unfolding debits legs takesShares
   debit-one-balance true a =
-      omega (arith, debit-balance a (cashOf t.credited.member t.currency) t.amount.0 (debit (account (seller t)) t.quantity.0 h), debit-balance a (account (seller t)) t.quantity.0 h)
+      let first = debit-balance a (account (seller t)) t.quantity.0 h in
+      omega (arith, debit-balance a (cashOf t.credited.member t.currency) t.amount.0 (debit (account (seller t)) t.quantity.0 h), first)
   debit-one-balance false a = omega arith
 
   debit-one-cash : (b : Bool) (m c : ℕ) → debits (legs (ifMarked b t)) h .cash m c ≡ h.cash m c - (if b then takesCash m c t else 0)
   unfolding debits legs takesCash
   debit-one-cash true m c =
-      omega (arith, debit-cash m c (cashOf t.credited.member t.currency) t.amount.0 (debit (account (seller t)) t.quantity.0 h), debit-cash m c (account (seller t)) t.quantity.0 h)
+      let first = debit-cash m c (account (seller t)) t.quantity.0 h in
+      omega (arith, debit-cash m c (cashOf t.credited.member t.currency) t.amount.0 (debit (account (seller t)) t.quantity.0 h), first)
   debit-one-cash false m c = omega arith
 
 -- a trade's own account and cash get what it brings, and lose what it takes

@@ -43,7 +43,11 @@ module _ (b : Ledger) (marks : ℕ) where
     behind = omega (arith, p .behind);
     rest = λ k l. p .rest k (omega arith);
     made =
-        p .made ∙ sym (without-next item on i ∙ ap (λ (x : Bool). withoutMark (marking on item i) ++ ifMarked (not x) (item i)) e ∙ append-nil (withoutMark (marking on item i)));
+        p .made
+        ∙ sym
+        (without-next item on i
+        ∙ ap (λ (x : Bool). withoutMark (marking on item i) ++ ifMarked (not x) (item i)) e
+        ∙ append-nil (withoutMark (marking on item i)));
   }
 
   packed-on :
@@ -93,4 +97,7 @@ module _ (b : Ledger) (marks : ℕ) where
 
 pub staying-none : (marks : ℕ) (book : List ℕ) → Stored book → Staying (ledgerOf book) marks book 0 0
 unfolding putWaiting withoutMark listFrom
-staying-none marks book s = record { means = record { stored = s; ledger = refl }; packed = record { long = refl; behind = omega arith; rest = λ k l. refl; made = refl } }
+staying-none marks book s = record {
+  means = record { stored = s; ledger = refl };
+  packed = record { long = refl; behind = omega arith; rest = λ k l. refl; made = refl };
+}

@@ -48,10 +48,11 @@ bytes-append xs ys =
 
 trade-long : (t : Item) → length (bytes (t ∷ [])) ≡ 64
 trade-long t =
+    let shares = move (account (seller t)) (account (buyer t)) t.quantity.0 in
+    let cash = move (cashOf t.credited.member t.currency) (cashOf t.debited.member t.currency) t.amount.0 in
     ap length (sym (trade-rows t))
-    ∙ length-append (rowsBytes (postingRows (move (account (seller t)) (account (buyer t)) t.quantity.0 ∷ [])))
-    (rowsBytes (postingRows (move (cashOf t.credited.member t.currency) (cashOf t.debited.member t.currency) t.amount.0 ∷ [])))
-    ∙ omega (arith, movement-rows (move (account (seller t)) (account (buyer t)) t.quantity.0), movement-rows (move (cashOf t.credited.member t.currency) (cashOf t.debited.member t.currency) t.amount.0))
+    ∙ length-append (rowsBytes (postingRows (shares ∷ []))) (rowsBytes (postingRows (cash ∷ [])))
+    ∙ omega (arith, movement-rows shares, movement-rows cash)
 
 module _ (b : Ledger) (marks : ℕ) where
   abbrev item : ℕ → Item

@@ -27,10 +27,12 @@ module _ (n : ℕ) (on : ℕ → Bool) (legs before : List ℕ) where
   module _ (j : ℕ) (low : j < n) (now : List ℕ) (d : Added n on legs before j now) where
     pub added-room : on j ≡ true → RoomAll n on legs before → Room n legs j now
     added-room e r = record {
-      has =
-          λ k h. omega (arith, d .has-as k h, r .has k h, sum-next j on (λ i. brings legs i k) true e, sum-grows (j + 1) n (λ i. if on i then brings legs i k else 0) (omega arith));
-      owes =
-          λ k h. omega (arith, d .owes-as k h, r .owes k h, sum-next j on (λ i. takes legs i k) true e, sum-grows (j + 1) n (λ i. if on i then takes legs i k else 0) (omega arith));
+      has = λ k h.
+          let more = sum-grows (j + 1) n (λ i. if on i then brings legs i k else 0) (omega arith) in
+          omega (arith, d .has-as k h, r .has k h, sum-next j on (λ i. brings legs i k) true e, more);
+      owes = λ k h.
+          let more = sum-grows (j + 1) n (λ i. if on i then takes legs i k else 0) (omega arith) in
+          omega (arith, d .owes-as k h, r .owes k h, sum-next j on (λ i. takes legs i k) true e, more);
     }
 
     pub added-on :

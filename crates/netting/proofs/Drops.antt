@@ -110,7 +110,10 @@ module _ (test : Item → Bool) where
   drop-at (m ∷ rest) zero l = rw (none-at rest (λ k h. l .behind (suc k) (suc-le-suc zero-le) (suc-le-suc h)), l .passed)
   drop-at (m ∷ rest) (suc j) l =
       let in-rest = le-of-suc-le-suc (l .inside) in
-      rw (some-at rest j in-rest (l .passed), drop-at rest j (record { inside = in-rest; passed = l .passed; behind = λ k g h. l .behind (suc k) (suc-le-suc g) (suc-le-suc h) }))
+      let last : Last (at test rest) (length rest) j =
+      record { inside = in-rest; passed = l .passed; behind = λ k g h. l .behind (suc k) (suc-le-suc g) (suc-le-suc h) }
+      in
+      rw (some-at rest j in-rest (l .passed), drop-at rest j last)
 
 -- ---- the rounds
 

@@ -158,7 +158,10 @@ module _ (legs links : List ℕ) (i : ℕ) (low : i < 64) (d : Linked i legs lin
     next-as =
         below-more _ _
         (λ k h. getD-set-other one (b + 64) k i 0 (λ e. omega (arith, e)) ∙ getD-set-other links i k next 0 (λ e. omega (arith, e)) ∙ d .next-as k h)
-        (getD-set-other one (b + 64) i i 0 (λ e. omega (arith, e)) ∙ getD-set-same links i next 0 (omega (arith, d .long)) ∙ d .head-as b small ∙ ap (lastIn legs i) own);
+        (getD-set-other one (b + 64) i i 0 (λ e. omega (arith, e))
+        ∙ getD-set-same links i next 0 (omega (arith, d .long))
+        ∙ d .head-as b small
+        ∙ ap (lastIn legs i) own);
     head-as = λ c h. go c h (ℕ-discrete c b);
   }
     where
@@ -172,7 +175,10 @@ module _ (legs links : List ℕ) (i : ℕ) (low : i < 64) (d : Linked i legs lin
           (ap slotAt (last-here (λ k. bucketOf (fromAt legs k) is c) (i + 1) (omega arith) (rw z (eq-eqb (bucketOf (fromAt legs i)) c (sym own ∙ sym e)))) ∙ z)
       go c h (no n) =
           getD-set-other one (b + 64) (c + 64) i 0 (λ e. n (omega (arith, e))) ∙ getD-set-other links i (c + 64) next 0 (λ e. omega (arith, e)) ∙ d .head-as c h
-          ∙ sym (ap slotAt (last-before (λ k. bucketOf (fromAt legs k) is c) (i + 1) (omega arith) (rw z (ne-eqb (bucketOf (fromAt legs i)) c (λ e. n (sym e ∙ sym own)))) ∙ ap (lastBelow (λ k. bucketOf (fromAt legs k) is c)) z))
+          ∙ sym
+          (ap slotAt
+          (last-before (λ k. bucketOf (fromAt legs k) is c) (i + 1) (omega arith) (rw z (ne-eqb (bucketOf (fromAt legs i)) c (λ e. n (sym e ∙ sym own))))
+          ∙ ap (lastBelow (λ k. bucketOf (fromAt legs k) is c)) z))
 
 pub linked-done : (legs links : List ℕ) (n i : ℕ) → i ≡ n → Linked i legs links → Linked n legs links
 linked-done legs links n i e d = rw (sym e) d

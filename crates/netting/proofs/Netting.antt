@@ -57,10 +57,12 @@ module _ (item : ℕ → Item) (n : ℕ) (into out : ℕ → Item → ℕ) (legs
       -- the marked legs can be added
       pub lined-room : n ≤ 64 → ((k : ℕ) → k < n → have k < 2 ^ 63) → Small → RoomAll n on legs before
       lined-room few rich s = record {
-        has =
-            λ k h. omega (arith, f .has-as k h, rich k h, brought k h, over-sum item n (into k) on, sum-most n (λ j. if on j then into k (item j) else 0) (λ j l. if-below (on j) _ (s .into-small j k l h)));
-        owes =
-            λ k h. omega (arith, f .owes-as k h, taken k h, over-sum item n (out k) on, sum-most n (λ j. if on j then out k (item j) else 0) (λ j l. if-below (on j) _ (s .out-small j k l h)));
+        has = λ k h.
+            let most = sum-most n (λ j. if on j then into k (item j) else 0) (λ j l. if-below (on j) _ (s .into-small j k l h)) in
+            omega (arith, f .has-as k h, rich k h, brought k h, over-sum item n (into k) on, most);
+        owes = λ k h.
+            let most = sum-most n (λ j. if on j then out k (item j) else 0) (λ j l. if-below (on j) _ (s .out-small j k l h)) in
+            omega (arith, f .owes-as k h, taken k h, over-sum item n (out k) on, most);
       }
 
       -- and then the figures are those under the marks

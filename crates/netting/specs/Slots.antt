@@ -8,7 +8,7 @@ use Rattle.rulebook.specs.Lists.{if_then_else_, _is_, _below_}
 use Rattle.words.specs.declared.Found.{Found}
 use Rattle.words.specs.declared.Found.the-variants.{At, Nothing}
 use Rattle.words.specs.Places.{listFrom}
-use Rattle.netting.specs.Figures.{fromAt, toAt, hasAt, owesAt, brings, takes, bringsAll, takesAll, Figures, shortAt, lastBelow}
+use Rattle.netting.specs.Figures.{fromAt, toAt, hasAt, owesAt, brings, takes, bringsAll, takesAll, Figures, shortAt, lastBelow, lastShort}
 
 abbrev pub slotAt : Found → ℕ
 slotAt (At i) = i
@@ -74,3 +74,7 @@ WithMarked n on legs slots before after =
 pub record FineFrom (n : ℕ) (legs slots : List ℕ) (j : ℕ) (figures : List ℕ) (from : ℕ) : Type 0 where
   pub inside : from ≤ n
   pub fine : (k : ℕ) → from ≤ k → k < n → (toAt legs j is fromAt legs k) ≡ true → shortAt (viewed slots figures) k ≡ false
+
+-- the last of n marked legs that debits a short account or short cash
+abbrev pub LastShort : (ℕ → Bool) → (heldAt held fundsAt funds : List ℕ) → ℕ → Found → Type 0
+LastShort on heldAt held fundsAt funds n found = found ≡ lastShort on (viewed heldAt held) (viewed fundsAt funds) n

@@ -3,8 +3,8 @@ ghost use mathlib.Core.Path.{_≡_};
 ghost use Prim.Native.Nat.{_+_, _≤_, _<_};
 ghost use lib.ListN.{length, set};
 ghost use Rattle.netting.specs.Marks.{isOn};
-ghost use Rattle.netting.specs.Figures.{OWES, hasAt, Lent, Room, Cover, RoomAll, shortAt, lastShort};
-ghost use Rattle.netting.specs.Slots.{Slots, Low, viewed, WithLeg, WithoutLeg, WithMarked, FineFrom};
+ghost use Rattle.netting.specs.Figures.{OWES, hasAt, Lent, Room, Cover, RoomAll, shortAt};
+ghost use Rattle.netting.specs.Slots.{Slots, Low, viewed, WithLeg, WithoutLeg, WithMarked, FineFrom, LastShort};
 use crate::legs::NUMBER;
 use crate::marks;
 use crate::marks::Marks;
@@ -117,7 +117,7 @@ pub fn last_short(
     n: usize,
 ) -> Found
     requires { ⌜ (length (now held) ≡ 128) × (length (now funds) ≡ 128) × (n ≤ 64) × Low n (now «held_at») × Low n (now «funds_at») ⌝ }
-    ensures { λ r. ⌜ r ≡ lastShort (isOn marks) (viewed (now («held_at» .entry)) (now (held .entry))) (viewed (now («funds_at» .entry)) (now (funds .entry))) n ⌝ }
+    ensures { λ r. ⌜ LastShort (isOn marks) (now («held_at» .entry)) (now (held .entry)) (now («funds_at» .entry)) (now (funds .entry)) n r ⌝ }
 {
     let mut i = n;
     while 0 < i {

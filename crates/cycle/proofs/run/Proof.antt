@@ -68,7 +68,8 @@ counts-of-requires c κs =
     let n = selected (written (booked (left (c .before .before)))) in
     let e = counted n .items .ensures in
     let chosen = n .select .result in
-    (omega (arith, e, ready (entry n) .size), subst (λ (k : ℕ). countOn (isOn (chosen .settled)) k ≤ countOn (isOn (chosen .due)) k) (sym e) (n .select .ensures .fewer))
+    let fewer = subst (λ (k : ℕ). countOn (isOn (chosen .settled)) k ≤ countOn (isOn (chosen .due)) k) (sym e) (n .select .ensures .fewer) in
+    (omega (arith, e, ready (entry n) .size), fewer)
 
 returns : tie.Need-returns
 returns c = λ order.

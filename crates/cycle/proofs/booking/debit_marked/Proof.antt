@@ -48,7 +48,8 @@ debit-trade-requires c κs =
     let l = t .before .loop in
     let s = entry (t .before) in
     let marked = sym (a .is-on .ensures) ∙ read .before .before .if1 .taken in
-    (l .inv .1 .stored, debit-fits (ledger (t .before)) (s .args .marks) (l .i) (l .book) marked _ (read .item-at .ensures noItem) (l .inv .1) (there t) (s .pre .1))
+    let item = read .item-at .ensures noItem in
+    (l .inv .1 .stored, debit-fits (ledger (t .before)) (s .args .marks) (l .i) (l .book) marked _ item (l .inv .1) (there t) (s .pre .1))
 
 loop-again : tie.Need-loop-again Inv-loop μ-loop
 loop-again c =

@@ -76,7 +76,8 @@ loop-again c =
     (λ w. (
       omega arith,
       rw (w .6, w .7)
-          (written-on b (a .marks) (a .area .now) (l .area) (l .at) (l .i) (l .inv .1) (test ∙ w .0 .taken) (room t) _ (w .1 .ensures noItem) _ (w .3 .ensures)),
+          (written-on b (a .marks) (a .area .now) (l .area) (l .at) (l .i) (l .inv .1) (test ∙ w .0 .taken) (room t) _
+          (w .1 .ensures noItem) _ (w .3 .ensures)),
     ))
     (λ w. (omega arith, rw (w .1, w .2) (written-off b (a .marks) (a .area .now) (l .area) (l .at) (l .i) (l .inv .1) (test ∙ w .0 .left))))
     (c .if1 .came)

@@ -30,7 +30,8 @@ owes-room s = owes-fits (spot s) (λ x m. x + m < 2 ^ 64) (s .pre .3 .owes)
 
 has-room :
     (c : tie.Else1)
-    → (let s = entry (c .before) in hasAt (one (spot s) _+_ by-none) (owesAt (s .args .slots .now) (s .args .j)) + numberAt (s .args .legs .now) (s .args .j) < 2 ^ 64)
+    → (let s = entry (c .before) in
+    hasAt (one (spot s) _+_ by-none) (owesAt (s .args .slots .now) (s .args .j)) + numberAt (s .args .legs .now) (s .args .j) < 2 ^ 64)
 has-room c = let s = entry (c .before) in has-fits (spot s) (λ x m. x + m < 2 ^ 64) (s .pre .3 .has) (below c) _
 
 stored : (c : tie.After-slice-known2) → length (one (spot (entry (c .before .before))) _+_ by-none) ≡ 128

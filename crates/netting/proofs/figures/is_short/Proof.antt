@@ -7,8 +7,11 @@ use Rattle.netting.proofs.figures.is_short.Tie as tie
 returns : tie.Need-returns
 returns c =
     let s = c .before .before .before in
-    rw (has-viewed (s .args .slots .now) (s .args .figures .now) (s .args .i) (s .pre .2), owes-viewed (s .args .slots .now) (s .args .figures .now) (s .args .i) (s .pre .2))
+    let a = s .args in
+    rw (has-viewed (a .slots .now) (a .figures .now) (a .i) (s .pre .2), owes-viewed (a .slots .now) (a .figures .now) (a .i) (s .pre .2))
 
 pub is-short-spec : {M : Type 1} → statement M
 is-short-spec =
-    tie.close (tie.spec (λ c. search needs) (λ c. search needs) (λ c. search needs) (λ c. search needs) (λ c. search needs) (λ c. search needs) (λ c. search needs) returns)
+    tie.close
+    (tie.spec (λ c. search needs) (λ c. search needs) (λ c. search needs) (λ c. search needs) (λ c. search needs) (λ c. search needs) (λ c. search needs)
+    returns)

@@ -4,6 +4,7 @@ use mathlib.Core.List.{List}
 use mathlib.Core.Path.{_≡_, refl, sym, _∙_}
 use Prim.Native.Nat.{ℕ, _-_, _≤_, _<_}
 use native.Mathlib.Omega.{arith}
+use Rattle.words.specs.declared.Found.the-variants.{At}
 use Rattle.netting.specs.Marks.{isOn}
 use Rattle.netting.specs.Figures.{shortAt, lastBelow}
 use Rattle.netting.specs.Slots.{viewed}
@@ -25,65 +26,90 @@ Inv-loop held held-at funds funds-at marks n i₀ i =
 abbrev μ-loop : tie.MeasureT-loop
 μ-loop held held-at funds funds-at marks n i₀ i = i
 
+-- ---- places
+
+abbrev entry : tie.At-loop Inv-loop μ-loop → tie.Start Inv-loop μ-loop
+entry l = l .before .before .before .before .before
+
+abbrev turn : tie.Then1 Inv-loop μ-loop → tie.In-loop Inv-loop μ-loop
+turn c = c .before .before
+
+-- where the shares were asked, once they are not short
+abbrev shares : tie.Else2 Inv-loop μ-loop → tie.After-is-short Inv-loop μ-loop
+shares c = c .before
+
 abbrev heldIn : tie.Start Inv-loop μ-loop → List ℕ
 heldIn s = viewed (s .args .held-at .now) (s .args .held .now)
 
 abbrev fundsIn : tie.Start Inv-loop μ-loop → List ℕ
 fundsIn s = viewed (s .args .funds-at .now) (s .args .funds .now)
 
-is-short-requires : tie.Need-is-short-requires Inv-loop μ-loop
-is-short-requires c κs =
-    let s = c .before .before .before .before .before .before .before .before in
-    let i = c .before .before .before .loop .i - 1 in
-    let l : i < s .args .n = omega (arith, c .before .before .before .loop .inv .0, c .before .before .loop-test .taken) in
-    (s .pre .0, s .pre .3 .long, omega (arith, s .pre .2), s .pre .3 .low i l)
+abbrev tested : tie.In-loop Inv-loop μ-loop → ℕ → Bool
+tested t = let s = entry (t .before) in test (s .args .marks) (heldIn s) (fundsIn s)
 
-is-short-requires-2 : tie.Need-is-short-requires-2 Inv-loop μ-loop
-is-short-requires-2 c κs =
-    let s = c .before .before .before .before .before .before .before .before .before .before in
-    let i = c .before .before .before .before .before .loop .i - 1 in
-    let l : i < s .args .n = omega (arith, c .before .before .before .before .before .loop .inv .0, c .before .before .before .before .loop-test .taken) in
-    (s .pre .1, s .pre .4 .long, omega (arith, s .pre .2), s .pre .4 .low i l)
+inside : (t : tie.In-loop Inv-loop μ-loop) → t .before .loop .i - 1 < entry (t .before) .args .n
+inside t = omega (arith, t .before .loop .inv .0, t .loop-test .taken)
+
+-- what the mark, the shares and the cash are asked decides
+marked : (c : tie.Then1 Inv-loop μ-loop) → isOn (entry (turn c .before) .args .marks) (turn c .before .loop .i - 1) ≡ true
+marked c = sym (c .before .is-on .ensures) ∙ c .if1 .taken
+
+passes :
+    (t : tie.In-loop Inv-loop μ-loop) → tested t (t .before .loop .i - 1) ≡ true
+    → lastBelow (tested t) (entry (t .before) .args .n) ≡ At (t .before .loop .i - 1)
+passes t e = t .before .loop .inv .1 ∙ last-here (tested t) (t .before .loop .i) (t .loop-test .taken) e
+
+fails :
+    (t : tie.In-loop Inv-loop μ-loop) → tested t (t .before .loop .i - 1) ≡ false
+    → lastBelow (tested t) (entry (t .before) .args .n) ≡ lastBelow (tested t) (t .before .loop .i - 1)
+fails t e = t .before .loop .inv .1 ∙ last-before (tested t) (t .before .loop .i) (t .loop-test .taken) e
 
 returns : tie.Need-returns Inv-loop μ-loop
 returns c =
-    let s = c .before .before .before .before .before .before .before .before .before .before in
-    let l = c .before .before .before .before .before .loop in
-    sym (l .inv .1 ∙ last-here (test (s .args .marks) (heldIn s) (fundsIn s)) (l .i) (c .before .before .before .before .loop-test .taken)
-    (by _ _ (shortAt (fundsIn s) (l .i - 1)) true true _ (sym (c .before .before .before .is-on .ensures) ∙ c .before .before .if1 .taken) (sym (c .before .is-short .ensures) ∙ c .if2 .taken) refl))
+    let m = c .before .before in
+    let t = turn m in
+    let funds = shortAt (fundsIn (entry (t .before))) (t .before .loop .i - 1) in
+    sym (passes t (by _ _ funds true true _ (marked m) (sym (c .before .is-short .ensures) ∙ c .if2 .taken) refl))
 
 returns-2 : tie.Need-returns-2 Inv-loop μ-loop
 returns-2 c =
-    let s = c .before .before .before .before .before .before .before .before .before .before .before .before in
-    let l = c .before .before .before .before .before .before .before .loop in
-    sym (l .inv .1 ∙ last-here (test (s .args .marks) (heldIn s) (fundsIn s)) (l .i) (c .before .before .before .before .before .before .loop-test .taken)
-    (by _ _ _ true false true (sym (c .before .before .before .before .before .is-on .ensures) ∙ c .before .before .before .before .if1 .taken) (sym (c .before .before .before .is-short .ensures) ∙ c .before .before .if2 .left) (sym (c .before .is-short2 .ensures) ∙ c .if3 .taken)))
+    let o = c .before .before in
+    let m = shares o .before in
+    sym (passes (turn m)
+    (by _ _ _ true false true (marked m) (sym (shares o .is-short .ensures) ∙ o .if2 .left) (sym (c .before .is-short2 .ensures) ∙ c .if3 .taken)))
 
 loop-again : tie.Need-loop-again Inv-loop μ-loop
 loop-again c =
-    let s = c .before .before .before .before .before .before .before .before .before .before .before .before in
-    let l = c .before .before .before .before .before .before .before .loop in (
+    let o = c .before .before in
+    let m = shares o .before in (
       omega arith,
-      l .inv .1 ∙ last-before (test (s .args .marks) (heldIn s) (fundsIn s)) (l .i) (c .before .before .before .before .before .before .loop-test .taken)
-          (by _ _ _ true false false (sym (c .before .before .before .before .before .is-on .ensures) ∙ c .before .before .before .before .if1 .taken) (sym (c .before .before .before .is-short .ensures) ∙ c .before .before .if2 .left) (sym (c .before .is-short2 .ensures) ∙ c .if3 .left)),
+      fails (turn m)
+          (by _ _ _ true false false (marked m) (sym (shares o .is-short .ensures) ∙ o .if2 .left) (sym (c .before .is-short2 .ensures) ∙ c .if3 .left)),
     )
 
 loop-again-2 : tie.Need-loop-again-2 Inv-loop μ-loop
 loop-again-2 c =
-    let s = c .before .before .before .before .before .before .before .before in
-    let l = c .before .before .before .loop in (
-      omega arith,
-      l .inv .1 ∙ last-before (test (s .args .marks) (heldIn s) (fundsIn s)) (l .i) (c .before .before .loop-test .taken)
-          (by _ (shortAt (heldIn s) (l .i - 1)) (shortAt (fundsIn s) (l .i - 1)) false _ _ (sym (c .before .is-on .ensures) ∙ c .if1 .left) refl refl),
-    )
+    let t = c .before .before in
+    let s = entry (t .before) in
+    let i = t .before .loop .i - 1 in
+    (omega arith, fails t (by _ (shortAt (heldIn s) i) (shortAt (fundsIn s) i) false _ _ (sym (c .before .is-on .ensures) ∙ c .if1 .left) refl refl))
 
 returns-3 : tie.Need-returns-3 Inv-loop μ-loop
 returns-3 c =
-    let s = c .before .before .before .before .before .before in
+    let s = entry (c .before) in
     let l = c .before .loop in
     sym (l .inv .1 ∙ last-nowhere (test (s .args .marks) (heldIn s) (fundsIn s)) (l .i) (omega arith))
 
 pub last-short-spec : {M : Type 1} → statement M
 last-short-spec =
     tie.close
-    (tie.spec Inv-loop μ-loop (λ c. (omega arith, refl)) (λ c. omega arith) (λ c κs. omega (arith, c .before .before .before .before .before .before .pre .2)) is-short-requires returns is-short-requires-2 returns-2 (λ c. omega arith) loop-again (λ c. omega arith) loop-again-2 returns-3)
+    (tie.spec Inv-loop μ-loop (λ c. (omega arith, refl)) (λ c. omega arith) (λ c κs. omega (arith, entry (c .before) .pre .2))
+    (λ c κs.
+    let t = turn c in
+    let s = entry (t .before) in
+    (s .pre .0, s .pre .3 .long, omega (arith, inside t, s .pre .2), s .pre .3 .low _ (inside t))) returns
+    (λ c κs.
+    let t = turn (shares c .before) in
+    let s = entry (t .before) in
+    (s .pre .1, s .pre .4 .long, omega (arith, inside t, s .pre .2), s .pre .4 .low _ (inside t)))
+    returns-2 (λ c. omega arith) loop-again (λ c. omega arith) loop-again-2 returns-3)

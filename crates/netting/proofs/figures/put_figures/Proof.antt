@@ -8,4 +8,5 @@ use Rattle.netting.proofs.figures.put_figures.Tie as tie
 pub put-figures-spec : {M : Type 1} → statement M
 put-figures-spec =
     tie.close
-    (tie.spec (λ c. search needs) (λ c. search needs) (λ c. search needs) (λ c. search needs) (λ c. simp length-set (omega arith)) (λ c. search needs) (λ c. search needs))
+    (tie.spec (λ c. search needs) (λ c. search needs) (λ c. search needs) (λ c. search needs)
+    (λ c. simp length-set (omega arith)) (λ c. search needs) (λ c. search needs))

@@ -45,7 +45,8 @@ loop-again c =
     let two = stored c in
     let one = second two in
     let l = first one .before .loop in
-    (omega arith, rw (c .before .before .put-slots .ensures) (figures-more _ _ (l .slots) (l .k) (low (first one)) (l .inv .1) _ _ (one .slot-of .ensures) (two .slot-of2 .ensures)))
+    let more = figures-more _ _ (l .slots) (l .k) (low (first one)) (l .inv .1) _ _ (one .slot-of .ensures) (two .slot-of2 .ensures) in
+    (omega arith, rw (c .before .before .put-slots .ensures) more)
 
 returns : tie.Need-returns Inv-loop μ-loop
 returns c = let l = c .before .loop in figures-done _ _ (l .slots) _ (l .k) (c .loop-test .left) (l .inv .1)

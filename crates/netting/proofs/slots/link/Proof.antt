@@ -31,7 +31,8 @@ loop-again c =
     let t = turn b in
     let l = t .before .loop in
     let e = b .bucket-of .ensures in
-    (omega arith, rw (c .before .before .put-link .ensures) (linked-more (entry (t .before) .args .legs .now) (l .links) (l .i) (low t) (l .inv .1) _ (e .0) (e .1)))
+    let more = linked-more (entry (t .before) .args .legs .now) (l .links) (l .i) (low t) (l .inv .1) _ (e .0) (e .1) in
+    (omega arith, rw (c .before .before .put-link .ensures) more)
 
 returns : tie.Need-returns Inv-loop μ-loop
 returns c =

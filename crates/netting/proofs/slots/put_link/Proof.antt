@@ -8,4 +8,5 @@ use Rattle.netting.proofs.slots.put_link.Tie as tie
 pub put-link-spec : {M : Type 1} → statement M
 put-link-spec =
     tie.close
-    (tie.spec (λ c. search needs) (λ c. search needs) (λ c. search needs) (λ c. search needs) (λ c. search needs) (λ c. search needs) (λ c. search needs) (λ c. let s = c .before in rw length-set (omega (arith, s .pre))) (λ c. search needs) (λ c. search needs))
+    (tie.spec (λ c. search needs) (λ c. search needs) (λ c. search needs) (λ c. search needs) (λ c. search needs) (λ c. search needs) (λ c. search needs)
+    (λ c. let s = c .before in rw length-set (omega (arith, s .pre))) (λ c. search needs) (λ c. search needs))

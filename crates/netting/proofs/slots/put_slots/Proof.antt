@@ -8,4 +8,5 @@ use Rattle.netting.proofs.slots.put_slots.Tie as tie
 pub put-slots-spec : {M : Type 1} → statement M
 put-slots-spec =
     tie.close
-    (tie.spec (λ c. search needs) (λ c. search needs) (λ c. search needs) (λ c. search needs) (λ c. simp length-set (omega arith)) (λ c. search needs) (λ c. search needs))
+    (tie.spec (λ c. search needs) (λ c. search needs) (λ c. search needs) (λ c. search needs)
+    (λ c. simp length-set (omega arith)) (λ c. search needs) (λ c. search needs))
