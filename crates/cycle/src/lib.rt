@@ -28,20 +28,6 @@ fn count_cycle(book: &mut [u64])
     book::put_day(book, day);
 }
 
-// Nothing is counted yet.
-fn no_counts() -> Counts
-    ensures { λ r. ⌜ r ≡ counts 0 0 0 0 0 0 ⌝ }
-{
-    Counts {
-        rows: 0,
-        settled: 0,
-        cancelled: 0,
-        deleted: 0,
-        suspended: 0,
-        left: 0,
-    }
-}
-
 // Each settled trade has four rows and two sides; a trade that is due and does not settle is left.
 fn counts_of(selection: Selection, n: usize) -> Counts
     requires { ⌜ (n ≤ 64) × (countOn (isOn (selection .settled)) n ≤ countOn (isOn (selection .due)) n) ⌝ }
@@ -49,14 +35,14 @@ fn counts_of(selection: Selection, n: usize) -> Counts
 {
     let settled = marks::count(selection.settled, n);
     let due = marks::count(selection.due, n);
-    let mut counts = no_counts();
+    let mut counts = rows::no_counts();
     counts.rows = 4 * settled;
     counts.settled = 2 * settled;
     counts.left = due - settled;
     counts
 }
 
-// 16. The taken trades settle but for those that are dropped, which are left waiting; each settled trade's rows stand in the area.
+// RULES 6.16: what is due settles but for what is dropped, and the rows of what settles stand in the area.
 pub fn run(book: &mut [u64], area: &mut [u8]) -> Counts
     requires { ⌜ Kept (now book) × (4096 ≤ length (now area)) ⌝ }
     ensures { λ r. ⌜ ((order : Order) → Handled (cycle (ledgerOf (now (book .entry))) order) (now (book .exit)) (now (area .entry)) (now (area .exit)) r) ⌝ }
