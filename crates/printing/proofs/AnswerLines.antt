@@ -22,12 +22,16 @@ use Rattle.printing.specs.Printed.{answerLines, bookAfter, areaAfter, Le
 -- ---- some records, and more behind them
 
 module _ (more : List (List ℕ)) where
-  pub book-append : (book : Ledger) (area : List ℕ) (records : List (List ℕ)) → bookAfter book area (records ++ more) ≡ bookAfter (bookAfter book area records) (areaAfter book area records) more
+  pub book-append :
+      (book : Ledger) (area : List ℕ) (records : List (List ℕ))
+      → bookAfter book area (records ++ more) ≡ bookAfter (bookAfter book area records) (areaAfter book area records) more
   unfolding bookAfter areaAfter
   book-append book area [] = refl
   book-append book area (octets ∷ records) = book-append (callOf book octets area .book) (callOf book octets area .area) records
 
-  pub area-append : (book : Ledger) (area : List ℕ) (records : List (List ℕ)) → areaAfter book area (records ++ more) ≡ areaAfter (bookAfter book area records) (areaAfter book area records) more
+  pub area-append :
+      (book : Ledger) (area : List ℕ) (records : List (List ℕ))
+      → areaAfter book area (records ++ more) ≡ areaAfter (bookAfter book area records) (areaAfter book area records) more
   unfolding bookAfter areaAfter
   area-append book area [] = refl
   area-append book area (octets ∷ records) = area-append (callOf book octets area .book) (callOf book octets area .area) records
@@ -60,7 +64,8 @@ answered-then {number} {records} {x} {y} {z} {more} first second = record {
 -- one call
 pub answered-one :
     (number : ℕ) (octets book area out after-book after-area after : List ℕ) (at next : ℕ) (answer : Answer) → Kept after-book
-    → answer ≡ callOf (ledgerOf book) octets area .answer → ledgerOf after-book ≡ callOf (ledgerOf book) octets area .book → after-area ≡ callOf (ledgerOf book) octets area .area
+    → answer ≡ callOf (ledgerOf book) octets area .answer → ledgerOf after-book ≡ callOf (ledgerOf book) octets area .book
+    → after-area ≡ callOf (ledgerOf book) octets area .area
     → Put out at (answerLine number answer) after next → Answered number (octets ∷ []) (lent book area out at) (lent after-book after-area after next)
 unfolding answerLines bookAfter areaAfter
 answered-one number octets book area out after-book after-area after at next answer kept a b c line = record {
@@ -94,7 +99,8 @@ module _ {file : List ℕ} {number : ℕ} {before now : Lent} {cursor n : ℕ} (
   unfolding found
   walked-all e =
       let none : recordsOf (drop cursor file) ≡ [] = walk-step file cursor ∙ rw e in
-      subst (λ (l : List (List ℕ)). Answered number l before now) (sym (append-nil (w .met)) ∙ ap (λ (l : List (List ℕ)). w .met ++ l) (sym none) ∙ w .left) (w .answered)
+      let all = sym (append-nil (w .met)) ∙ ap (λ (l : List (List ℕ)). w .met ++ l) (sym none) ∙ w .left in
+      subst (λ (l : List (List ℕ)). Answered number l before now) all (w .answered)
 
   module _ {start end : ℕ} {next : Cursor} (e : nextAt file cursor ≡ Record start end next) where
     here : recordsOf (drop cursor file) ≡ take (end - start) (drop start file) ∷ recordsOf (drop (next .at) file)
@@ -112,7 +118,8 @@ module _ {file : List ℕ} {number : ℕ} {before now : Lent} {cursor n : ℕ} (
     less-left = omega (arith, ap length here)
 
     pub walked-more :
-        (after : Lent) → Answered n (take (end - start) (drop start file) ∷ []) now after → after .at ≤ now .at + 63 → Walked file number before after (next .at) (n + 1)
+        (after : Lent) → Answered n (take (end - start) (drop start file) ∷ []) now after → after .at ≤ now .at + 63
+        → Walked file number before after (next .at) (n + 1)
     walked-more after a near = record {
       met = w .met ++ (take (end - start) (drop start file) ∷ []);
       left = append-assoc (w .met) _ _ ∙ rw (← here) (w .left);
