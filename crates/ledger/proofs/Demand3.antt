@@ -3,12 +3,11 @@ use Prim.Native.Nat.{ℕ}
 use mathlib.Core.Path.{_≡_, refl, sym, ap, subst, _∙_}
 use mathlib.Core.List.{List, [], _∷_, _++_}
 use Rattle.rulebook.specs.Ledger.{Ledger, fresh}
-use Rattle.rulebook.specs.Call.{Result, callOf}
+use Rattle.rulebook.specs.Call.{callOf}
 use Rattle.rulebook.specs.Calls.{Call, call, Made, resultOf, callsOn, bookAfter, Balanced, Demand3}
 use Rattle.rulebook.proofs.Demand3.{demand3}
 use Rattle.book.specs.Meaning.{ledgerOf}
 use Rattle.book.specs.Stored.{Kept}
-use Rattle.rulebook.specs.declared.Answer.{Answer}
 use Rattle.ledger.specs.Reached.{Reached, made, called, ReachedBalanced}
 
 -- a call, as it is answered on a book

@@ -1,18 +1,17 @@
 -- What is known of a book and an order that no refusal applies to, as the book's functions ask for it. Assumes nothing.
 use Prim.Native.Nat.{ℕ, _+_, _-_, _≤_, _<_, _^_}
-use mathlib.Core.Path.{_≡_, refl, sym, ap, subst, _∙_}
+use mathlib.Core.Path.{_≡_, refl, sym, ap, _∙_}
 use mathlib.Core.Bool.{Bool, true, false, _&&_, not, false≢true}
 use mathlib.Core.List.{List}
 use native.Mathlib.Omega.{arith}
 use lib.ListN.{length}
-use borrow.Author.Tests.{ltb-false, eq-eqb, eqb-true, ne-eqb}
-use Rattle.rulebook.specs.Lists.{if_then_else_, _is_, _isNot_, _below_, within, first}
+use borrow.Author.Tests.{ltb-false, eq-eqb, eqb-true}
+use Rattle.rulebook.specs.Lists.{_is_, _isNot_, _below_, within}
 use Rattle.rulebook.specs.Ledger.{Ledger, Holdings, accountOf, sameAccount, admitted, outsideOf, counted, putBalance, putHoldings}
 use Rattle.rulebook.specs.Movements.{account, credit, debit}
-use Rattle.rulebook.specs.Premise.{Premise, CashFits}
+use Rattle.rulebook.specs.Premise.{CashFits}
 use Rattle.rulebook.specs.Field as Field
 use Rattle.rulebook.specs.Forms.{forms, rowOf, used, least}
-use Rattle.rulebook.specs.Refusals.{refusals, wrongSecurity, overCeiling}
 use Rattle.rulebook.specs.declared.Account.{Account}
 use Rattle.rulebook.specs.declared.Order.{Order}
 use Rattle.rulebook.proofs.Orders.{little-parts, debit-enough, not-admitted, needed}
@@ -27,7 +26,7 @@ use Rattle.book.specs.Meaning.{ledgerOf}
 use Rattle.book.proofs.Laws.{stored-counted}
 use Rattle.refusals.specs.Given.{Given}
 use Rattle.refusals.proofs.Passed.{known}
-use Rattle.refusals.proofs.Orders.{fits, ranges, debited-named, credited-named, some-quantity, payer}
+use Rattle.refusals.proofs.Orders.{fits, ranges, debited-named, credited-named, some-quantity}
 use Rattle.movements.proofs.Swap.{counted-among, counted-some, counted-most, counted-zero, debit-first}
 
 -- what a posting row can name is what an account's key can

@@ -99,8 +99,8 @@ module _ {file : List ℕ} {number : ℕ} {before now : Lent} {cursor n : ℕ} (
   unfolding found
   walked-all e =
       let none : recordsOf (drop cursor file) ≡ [] = walk-step file cursor ∙ rw e in
-      subst (λ (l : List (List ℕ)). Answered number l before now) (sym (append-nil (w .met)) ∙ ap (λ (l : List (List ℕ)). w .met ++ l) (sym none) ∙ w .left)
-      (w .answered)
+      let all = sym (append-nil (w .met)) ∙ ap (λ (l : List (List ℕ)). w .met ++ l) (sym none) ∙ w .left in
+      subst (λ (l : List (List ℕ)). Answered number l before now) all (w .answered)
 
   module _ {start end : ℕ} {next : Cursor} (e : nextAt file cursor ≡ Record start end next) where
     here : recordsOf (drop cursor file) ≡ take (end - start) (drop start file) ∷ recordsOf (drop (next .at) file)

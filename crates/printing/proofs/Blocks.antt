@@ -60,17 +60,12 @@ pub file-then :
     → FileCalled (file ++ block) number book area number″ book″ area″
 file-then {file} {block} {number} {book = book} {area} whole first second =
     let full : length file ≡ 40 * (length file / 40) = omega arith in
+    let both = records-append (length file / 40) file block full in
     record {
       kept = second .kept;
-      ledger =
-          second .ledger
-          ∙ rw (first .ledger, first .area, records-append (length file / 40) file block full) (sym (book-append (recordsOf block) _ _ (recordsOf file)));
-      area =
-          second .area
-          ∙ rw (first .ledger, first .area, records-append (length file / 40) file block full) (sym (area-append (recordsOf block) _ _ (recordsOf file)));
-      numbered =
-          second .numbered
-          ∙ rw (first .numbered, records-append (length file / 40) file block full, length-append (recordsOf file) (recordsOf block)) (omega arith);
+      ledger = second .ledger ∙ rw (first .ledger, first .area, both) (sym (book-append (recordsOf block) _ _ (recordsOf file)));
+      area = second .area ∙ rw (first .ledger, first .area, both) (sym (area-append (recordsOf block) _ _ (recordsOf file)));
+      numbered = second .numbered ∙ rw (first .numbered, both, length-append (recordsOf file) (recordsOf block)) (omega arith);
     }
 
 -- a block that was put was called

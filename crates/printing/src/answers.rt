@@ -18,7 +18,10 @@ fn put_answer(
     area: &mut [u8],
 ) -> usize
     requires { ⌜ Kept (now book) × (at + 63 ≤ length (now out)) ⌝ }
-    ensures { λ r. ⌜ Answered number (now (octets .entry) ∷ []) (lent (now (book .entry)) (now (area .entry)) (now (out .entry)) at) (lent (now (book .exit)) (now (area .exit)) (now (out .exit)) r) ⌝ }
+    ensures { λ r. ⌜
+        Answered number (now (octets .entry) ∷ []) (lent (now (book .entry)) (now (area .entry)) (now (out .entry)) at)
+        (lent (now (book .exit)) (now (area .exit)) (now (out .exit)) r)
+        ⌝ }
     ensures { λ r. ⌜ r ≤ at + 63 ⌝ }
 {
     let answer = ledger::call(book, octets, area);
@@ -35,7 +38,10 @@ pub fn put_answers(
     area: &mut [u8],
 ) -> usize
     requires { ⌜ Kept (now book) × (at + 63 * length (recordsOf (now file)) ≤ length (now out)) × (number + length (recordsOf (now file)) < 2 ^ 64) ⌝ }
-    ensures { λ r. ⌜ Answered number (recordsOf (now (file .entry))) (lent (now (book .entry)) (now (area .entry)) (now (out .entry)) at) (lent (now (book .exit)) (now (area .exit)) (now (out .exit)) r) ⌝ }
+    ensures { λ r. ⌜
+        Answered number (recordsOf (now (file .entry))) (lent (now (book .entry)) (now (area .entry)) (now (out .entry)) at)
+        (lent (now (book .exit)) (now (area .exit)) (now (out .exit)) r)
+        ⌝ }
 {
     let mut cursor = Cursor { at: 0 };
     let mut place = at;
@@ -61,7 +67,10 @@ pub fn put_block(
     area: &mut [u8],
 ) -> usize
     requires { ⌜ Kept (now book) × (65536 ≤ length (now out)) × (length (now block) ≤ 40960) × (now number + 1024 < 2 ^ 64) ⌝ }
-    ensures { λ r. ⌜ BlockPut (now (block .entry)) (now (number .entry)) (lent (now (book .entry)) (now (area .entry)) (now (out .entry)) 0) (now (number .exit)) (lent (now (book .exit)) (now (area .exit)) (now (out .exit)) r) ⌝ }
+    ensures { λ r. ⌜
+        BlockPut (now (block .entry)) (now (number .entry)) (lent (now (book .entry)) (now (area .entry)) (now (out .entry)) 0)
+        (now (number .exit)) (lent (now (book .exit)) (now (area .exit)) (now (out .exit)) r)
+        ⌝ }
 {
     let end = put_answers(out, 0, *number, book, block, area);
     *number = *number + (block.len() as u64 + 39) / 40;

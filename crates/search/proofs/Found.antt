@@ -15,23 +15,28 @@ use Rattle.search.specs.Place.{placeFrom, placeIn}
 
 -- ---- the loop: what is left of the list decides
 
-module _ {A : Type 0} (test : A → Bool) (l : List A) (i : ℕ) (h : i < length l) (d : A) where
-  next : placeFrom test i (drop i l) ≡ (if test (getD l i d) then At i else placeFrom test (i + 1) (drop (i + 1) l))
+module _ {A : Type 0} (test : A → Bool) (l : List A) where
+  -- nothing was found before i
+  abbrev pub Left : ℕ → Type 0
+  Left i = placeFrom test i (drop i l) ≡ placeIn test l
+
+  module _ (i : ℕ) (h : i < length l) (d : A) where
+    next : placeFrom test i (drop i l) ≡ (if test (getD l i d) then At i else placeFrom test (i + 1) (drop (i + 1) l))
+    unfolding placeFrom
+    next = rw (add-one, drop-cons l i d h) refl
+
+    -- the one at i passes
+    pub place-here : test (getD l i d) ≡ true → Left i → At i ≡ placeIn test l
+    place-here e left = sym (next ∙ rw e) ∙ left
+
+    -- the one at i does not pass
+    pub place-later : test (getD l i d) ≡ false → Left i → Left (i + 1)
+    place-later e left = sym (next ∙ rw e) ∙ left
+
+  -- none is left
+  pub place-none : (i : ℕ) → length l ≤ i → Left i → Nothing ≡ placeIn test l
   unfolding placeFrom
-  next = rw (add-one, drop-cons l i d h) refl
-
-  -- the one at i passes
-  pub place-here : test (getD l i d) ≡ true → placeFrom test i (drop i l) ≡ At i
-  place-here e = next ∙ rw e
-
-  -- the one at i does not pass
-  pub place-later : test (getD l i d) ≡ false → placeFrom test (i + 1) (drop (i + 1) l) ≡ placeFrom test i (drop i l)
-  place-later e = sym (next ∙ rw e)
-
--- none is left
-pub place-none : {A : Type 0} (test : A → Bool) (l : List A) (i : ℕ) → length l ≤ i → placeFrom test i (drop i l) ≡ Nothing
-unfolding placeFrom
-place-none test l i h = rw (drop-of-length-le l h)
+  place-none i h left = sym (rw (drop-of-length-le l h)) ∙ left
 
 pub not-true : (a : Bool) → not a ≡ true → a ≡ false
 not-true true e = sym e

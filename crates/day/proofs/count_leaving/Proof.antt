@@ -12,14 +12,6 @@ use Rattle.day.proofs.count_leaving.Tie as tie
 few : (c : tie.After-sides-of) → c .sides-of .result ≤ 2
 few c = omega (arith, c .sides-of .ensures, item-sides (c .before .args .state))
 
-returns : tie.Need-returns
-unfolding countedOne
-returns c = simp (c .before .before .before .sides-of .ensures, eq-eqb _ _ (c .before .if1 .taken), add-zero)
-
-returns-2 : tie.Need-returns-2
-unfolding countedOne
-returns-2 c = simp (c .before .before .before .sides-of .ensures, ne-eqb _ _ (c .before .if1 .left), add-zero)
-
 pub count-leaving-spec : {M : Type 1} → statement M
 count-leaving-spec =
     tie.close
@@ -27,6 +19,6 @@ count-leaving-spec =
     (λ c κs. search needs)
     (λ c. search needs)
     (λ c. omega (arith, few (c .before .before .before)))
-    returns
+    (λ c. unfold countedOne in simp (c .before .before .before .sides-of .ensures, eq-eqb _ _ (c .before .if1 .taken), add-zero))
     (λ c. omega (arith, few (c .before .before .before)))
-    returns-2)
+    (λ c. unfold countedOne in simp (c .before .before .before .sides-of .ensures, ne-eqb _ _ (c .before .if1 .left), add-zero)))

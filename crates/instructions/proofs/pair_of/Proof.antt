@@ -5,13 +5,12 @@ use Rattle.instructions.specs.Paired.{paired}
 use Rattle.instructions.proofs.pair_of.Statement.{statement}
 use Rattle.instructions.proofs.pair_of.Tie as tie
 
-returns : tie.Need-returns
-unfolding paired
-returns c = c .pair-up .ensures ∙ simp (sym (c .before .before .is-deliver .ensures) ∙ c .before .if1 .taken)
-
-returns-2 : tie.Need-returns-2
-unfolding paired
-returns-2 c = c .pair-up2 .ensures ∙ simp (sym (c .before .before .is-deliver .ensures) ∙ c .before .if1 .left)
-
 pub pair-of-spec : {M : Type 1} → statement M
-pair-of-spec = tie.close (tie.spec (λ c κs. search needs) (λ c κs. search needs) returns (λ c κs. search needs) returns-2)
+pair-of-spec =
+    tie.close
+    (tie.spec
+    (λ c κs. search needs)
+    (λ c κs. search needs)
+    (λ c. unfold paired in c .pair-up .ensures ∙ simp (sym (c .before .before .is-deliver .ensures) ∙ c .before .if1 .taken))
+    (λ c κs. search needs)
+    (λ c. unfold paired in c .pair-up2 .ensures ∙ simp (sym (c .before .before .is-deliver .ensures) ∙ c .before .if1 .left)))

@@ -1,8 +1,6 @@
 -- `ledger::call` meets its contract: it ends in one of four ways. Assumes nothing.
-use mathlib.Core.Path.{_≡_, sym, _∙_}
+use mathlib.Core.Path.{sym, _∙_}
 use borrow.Author.Needs.{needs}
-use Rattle.rulebook.specs.Record.{readOf}
-use Rattle.rulebook.specs.declared.Read.{Read}
 use Rattle.refusals.specs.Given.{WasRead, Given}
 use Rattle.ledger.proofs.Calls.{too-short, unread-as, refuses, accepts}
 use Rattle.ledger.proofs.call.Statement.{statement}

@@ -40,16 +40,15 @@ either-way f g (inl a) = f a
 either-way f g (inr b) = g b
 
 -- every form has an arm
-none-left : (n : ℕ) → HasForm n → 18 ≤ n → ⊥
-unfolding forms
-none-left n h l = omega (arith, h .1)
-
 no-form : tie.Joined1 → ⊥
+unfolding forms
 no-form c =
     let has : HasForm (form (c .before)) = ranges _ (start (c .before) .pre .given .read) .form in
     let rest = c .before .match .rest in
-    either-way (λ t. absurd (omega (arith, t .taken, has .0)))
-    (λ t. none-left _ has (past 17 _ (past 16 _ (past 15 _ (past 14 _ (t .2 .left) (rest .0 .0 .0 .1)) (rest .0 .0 .1)) (rest .0 .1)) (rest .1)))
+    either-way (λ t. omega (arith, t .taken, has .0))
+    (λ t.
+    let last = past 17 _ (past 16 _ (past 15 _ (past 14 _ (t .2 .left) (rest .0 .0 .0 .1)) (rest .0 .0 .1)) (rest .0 .1)) (rest .1) in
+    omega (arith, last, has .1))
     (c .if1 .came)
 
 transfer-requires : tie.Need-transfer-requires

@@ -4,13 +4,5 @@ use Rattle.rulebook.specs.Record.{readNumber}
 use Rattle.ledger.proofs.number_of.Statement.{statement}
 use Rattle.ledger.proofs.number_of.Tie as tie
 
-returns : tie.Need-returns
-unfolding readNumber
-returns c = cc
-
-returns-2 : tie.Need-returns-2
-unfolding readNumber
-returns-2 c = cc
-
 pub number-of-spec : {M : Type 1} → statement M
-number-of-spec = tie.close (tie.spec (λ c. search needs) (λ c. search needs) returns returns-2)
+number-of-spec = tie.close (tie.spec (λ c. search needs) (λ c. search needs) (λ c. unfold readNumber in cc) (λ c. unfold readNumber in cc))

@@ -4,9 +4,5 @@ use Rattle.rulebook.specs.Forms.{counts}
 use Rattle.rows.proofs.no_counts.Statement.{statement}
 use Rattle.rows.proofs.no_counts.Tie as tie
 
-returns : tie.Need-returns
-unfolding counts
-returns c = refl
-
 pub no-counts-spec : {M : Type 1} → statement M
-no-counts-spec = tie.close (tie.spec returns)
+no-counts-spec = tie.close (tie.spec (λ c. unfold counts in refl))

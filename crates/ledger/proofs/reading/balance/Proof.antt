@@ -7,12 +7,11 @@ use Rattle.book.specs.Meaning.{holdingsOf}
 use Rattle.ledger.proofs.reading.balance.Statement.{statement}
 use Rattle.ledger.proofs.reading.balance.Tie as tie
 
-balance-requires : tie.Need-balance-requires
-balance-requires c κs = (c .before .before .before .pre .stored, range-holds _ (sym (c .before .is-named .ensures) ∙ c .if1 .taken))
-
-returns-2 : tie.Need-returns-2
-unfolding holdingsOf balanceOf
-returns-2 c = rw (sym (c .before .is-named .ensures) ∙ c .if1 .left)
-
 pub balance-spec : {M : Type 1} → statement M
-balance-spec = tie.close (tie.spec (λ c κs. search needs) balance-requires (λ c. search needs) returns-2)
+balance-spec =
+    tie.close
+    (tie.spec
+    (λ c κs. search needs)
+    (λ c κs. (c .before .before .before .pre .stored, range-holds _ (sym (c .before .is-named .ensures) ∙ c .if1 .taken)))
+    (λ c. search needs)
+    (λ c. unfold holdingsOf balanceOf in rw (sym (c .before .is-named .ensures) ∙ c .if1 .left)))

@@ -7,12 +7,11 @@ use Rattle.book.specs.Meaning.{holdingsOf}
 use Rattle.ledger.proofs.reading.cash.Statement.{statement}
 use Rattle.ledger.proofs.reading.cash.Tie as tie
 
-cash-requires : tie.Need-cash-requires
-cash-requires c κs = (c .before .before .before .pre .stored, fits-kept _ _ (sym (c .before .is-kept .ensures) ∙ c .if1 .taken))
-
-returns-2 : tie.Need-returns-2
-unfolding holdingsOf amountOf
-returns-2 c = rw (sym (c .before .is-kept .ensures) ∙ c .if1 .left)
-
 pub cash-spec : {M : Type 1} → statement M
-cash-spec = tie.close (tie.spec (λ c κs. search needs) cash-requires (λ c. search needs) returns-2)
+cash-spec =
+    tie.close
+    (tie.spec
+    (λ c κs. search needs)
+    (λ c κs. (c .before .before .before .pre .stored, fits-kept _ _ (sym (c .before .is-kept .ensures) ∙ c .if1 .taken)))
+    (λ c. search needs)
+    (λ c. unfold holdingsOf amountOf in rw (sym (c .before .is-kept .ensures) ∙ c .if1 .left)))

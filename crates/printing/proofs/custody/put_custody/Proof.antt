@@ -20,8 +20,8 @@ none = record { code = 0; issued = record { 0 = 0 }; outside = record { 0 = 0 } 
 
 abbrev Inv-loop : tie.InvT-loop
 Inv-loop out₀ at book n next₀ i₀ out next i =
-    (i ≤ n) × (next ≤ at + 112 * i) × (length out ≡ length out₀)
-    × Put out₀ at (custodyFrom (ledgerOf book .holdings) (take i (ledgerOf book .holdings .securities))) out next
+    let h = ledgerOf book .holdings in
+    (i ≤ n) × (next ≤ at + 112 * i) × (length out ≡ length out₀) × Put out₀ at (custodyFrom h (take i (h .securities))) out next
 
 abbrev μ-loop : tie.MeasureT-loop
 μ-loop out₀ at book n next₀ i₀ out next i = n - i
@@ -30,29 +30,37 @@ loop-holds : tie.Need-loop-holds Inv-loop μ-loop
 unfolding custodyFrom
 loop-holds c = (search needs, search needs, search needs, put-none _ _ (search needs))
 
+abbrev start : tie.At-loop Inv-loop μ-loop → tie.Start Inv-loop μ-loop
+start c = c .before .before .before .before
+
+abbrev turn : tie.After-put-security Inv-loop μ-loop → tie.At-loop Inv-loop μ-loop
+turn c = c .before .before .before
+
 put-security-requires : tie.Need-put-security-requires Inv-loop μ-loop
 put-security-requires c κs =
-    let inside = c .before .before .before .securities .ensures in
-    let few = c .before .before .before .before .before .before .pre .0 .premise .sizes .securities in
-    (c .before .before .before .before .before .before .pre .0, omega arith, omega arith)
+    let l = c .before .before in
+    let inside = l .before .securities .ensures in
+    let few = start l .pre .0 .premise .sizes .securities in
+    (start l .pre .0, omega arith, omega arith)
 
 loop-again : tie.Need-loop-again Inv-loop μ-loop
 loop-again c =
-    let inside = c .before .before .before .before .before .before .securities .ensures in
-    let securities = ledgerOf (c .before .before .before .before .before .before .before .before .before .args .book .now) .holdings .securities in
-    let line = c .before .before .put-security .ensures .0 in
-    (omega arith, omega arith, c .before .before .put-security .kept .0 ∙ c .before .before .before .before .before .loop .inv .2, rw (one-line-more _ securities (c .before .before .before .before .before .loop .i) none (omega arith)) (put-then (c .before .before .before .before .before .loop .inv .3) (line none)))
-
-same-length : tie.Need-same-length Inv-loop μ-loop
-same-length c = c .before .loop .inv .2
+    let put = c .before .before in
+    let l = turn put in
+    let inside = l .before .securities .ensures in
+    let securities = ledgerOf (start l .args .book .now) .holdings .securities in (
+      omega arith,
+      omega arith,
+      put .put-security .kept .0 ∙ l .loop .inv .2,
+      rw (one-line-more _ securities (l .loop .i) none (omega arith)) (put-then (l .loop .inv .3) (put .put-security .ensures .0 none)),
+    )
 
 returns : tie.Need-returns Inv-loop μ-loop
 unfolding custodyLines
 returns c =
-    let all : length (ledgerOf (c .before .before .before .before .before .args .book .now) .holdings .securities) ≤ c .before .loop .i =
-    omega (arith, c .before .before .securities .ensures)
-    in
-    rw (take-all _ _ all) at (c .before .loop .inv .3)
+    let l = c .before in
+    let all : length (ledgerOf (start l .args .book .now) .holdings .securities) ≤ l .loop .i = omega (arith, l .before .securities .ensures) in
+    rw (take-all _ _ all) at (l .loop .inv .3)
 
 pub put-custody-spec : {M : Type 1} → statement M
 put-custody-spec =
@@ -66,5 +74,5 @@ put-custody-spec =
     (λ c. search needs)
     (λ c. search needs)
     loop-again
-    same-length
+    (λ c. c .before .loop .inv .2)
     returns)
