@@ -1,12 +1,12 @@
 #!/usr/bin/env python3
 """Writes record files for the printing program, and what it is to print of them.
 
-    records.py paper           the records of document 01, "Printing program"
+    records.py example         the records of RULES 13.7
     records.py every           every form accepted, and every refusal from 2 to 18
-    records.py paper printed   what the program prints of them
+    records.py example printed what the program prints of them
     records.py every printed
 
-Each entry is a record, named as the paper names it, with the answer and the rows that the paper gives it.
+Each entry is a record, with the answer and the rows that the rules give it.
 """
 import sys
 
@@ -96,7 +96,7 @@ def close(minute):
     return record(form=17, minute=minute)
 
 
-def paper():
+def example_records():
     holder = (7, 20, 5)
     return [
         (open_day(470, 1), 0, 0),
@@ -212,13 +212,13 @@ def every():
 
 # code, issued, held, outside of each security
 CUSTODY = {
-    paper: [(101, 1000, 400, 600)],
+    example_records: [(101, 1000, 400, 600)],
     every: [(101, 1000, 350, 650)] + [(code, 1, 0, 1) for code in range(102, 133)],
 }
 
 
 def main(which, what="records"):
-    example = {"paper": paper, "every": every}[which]
+    example = {"example": example_records, "every": every}[which]
     if what == "printed":
         for number, (_, answer, rows) in enumerate(example(), 1):
             print(number, answer, rows)

@@ -100,7 +100,11 @@ fn remove_account(accounts: &mut [u64], i: usize)
 // More in the account, which is opened where there is none.
 pub fn credit(accounts: &mut [u64], account: Account, quantity: Shares)
     requires { ⌜ Kept (now accounts) × CreditFits account (balanceOf (now accounts) account) (rows (now accounts)) (quantity .0) ⌝ }
-    ensures { λ u. ⌜ Kept (now (accounts .exit)) × ((h : Holdings) → withAccounts (now (accounts .exit)) h ≡ movements.credit (movements.account account) (quantity .0) (withAccounts (now (accounts .entry)) h)) ⌝ }
+    ensures { λ u. ⌜
+        Kept (now (accounts .exit))
+        ×
+        ((h : Holdings) → withAccounts (now (accounts .exit)) h ≡ movements.credit (movements.account account) (quantity .0) (withAccounts (now (accounts .entry)) h))
+        ⌝ }
 {
     let found = find(accounts, account);
     match found {
@@ -115,7 +119,11 @@ pub fn credit(accounts: &mut [u64], account: Account, quantity: Shares)
 // Less in the account, which is removed where nothing is left.
 pub fn debit(accounts: &mut [u64], account: Account, quantity: Shares)
     requires { ⌜ Kept (now accounts) × (0 < quantity .0) × (quantity .0 ≤ balanceOf (now accounts) account) ⌝ }
-    ensures { λ u. ⌜ Kept (now (accounts .exit)) × ((h : Holdings) → withAccounts (now (accounts .exit)) h ≡ movements.debit (movements.account account) (quantity .0) (withAccounts (now (accounts .entry)) h)) ⌝ }
+    ensures { λ u. ⌜
+        Kept (now (accounts .exit))
+        ×
+        ((h : Holdings) → withAccounts (now (accounts .exit)) h ≡ movements.debit (movements.account account) (quantity .0) (withAccounts (now (accounts .entry)) h))
+        ⌝ }
 {
     let found = find(accounts, account);
     match found {

@@ -34,7 +34,9 @@ pub fn amount(cash: &[u64], member: u64, currency: u64) -> Cents
 // More for the member.
 pub fn credit(cash: &mut [u64], member: u64, currency: u64, amount: Cents)
     requires { ⌜ (length (now cash) ≡ 128) × CashFits member currency × (amountOf (now cash) member currency + amount .0 < 2 ^ 64) ⌝ }
-    ensures { λ u. ⌜ ((h : Holdings) → withCash (now (cash .exit)) h ≡ movements.credit (movements.cashOf member currency) (amount .0) (withCash (now (cash .entry)) h)) ⌝ }
+    ensures { λ u. ⌜
+        ((h : Holdings) → withCash (now (cash .exit)) h ≡ movements.credit (movements.cashOf member currency) (amount .0) (withCash (now (cash .entry)) h))
+        ⌝ }
 {
     let at = place_of(member, currency);
     let now = cash[at];
@@ -44,7 +46,9 @@ pub fn credit(cash: &mut [u64], member: u64, currency: u64, amount: Cents)
 // Less for the member.
 pub fn debit(cash: &mut [u64], member: u64, currency: u64, amount: Cents)
     requires { ⌜ (length (now cash) ≡ 128) × CashFits member currency × (amount .0 ≤ amountOf (now cash) member currency) ⌝ }
-    ensures { λ u. ⌜ ((h : Holdings) → withCash (now (cash .exit)) h ≡ movements.debit (movements.cashOf member currency) (amount .0) (withCash (now (cash .entry)) h)) ⌝ }
+    ensures { λ u. ⌜
+        ((h : Holdings) → withCash (now (cash .exit)) h ≡ movements.debit (movements.cashOf member currency) (amount .0) (withCash (now (cash .entry)) h))
+        ⌝ }
 {
     let at = place_of(member, currency);
     let now = cash[at];

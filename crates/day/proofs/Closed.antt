@@ -203,7 +203,8 @@ module _ (day : ℕ) (start free : List ℕ) where
 
 pub day-closed :
     (book : List ℕ) (order : Order) (d : Day) (mid after free area : List ℕ) (c : Counts) → d ≡ ledgerOf book .day
-    → Handled (itemsClosed d.number (ledgerOf book)) mid free area c → Means after (putDay (closing d) (ledgerOf mid)) → Handled (close (ledgerOf book) order) after free area c
+    → Handled (itemsClosed d.number (ledgerOf book)) mid free area c → Means after (putDay (closing d) (ledgerOf mid))
+    → Handled (close (ledgerOf book) order) after free area c
 unfolding close outcome itemsClosed putDay putWaiting
 day-closed book order d mid after free area c e h m =
     let items = subst (λ (x : Day). Handled (itemsClosed x.number (ledgerOf book)) mid free area c) e h in

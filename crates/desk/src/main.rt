@@ -26,7 +26,10 @@ fn print_answers(
     area: &mut [u8],
 ) -> bool
     requires { ⌜ Kept (now book) × (length (now out) ≡ OUT) × (length (now block) ≤ BLOCK) × (now number + 1024 < 2 ^ 64) ⌝ }
-    ensures { λ r. ⌜ BlockPrinted (now (block .entry)) (now (number .entry)) (now (book .entry)) (now (area .entry)) (now (out .entry)) (now (number .exit)) (now (book .exit)) (now (area .exit)) (now (out .exit)) ⌝ }
+    ensures { λ r. ⌜
+        BlockPrinted (now (block .entry)) (now (number .entry)) (now (book .entry)) (now (area .entry)) (now (out .entry)) (now (number .exit))
+        (now (book .exit)) (now (area .exit)) (now (out .exit))
+        ⌝ }
 {
     let end = printing::put_block(out, number, book, block, area);
     output::print(&out[..end])
@@ -51,7 +54,10 @@ fn print_block(
     number: &mut u64,
 ) -> bool
     requires { ⌜ Kept (now book) × (length (now input) ≡ BLOCK) × (length (now out) ≡ OUT) × (now number + 1024 < 2 ^ 64) ⌝ }
-    ensures { λ r. ⌜ ReadAndCalled (now (input .exit)) r (now (number .entry)) (now (book .entry)) (now (area .entry)) (now (number .exit)) (now (book .exit)) (now (area .exit)) ⌝ }
+    ensures { λ r. ⌜
+        ReadAndCalled (now (input .exit)) r (now (number .entry)) (now (book .entry)) (now (area .entry)) (now (number .exit)) (now (book .exit))
+        (now (area .exit))
+        ⌝ }
 {
     let filled = input::fill(input);
     let size = filled.size;

@@ -90,7 +90,9 @@ pub fn write_shares(area: &mut [u8], from: Account, to: Account, quantity: Share
 // Cash goes from one member to another; member 0 stands for cash that is not in the book.
 pub fn write_cash(area: &mut [u8], currency: u64, from: u64, to: u64, amount: Cents)
     requires { ⌜ (32 ≤ length (now area)) × CashFits from currency × CashFits to currency ⌝ }
-    ensures { λ u. ⌜ now (area .exit) ≡ rowsBytes (postingRows (move (cashOf from currency) (cashOf to currency) (amount .0) ∷ [])) ++ drop 32 (now (area .entry)) ⌝ }
+    ensures { λ u. ⌜
+        now (area .exit) ≡ rowsBytes (postingRows (move (cashOf from currency) (cashOf to currency) (amount .0) ∷ [])) ++ drop 32 (now (area .entry))
+        ⌝ }
 {
     write_movement(
         area,

@@ -51,7 +51,11 @@ pub fn outside(securities: &[u64], code: u64) -> Shares
 // The security goes last, all of it outside.
 pub fn admit(securities: &mut [u64], code: u64, quantity: Shares)
     requires { ⌜ Kept (now securities) × (rows (now securities) < 32) × ((h : Holdings) → admitted code (withSecurities (now securities) h) ≡ false) ⌝ }
-    ensures { λ u. ⌜ Kept (now (securities .exit)) × (securitiesOf (now (securities .exit)) ≡ securitiesOf (now (securities .entry)) ++ (record { code = code; issued = quantity; outside = quantity } ∷ [])) ⌝ }
+    ensures { λ u. ⌜
+        Kept (now (securities .exit))
+        ×
+        (securitiesOf (now (securities .exit)) ≡ securitiesOf (now (securities .entry)) ++ (record { code = code; issued = quantity; outside = quantity } ∷ []))
+        ⌝ }
 {
     let n = securities[0];
     let at = n as usize;
@@ -64,7 +68,11 @@ pub fn admit(securities: &mut [u64], code: u64, quantity: Shares)
 // More of the security outside.
 pub fn credit_outside(securities: &mut [u64], code: u64, quantity: Shares)
     requires { ⌜ Kept (now securities) × ((h : Holdings) → outsideOf code (withSecurities (now securities) h) + quantity .0 < 2 ^ 64) ⌝ }
-    ensures { λ u. ⌜ Kept (now (securities .exit)) × ((h : Holdings) → withSecurities (now (securities .exit)) h ≡ movements.credit (movements.type91 code) (quantity .0) (withSecurities (now (securities .entry)) h)) ⌝ }
+    ensures { λ u. ⌜
+        Kept (now (securities .exit))
+        ×
+        ((h : Holdings) → withSecurities (now (securities .exit)) h ≡ movements.credit (movements.type91 code) (quantity .0) (withSecurities (now (securities .entry)) h))
+        ⌝ }
 {
     let found = words::find(securities, code);
     match found {
@@ -79,7 +87,11 @@ pub fn credit_outside(securities: &mut [u64], code: u64, quantity: Shares)
 // Less of the security outside.
 pub fn debit_outside(securities: &mut [u64], code: u64, quantity: Shares)
     requires { ⌜ Kept (now securities) × ((h : Holdings) → quantity .0 ≤ outsideOf code (withSecurities (now securities) h)) ⌝ }
-    ensures { λ u. ⌜ Kept (now (securities .exit)) × ((h : Holdings) → withSecurities (now (securities .exit)) h ≡ movements.debit (movements.type91 code) (quantity .0) (withSecurities (now (securities .entry)) h)) ⌝ }
+    ensures { λ u. ⌜
+        Kept (now (securities .exit))
+        ×
+        ((h : Holdings) → withSecurities (now (securities .exit)) h ≡ movements.debit (movements.type91 code) (quantity .0) (withSecurities (now (securities .entry)) h))
+        ⌝ }
 {
     let found = words::find(securities, code);
     match found {

@@ -131,7 +131,9 @@ pub fn may_bear(items: &[u64], i: usize, reference: u64) -> bool
 // Whether the item at `i` may pair with one of that quantity, by its words where they lie: false where it is no single of that quantity.
 pub fn may_pair(items: &[u64], i: usize, quantity: Shares) -> bool
     requires { ⌜ Sized (now items) × (i < rows (now items)) ⌝ }
-    ensures { λ r. ⌜ ((d arriving : Item) (limit : ℕ) → arriving .quantity ≡ quantity → r ≡ false → pairsWith limit arriving (getD (itemsOf (now (items .entry))) i d) ≡ false) ⌝ }
+    ensures { λ r. ⌜
+        ((d arriving : Item) (limit : ℕ) → arriving .quantity ≡ quantity → r ≡ false → pairsWith limit arriving (getD (itemsOf (now (items .entry))) i d) ≡ false)
+        ⌝ }
 {
     let at = i * 16 + 1;
     if items[at + 8] != quantity.0 {

@@ -71,23 +71,28 @@ returns c = let done = c .before .before in as-effect _ _ (effect-at 1 _ _ (done
 
 returns-2 : tie.Need-returns-2
 unfolding forms rowOf
-returns-2 c = let done = c .before .before .before .before in as-effect _ _ (effect-at 2 _ _ (done .before .before .before .match .keys2)) (done .admit .ensures)
+returns-2 c =
+    let done = c .before .before .before .before in as-effect _ _ (effect-at 2 _ _ (done .before .before .before .match .keys2)) (done .admit .ensures)
 
 returns-3 : tie.Need-returns-3
 unfolding forms rowOf
-returns-3 c = let done = c .before .before .before .before in as-effect _ _ (effect-at 3 _ _ (done .before .before .before .match .keys3)) (done .deposit .ensures)
+returns-3 c =
+    let done = c .before .before .before .before in as-effect _ _ (effect-at 3 _ _ (done .before .before .before .match .keys3)) (done .deposit .ensures)
 
 returns-4 : tie.Need-returns-4
 unfolding forms rowOf
-returns-4 c = let done = c .before .before .before .before in as-effect _ _ (effect-at 4 _ _ (done .before .before .before .match .keys4)) (done .withdraw .ensures)
+returns-4 c =
+    let done = c .before .before .before .before in as-effect _ _ (effect-at 4 _ _ (done .before .before .before .match .keys4)) (done .withdraw .ensures)
 
 returns-5 : tie.Need-returns-5
 unfolding forms rowOf
-returns-5 c = let done = c .before .before .before .before in as-effect _ _ (effect-at 10 _ _ (done .before .before .before .match .keys5)) (done .pay-in .ensures)
+returns-5 c =
+    let done = c .before .before .before .before in as-effect _ _ (effect-at 10 _ _ (done .before .before .before .match .keys5)) (done .pay-in .ensures)
 
 returns-6 : tie.Need-returns-6
 unfolding forms rowOf
-returns-6 c = let done = c .before .before .before .before in as-effect _ _ (effect-at 11 _ _ (done .before .before .before .match .keys6)) (done .pay-out .ensures)
+returns-6 c =
+    let done = c .before .before .before .before in as-effect _ _ (effect-at 11 _ _ (done .before .before .before .match .keys6)) (done .pay-out .ensures)
 
 returns-7 : tie.Need-returns-7
 unfolding forms rowOf
@@ -95,15 +100,18 @@ returns-7 c = let done = c .before .before in as-effect _ _ (effect-at 14 _ _ (d
 
 returns-8 : tie.Need-returns-8
 unfolding forms rowOf
-returns-8 c = let done = c .before .before .before .before in as-effect _ _ (effect-at 15 _ _ (done .before .before .before .match .keys8)) (done .cancel .ensures)
+returns-8 c =
+    let done = c .before .before .before .before in as-effect _ _ (effect-at 15 _ _ (done .before .before .before .match .keys8)) (done .cancel .ensures)
 
 returns-9 : tie.Need-returns-9
 unfolding forms rowOf
-returns-9 c = let done = c .before .before .before .before in as-effect _ _ (effect-at 16 _ _ (done .before .before .before .match .keys9)) (done .run .ensures _)
+returns-9 c =
+    let done = c .before .before .before .before in as-effect _ _ (effect-at 16 _ _ (done .before .before .before .match .keys9)) (done .run .ensures _)
 
 returns-10 : tie.Need-returns-10
 unfolding forms rowOf
-returns-10 c = let done = c .before .before .before .before in as-effect _ _ (effect-at 17 _ _ (done .before .before .before .match .keys10)) (done .close .ensures)
+returns-10 c =
+    let done = c .before .before .before .before in as-effect _ _ (effect-at 17 _ _ (done .before .before .before .match .keys10)) (done .close .ensures)
 
 returns-11 : tie.Need-returns-11
 returns-11 c =

@@ -34,7 +34,8 @@ returns c =
     let s = start booked in
     let order = s .args .order in
     moved (ledgerOf (s .args .book .now)) (c .two-rows .ensures)
-    (member0 (order .currency)) (cashOf (order .credited .member) (order .currency)) (order .amount .0) (booked .credit-cash .ensures) (wrote .write-cash .ensures)
+    (member0 (order .currency)) (cashOf (order .credited .member) (order .currency)) (order .amount .0) (booked .credit-cash .ensures)
+    (wrote .write-cash .ensures)
 
 pub pay-in-spec : {M : Type 1} → statement M
 pay-in-spec =

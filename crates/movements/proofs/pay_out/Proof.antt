@@ -35,7 +35,8 @@ returns c =
     let s = start booked in
     let order = s .args .order in
     moved (ledgerOf (s .args .book .now)) (c .two-rows .ensures)
-    (cashOf (order .debited .member) (order .currency)) (member0 (order .currency)) (order .amount .0) (booked .debit-cash .ensures) (wrote .write-cash .ensures)
+    (cashOf (order .debited .member) (order .currency)) (member0 (order .currency)) (order .amount .0) (booked .debit-cash .ensures)
+    (wrote .write-cash .ensures)
 
 pub pay-out-spec : {M : Type 1} → statement M
 pay-out-spec =
