@@ -13,10 +13,11 @@ use Rattle.rulebook.specs.declared.Account.{Account}
 use Rattle.rulebook.proofs.Held.{held-put, held-put-other, accounts-put}
 use Rattle.rulebook.proofs.Sums.{none-held}
 use Rattle.rulebook.proofs.EveryCall.{fresh-premise}
+use Rattle.rulebook.specs.Ranges.{AccountInRange}
 use Rattle.words.specs.Tables.{rows, keyAt, sumOf, valueOf}
 use Rattle.words.proofs.Sums.{sum-none, sum-suc, sum-last, sum-least, sum-grows}
 use Rattle.words.proofs.Tables.{key-once}
-use Rattle.accounts.specs.Keys.{keyOf, securityOf, InRange, inRange}
+use Rattle.accounts.specs.Keys.{keyOf, securityOf, inRange}
 use Rattle.accounts.specs.Map.{balanceAt, balanceOf, withAccounts, Kept}
 use Rattle.accounts.proofs.Keys.{range-true, range-holds, account-range, key-back, key-test, other-range, accountOf}
 use Rattle.accounts.proofs.Rows.{balance-some, counted-some, counted-none}
@@ -75,7 +76,7 @@ module _ (a : List ℕ) (kept : Kept a) where
     own : Account
     own = accountOf (keyAt a m)
 
-    range : InRange own
+    range : AccountInRange own
     unfolding own
     range = account-range (keyAt a m) fits
 
@@ -109,7 +110,7 @@ module _ (a : List ℕ) (kept : Kept a) where
             ≡ (if sameAccount own other then balanceAt a m else if inRange other then sum-to m (keyOf other) else 0)
         map other = go (inRange other) refl
           where
-            same : InRange other → (b : Bool) → sameAccount own other ≡ b → sum-to (suc m) (keyOf other) ≡ (if b then balanceAt a m else sum-to m (keyOf other))
+            same : AccountInRange other → (b : Bool) → sameAccount own other ≡ b → sum-to (suc m) (keyOf other) ≡ (if b then balanceAt a m else sum-to m (keyOf other))
             same r true e =
                 let is-key : (keyAt a m is keyOf other) ≡ true = rw (← own-key) (key-test own other range r ∙ e) in
                 let none : sum-to m (keyOf other) ≡ 0 = ap (sum-to m) (sym (eqb-true (keyAt a m) (keyOf other) is-key)) ∙ not-yet in

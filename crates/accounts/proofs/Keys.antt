@@ -9,13 +9,14 @@ use Rattle.rulebook.specs.Ledger.{sameAccount}
 use Rattle.rulebook.specs.declared.Account.{Account}
 use Rattle.rulebook.proofs.Held.{same-self}
 use Rattle.rulebook.proofs.Lists.{both}
-use Rattle.accounts.specs.Keys.{keyOf, securityOf, InRange, inRange}
+use Rattle.rulebook.specs.Ranges.{AccountInRange}
+use Rattle.accounts.specs.Keys.{keyOf, securityOf, inRange}
 
-pub range-true : (a : Account) → InRange a → inRange a ≡ true
+pub range-true : (a : Account) → AccountInRange a → inRange a ≡ true
 unfolding inRange
 range-true a r = rw (lt-ltb _ _ r.security, lt-ltb _ _ r.member, lt-ltb _ _ r.typ, lt-ltb _ _ r.shareholder)
 
-pub range-holds : (a : Account) → inRange a ≡ true → InRange a
+pub range-holds : (a : Account) → inRange a ≡ true → AccountInRange a
 unfolding inRange
 range-holds a e =
     let h = both (a.security below 2 ^ 14 && a.member below 2 ^ 10 && a.typ below 2 ^ 8) (a.shareholder below 2 ^ 30) e in
@@ -23,16 +24,16 @@ range-holds a e =
     let s = both (a.security below 2 ^ 14) (a.member below 2 ^ 10) (t .0) in
     record { security = ltb-true _ _ (s .0); member = ltb-true _ _ (s .1); typ = ltb-true _ _ (t .1); shareholder = ltb-true _ _ (h .1) }
 
-pub key-security : (a : Account) → InRange a → securityOf (keyOf a) ≡ a.security
+pub key-security : (a : Account) → AccountInRange a → securityOf (keyOf a) ≡ a.security
 key-security a r = omega arith
 
-pub key-fits : (a : Account) → InRange a → keyOf a < 2 ^ 62
+pub key-fits : (a : Account) → AccountInRange a → keyOf a < 2 ^ 62
 key-fits a r = omega arith
 
 alike : (a b : Account) → a.security ≡ b.security → a.member ≡ b.member → a.typ ≡ b.typ → a.shareholder ≡ b.shareholder → a ≡ b
 alike a b s m t h = λ i. record { security = s i; member = m i; typ = t i; shareholder = h i }
 
-pub key-once : (a b : Account) → InRange a → InRange b → keyOf a ≡ keyOf b → a ≡ b
+pub key-once : (a b : Account) → AccountInRange a → AccountInRange b → keyOf a ≡ keyOf b → a ≡ b
 key-once a b p q e =
     let s : a.security ≡ b.security = omega arith in
     let m : a.member ≡ b.member = omega arith in
@@ -44,7 +45,7 @@ key-once a b p q e =
 abbrev pub accountOf : ℕ → Account
 accountOf key = record { security = key / 2 ^ 48; member = key / 2 ^ 38 % 2 ^ 10; typ = key / 2 ^ 30 % 2 ^ 8; shareholder = key % 2 ^ 30 }
 
-pub account-range : (key : ℕ) → key < 2 ^ 62 → InRange (accountOf key)
+pub account-range : (key : ℕ) → key < 2 ^ 62 → AccountInRange (accountOf key)
 account-range key l = record { security = omega arith; member = omega arith; typ = omega arith; shareholder = omega arith }
 
 pub key-back : (key : ℕ) → keyOf (accountOf key) ≡ key
@@ -60,7 +61,7 @@ same-holds a b e =
     alike a b (eqb-true _ _ (s .0)) (eqb-true _ _ (s .1)) (eqb-true _ _ (t .1)) (eqb-true _ _ (h .1))
 
 -- the keys are equal where the accounts are the same
-pub key-test : (a b : Account) → InRange a → InRange b → (keyOf a is keyOf b) ≡ sameAccount a b
+pub key-test : (a b : Account) → AccountInRange a → AccountInRange b → (keyOf a is keyOf b) ≡ sameAccount a b
 key-test a b p q = go (keyOf a is keyOf b) (sameAccount a b) refl refl
   where
     go : (x y : Bool) → (keyOf a is keyOf b) ≡ x → sameAccount a b ≡ y → x ≡ y
@@ -70,7 +71,7 @@ key-test a b p q = go (keyOf a is keyOf b) (sameAccount a b) refl refl
     go false true e f = absurd (eqb-false (keyOf a) (keyOf b) e (ap keyOf (same-holds a b f)))
 
 -- an account in range is the same as none that is not
-pub other-range : (a b : Account) → InRange a → inRange b ≡ false → sameAccount a b ≡ false
+pub other-range : (a b : Account) → AccountInRange a → inRange b ≡ false → sameAccount a b ≡ false
 other-range a b p e = go (sameAccount a b) refl
   where
     go : (x : Bool) → sameAccount a b ≡ x → x ≡ false

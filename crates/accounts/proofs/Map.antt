@@ -12,12 +12,13 @@ use Rattle.rulebook.specs.Ledger.{Holdings, counted, putBalance, sameAccount, s
 use Rattle.rulebook.specs.Movements.{credit, debit}
 use Rattle.rulebook.specs.Movements.{account as place}
 use Rattle.rulebook.specs.declared.Account.{Account}
+use Rattle.rulebook.specs.Ranges.{AccountInRange}
 use Rattle.words.specs.Tables.{rows, keyAt, placeOf, sumOf, valueOf}
 use Rattle.words.specs.declared.Found.{Found}
 use Rattle.words.specs.declared.Found.the-variants.{At, Nothing}
 use Rattle.words.proofs.Sums.{sum-none, sum-one}
 use Rattle.words.proofs.Tables.{place-at, place-none, value-none}
-use Rattle.accounts.specs.Keys.{keyOf, InRange, inRange}
+use Rattle.accounts.specs.Keys.{keyOf, inRange}
 use Rattle.accounts.specs.Map.{BALANCES, balanceAt, opened, removed, balanceOf, withAccounts, Kept}
 use Rattle.accounts.proofs.Keys.{range-true, range-holds, key-fits, key-test, other-range}
 use Rattle.accounts.proofs.Rows.{adds, Put, balance-some, value-here, put-stored, put-opened, put-removed}
@@ -102,7 +103,7 @@ module _ (a : List ℕ) (kept : Kept a) where
 
 -- the rulebook's own words
 pub put-means :
-    (a r : List ℕ) (account : Account) (v : ℕ) → Kept a → InRange account → Put a r (keyOf account) v → (h : Holdings) → withAccounts r h
+    (a r : List ℕ) (account : Account) (v : ℕ) → Kept a → AccountInRange account → Put a r (keyOf account) v → (h : Holdings) → withAccounts r h
     ≡ putBalance account v (withAccounts a h)
 unfolding putBalance balanceOf
 put-means a r account v kept range put h = λ i. record { securities = h.securities; balance = fun-ext map i; accounts = number i; cash = h.cash }
@@ -123,7 +124,7 @@ put-means a r account v kept range put h = λ i. record { securities = h.securit
 
 -- ---- as the code does it: by the place that the search answers
 
-module _ (a : List ℕ) (kept : Kept a) (account : Account) (range : InRange account) where
+module _ (a : List ℕ) (kept : Kept a) (account : Account) (range : AccountInRange account) where
   pub balance-value : balanceOf a account ≡ valueOf BALANCES a (keyOf account)
   unfolding balanceOf
   balance-value = rw (range-true account range)
@@ -172,10 +173,10 @@ module _ (a : List ℕ) (kept : Kept a) (account : Account) (range : InRange acc
   debited-whole q j e all = puts _ 0 (balanceOf a account - q) (put-removed a kept (keyOf account) j e) (omega (arith, balance-here j e .1))
 
 -- an account that has a balance is in range
-pub balance-range : (a : List ℕ) (account : Account) → 0 < balanceOf a account → InRange account
+pub balance-range : (a : List ℕ) (account : Account) → 0 < balanceOf a account → AccountInRange account
 unfolding balanceOf
 balance-range a account some = go (inRange account) refl some
   where
-    go : (b : Bool) → inRange account ≡ b → 0 < (if b then valueOf BALANCES a (keyOf account) else 0) → InRange account
+    go : (b : Bool) → inRange account ≡ b → 0 < (if b then valueOf BALANCES a (keyOf account) else 0) → AccountInRange account
     go true e s = range-holds account e
     go false e s = absurd (omega arith)

@@ -11,13 +11,6 @@ keyOf a = a.security * 2 ^ 48 + a.member * 2 ^ 38 + a.typ * 2 ^ 30 + a.sharehold
 abbrev pub securityOf : ℕ → ℕ
 securityOf key = key / 2 ^ 48
 
--- what a posting row's fields can name
-pub record InRange (a : Account) : Type 0 where
-  pub security : a.security < 2 ^ 14
-  pub member : a.member < 2 ^ 10
-  pub typ : a.typ < 2 ^ 8
-  pub shareholder : a.shareholder < 2 ^ 30
-
 -- the same as a test
 unfoldable pub inRange : Account → Bool
 inRange a = a.security below 2 ^ 14 && a.member below 2 ^ 10 && a.typ below 2 ^ 8 && a.shareholder below 2 ^ 30

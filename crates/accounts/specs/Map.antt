@@ -6,8 +6,9 @@ use lib.ListN.{length, getD, set}
 use Rattle.rulebook.specs.Lists.{if_then_else_, _is_, _below_}
 use Rattle.rulebook.specs.Ledger.{Holdings}
 use Rattle.rulebook.specs.declared.Account.{Account}
+use Rattle.rulebook.specs.Ranges.{AccountInRange}
 use Rattle.words.specs.Tables.{rows, keyAt, sumOf, valueOf, KeysOnce}
-use Rattle.accounts.specs.Keys.{keyOf, InRange, inRange}
+use Rattle.accounts.specs.Keys.{keyOf, inRange}
 
 -- the balances are the column that starts at word 257
 abbrev pub BALANCES : ℕ
@@ -42,7 +43,7 @@ pub record Kept (accounts : List ℕ) : Type 0 where
 
 -- a credit that fits, by the account's balance and the number of accounts: the balance stays a word, and where an account is to be opened there is room
 pub record CreditFits (a : Account) (balance accounts quantity : ℕ) : Type 0 where
-  pub named : InRange a
+  pub named : AccountInRange a
   pub some : 0 < quantity
   pub word : balance + quantity < 2 ^ 64
   pub room : balance ≡ 0 → accounts < 256

@@ -5,7 +5,8 @@ ghost use lib.ListN.{length};
 ghost use Rattle.rulebook.specs.Ledger as Ledger;
 ghost use Rattle.rulebook.specs.Ledger.{Holdings};
 ghost use Rattle.rulebook.specs.Movements as movements;
-ghost use Rattle.accounts.specs.Keys.{InRange, inRange, keyOf};
+ghost use Rattle.rulebook.specs.Ranges.{AccountInRange};
+ghost use Rattle.accounts.specs.Keys.{inRange, keyOf};
 ghost use Rattle.words.specs.Tables.{rows, placeOf};
 ghost use Rattle.accounts.specs.Map.{balanceOf, withAccounts, Kept, CreditFits, opened, removed};
 use rulebook::Account;
@@ -16,7 +17,7 @@ const BALANCES: usize = 257;
 
 // The account as one number: security, member, type and shareholder, as in a posting row.
 pub fn key_of(account: Account) -> u64
-    requires { ⌜ InRange account ⌝ }
+    requires { ⌜ AccountInRange account ⌝ }
     ensures { λ r. ⌜ r ≡ keyOf account ⌝ }
 {
     account.security * 281474976710656
@@ -37,7 +38,7 @@ pub fn is_named(account: Account) -> bool
 
 // Where the account stands.
 fn find(accounts: &[u64], account: Account) -> Found
-    requires { ⌜ Kept (now accounts) × InRange account ⌝ }
+    requires { ⌜ Kept (now accounts) × AccountInRange account ⌝ }
     ensures { λ r. ⌜ r ≡ placeOf (keyOf account) (now (accounts .entry)) ⌝ }
 {
     let key = key_of(account);
@@ -46,7 +47,7 @@ fn find(accounts: &[u64], account: Account) -> Found
 
 // The account's balance: 0 where none is kept.
 pub fn balance(accounts: &[u64], account: Account) -> Shares
-    requires { ⌜ Kept (now accounts) × InRange account ⌝ }
+    requires { ⌜ Kept (now accounts) × AccountInRange account ⌝ }
     ensures { λ r. ⌜ r .0 ≡ balanceOf (now (accounts .entry)) account ⌝ }
 {
     let key = key_of(account);
@@ -72,7 +73,7 @@ pub fn held(accounts: &[u64], security: u64) -> Shares
 
 // An account goes last.
 fn open_account(accounts: &mut [u64], account: Account, balance: Shares)
-    requires { ⌜ (length (now accounts) ≡ 513) × (rows (now accounts) < 256) × InRange account ⌝ }
+    requires { ⌜ (length (now accounts) ≡ 513) × (rows (now accounts) < 256) × AccountInRange account ⌝ }
     ensures { λ u. ⌜ now (accounts .exit) ≡ opened (now (accounts .entry)) (keyOf account) (balance .0) ⌝ }
 {
     let key = key_of(account);

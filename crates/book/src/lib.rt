@@ -10,8 +10,9 @@ ghost use Rattle.rulebook.specs.Matching.{pairsWith};
 ghost use Rattle.rulebook.specs.Movements as movements;
 ghost use Rattle.rulebook.specs.Premise.{CashFits};
 ghost use Rattle.rulebook.specs.Waiting.{sentBy};
+ghost use Rattle.rulebook.specs.Ranges.{AccountInRange};
 ghost use Rattle.words.specs.Places.{removeAt};
-ghost use Rattle.book.specs.Keys.{InRange, keyOf, CreditFits};
+ghost use Rattle.book.specs.Keys.{keyOf, CreditFits};
 ghost use Rattle.book.specs.Meaning.{dayIn, ledgerOf, holdingsOf, waitingOf};
 ghost use Rattle.book.specs.Stored.{Stored, Becomes, HoldingsBecome, WaitingBecomes, withSecurity};
 ghost use Rattle.book.specs.Fresh.{Freshened};
@@ -93,7 +94,7 @@ pub fn accounts(book: &[u64]) -> u64
 
 // The account's balance.
 pub fn balance(book: &[u64], account: Account) -> Shares
-    requires { ⌜ Stored (now book) × InRange account ⌝ }
+    requires { ⌜ Stored (now book) × AccountInRange account ⌝ }
     ensures { λ r. ⌜ r .0 ≡ holdingsOf (now (book .entry)) .balance account ⌝ }
 {
     accounts::balance(&book[ACCOUNTS..CASH], account)
@@ -101,7 +102,7 @@ pub fn balance(book: &[u64], account: Account) -> Shares
 
 // The account as one number, which no other account has.
 pub fn key_of(account: Account) -> u64
-    requires { ⌜ InRange account ⌝ }
+    requires { ⌜ AccountInRange account ⌝ }
     ensures { λ r. ⌜ r ≡ keyOf account ⌝ }
 {
     accounts::key_of(account)

@@ -14,13 +14,13 @@ use Rattle.rulebook.specs.declared.Party.{Party}
 use Rattle.rulebook.proofs.Bounds.{balance-fits, cash-fits}
 use Rattle.rulebook.proofs.ByIndex.{item-at}
 use Rattle.rulebook.proofs.EveryCall.Items.{PartyPosts, item-posts}
-use Rattle.book.specs.Keys.{InRange}
+use Rattle.rulebook.specs.Ranges.{AccountInRange}
 use Rattle.netting.specs.Marks.{noItem}
 use Rattle.netting.specs.Ready.{Bookable, Ready}
 
-named : (security : ℕ) (p : Party) → security < 2 ^ 14 → PartyPosts p → InRange (accountOf security p)
+named : (security : ℕ) (p : Party) → security < 2 ^ 14 → PartyPosts p → AccountInRange (accountOf security p)
 unfolding accountOf
-named security p s f = record { security = s; member = omega (arith, f .most); typ = f .typ; shareholder = f .shareholder }
+named security p s f = record { security = s; member = omega (arith, f .named .member-most); typ = f .typ; shareholder = f .named .shareholder-most }
 
 fits-bookable : (b : Ledger) (t : Item) → ItemFits b.day.number (today b.day) b.holdings t → Bookable t
 unfolding seller buyer
@@ -32,14 +32,14 @@ fits-bookable b t f =
       some = omega (arith, f.terms.quantity-least);
       quantity = f.terms.quantity-most;
       pays = record {
-        member-least = p .credited .least;
-        member-most = p .credited .most;
+        member-least = f.terms.credited-named.member-least;
+        member-most = f.terms.credited-named.member-most;
         currency-least = f.terms.currency-least;
         currency-most = f.terms.currency-most;
       };
       paid = record {
-        member-least = p .debited .least;
-        member-most = p .debited .most;
+        member-least = f.terms.debited-named.member-least;
+        member-most = f.terms.debited-named.member-most;
         currency-least = f.terms.currency-least;
         currency-most = f.terms.currency-most;
       };

@@ -15,7 +15,7 @@ use Rattle.rulebook.specs.declared.Item.{Item}
 use Rattle.rulebook.proofs.RowCounts.{posting-length, legs-length}
 use Rattle.words.specs.Places.{listFrom}
 use Rattle.words.proofs.Sums.{sum-last}
-use Rattle.rows.specs.Widths.{TradeFits}
+use Rattle.rows.specs.Widths.{TradeInRange}
 use Rattle.rows.proofs.RowBytes.{rows-append}
 use Rattle.rows.proofs.Laws.{behind, movement-rows, trade-rows}
 use Rattle.netting.specs.Marks.{itemIn, isOn, markedOf, countOn, rowsOf}
@@ -25,7 +25,7 @@ use Rattle.netting.proofs.Running.{count-most}
 use Rattle.cycle.proofs.Posting.{first, ifMarked, first-next, legs-append}
 
 -- a trade that can be booked has rows that can be written
-pub trade-fits : (t : Item) → Bookable t → TradeFits t
+pub trade-fits : (t : Item) → Bookable t → TradeInRange t
 trade-fits t k = record {
   debited = record { security = k .sells .security; member = k .sells .member; typ = k .sells .typ; shareholder = k .sells .shareholder };
   credited = record { security = k .buys .security; member = k .buys .member; typ = k .buys .typ; shareholder = k .buys .shareholder };

@@ -17,10 +17,9 @@ use Rattle.rulebook.specs.declared.Order.{Order}
 use Rattle.rulebook.proofs.Orders.{little-parts, debit-enough, not-admitted, needed}
 use Rattle.rulebook.proofs.Bounds.{balance-fits, outside-fits, cash-fits}
 use Rattle.rulebook.proofs.Space.{admit-space, deposit-space, transfer-space, sides-apart, same-sym}
-use Rattle.accounts.specs.Keys.{InRange}
+use Rattle.rulebook.specs.Ranges.{AccountInRange}
 use Rattle.accounts.specs.Map.{CreditFits}
 use Rattle.parties.specs.Counted.{outsideAccount}
-use Rattle.rows.specs.Widths.{AccountFits}
 use Rattle.rows.specs.Widths as rows
 use Rattle.book.specs.Meaning.{ledgerOf}
 use Rattle.book.proofs.Laws.{stored-counted}
@@ -29,16 +28,12 @@ use Rattle.refusals.proofs.Passed.{known}
 use Rattle.refusals.proofs.Orders.{fits, ranges, debited-named, credited-named, some-quantity}
 use Rattle.movements.proofs.Swap.{counted-among, counted-some, counted-most, counted-zero, debit-first}
 
--- what a posting row can name is what an account's key can
-pub row-fits : (a : Account) → InRange a → AccountFits a
-row-fits a r = record { security = r.security; member = r.member; typ = r.typ; shareholder = r.shareholder }
-
 -- types 90 and 91
-pub outside-row : (typ security : ℕ) → typ < 2 ^ 8 → security < 2 ^ 14 → AccountFits (outsideAccount typ security)
+pub outside-row : (typ security : ℕ) → typ < 2 ^ 8 → security < 2 ^ 14 → AccountInRange (outsideAccount typ security)
 outside-row typ security l m = record { security = m; member = omega arith; typ = l; shareholder = omega arith }
 
 -- a member's cash as a row names it, and member 0
-pub cash-row : (m c : ℕ) → CashFits m c → rows.CashFits m c × rows.CashFits 0 c
+pub cash-row : (m c : ℕ) → CashFits m c → rows.CashInRange m c × rows.CashInRange 0 c
 cash-row m c f = (
   record { member-fits = omega (arith, f .member-most); currency-fits = omega (arith, f .currency-most) },
   record { member-fits = omega arith; currency-fits = omega (arith, f .currency-most) },

@@ -11,10 +11,10 @@ use Rattle.rulebook.specs.Premise.{accountCount}
 use Rattle.rulebook.specs.declared.Account.{Account}
 use Rattle.rulebook.proofs.Bounds.{part-most}
 use Rattle.rulebook.proofs.Rounds.{same-eq}
-use Rattle.accounts.specs.Keys.{InRange}
+use Rattle.rulebook.specs.Ranges.{AccountInRange}
 
 -- an account with a balance is one of those that are counted
-pub counted-among : (h : Holdings) (a : Account) → InRange a → counted (h.balance a) ≤ accountCount h
+pub counted-among : (h : Holdings) (a : Account) → AccountInRange a → counted (h.balance a) ≤ accountCount h
 unfolding accountCount
 counted-among h a r =
     let at : ℕ → ℕ → ℕ → ℕ → ℕ = λ s m t k. counted (h.balance (record { security = s; member = m; typ = t; shareholder = k })) in

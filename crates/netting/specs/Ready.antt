@@ -6,13 +6,13 @@ use Rattle.rulebook.specs.Ledger.{Ledger}
 use Rattle.rulebook.specs.Premise.{CashFits}
 use Rattle.rulebook.specs.declared.Account.{Account}
 use Rattle.rulebook.specs.declared.Item.{Item}
-use Rattle.book.specs.Keys.{InRange}
+use Rattle.rulebook.specs.Ranges.{AccountInRange}
 use Rattle.netting.specs.Marks.{itemIn}
 
 -- an item whose legs can be booked
 pub record Bookable (t : Item) : Type 0 where
-  pub sells : InRange (seller t)
-  pub buys : InRange (buyer t)
+  pub sells : AccountInRange (seller t)
+  pub buys : AccountInRange (buyer t)
   pub some : 0 < t .quantity .0
   pub quantity : t .quantity .0 < 2 ^ 40
   pub pays : CashFits (t .credited .member) (t .currency)

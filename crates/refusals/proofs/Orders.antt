@@ -13,7 +13,7 @@ use Rattle.rulebook.specs.Forms.{Form, forms, rowOf, used, least}
 use Rattle.rulebook.specs.declared.Order.{Order}
 use Rattle.rulebook.proofs.ByCall.{HasForm, by-row}
 use Rattle.rulebook.proofs.Orders.{OrderFits, Ranges, read-fits, read-ranges, needs, needed}
-use Rattle.accounts.specs.Keys.{InRange}
+use Rattle.rulebook.specs.Ranges.{AccountInRange}
 use Rattle.refusals.specs.Given.{WasRead}
 
 -- forms 3 to 9 have a quantity
@@ -33,11 +33,11 @@ module _ (o : Order) (w : WasRead o) where
   pub ranges : Ranges o
   ranges = read-ranges w.octets o w.read
 
-  pub debited-named : InRange (accountOf o.security o.debited)
+  pub debited-named : AccountInRange (accountOf o.security o.debited)
   unfolding accountOf
   debited-named = record { security = fits .security; member = fits .debited .member; typ = fits .debited .typ; shareholder = fits .debited .shareholder }
 
-  pub credited-named : InRange (accountOf o.security o.credited)
+  pub credited-named : AccountInRange (accountOf o.security o.credited)
   unfolding accountOf
   credited-named = record { security = fits .security; member = fits .credited .member; typ = fits .credited .typ; shareholder = fits .credited .shareholder }
 

@@ -16,7 +16,8 @@ use Rattle.rulebook.specs.declared.Account.{Account}
 use Rattle.rulebook.specs.declared.Item.{Item}
 use Rattle.rulebook.specs.declared.Notice.{Notice}
 use Rattle.rulebook.specs.declared.Posting.{Posting}
-use Rattle.rows.specs.Widths.{PostingFits, AccountFits, CashFits}
+use Rattle.rulebook.specs.Ranges.{AccountInRange}
+use Rattle.rows.specs.Widths.{PostingFits, CashInRange}
 
 pub posting-length : (p : Posting) → length (postingBytes p) ≡ 16
 unfolding postingBytes
@@ -34,11 +35,11 @@ module _ (m : Movement) (xs ys : List ℕ) (p q : Posting) (from : p ≡ posting
   unfolding rowsBytes rowBytes postingRows
   movement-written e = rw (from, to) at e ∙ simp append-nil
 
-pub account-fits : (credit : ℕ) (a : Account) (n : ℕ) → credit < 2 → AccountFits a → n < 2 ^ 64 → PostingFits (postingOf credit (account a) n)
+pub account-fits : (credit : ℕ) (a : Account) (n : ℕ) → credit < 2 → AccountInRange a → n < 2 ^ 64 → PostingFits (postingOf credit (account a) n)
 unfolding postingOf postingWidths
 account-fits credit a n l f m = omega arith
 
-pub cash-fits : (credit member currency n : ℕ) → credit < 2 → CashFits member currency → n < 2 ^ 64 → PostingFits (postingOf credit (cashOf member currency) n)
+pub cash-fits : (credit member currency n : ℕ) → credit < 2 → CashInRange member currency → n < 2 ^ 64 → PostingFits (postingOf credit (cashOf member currency) n)
 unfolding postingOf postingWidths
 cash-fits credit member currency n l f m = omega arith
 

@@ -24,4 +24,4 @@ pub notice-fits : (number today : ℕ) (h : Holdings) (item : Item) (kind : ℕ)
 unfolding noticeOf noticeWidths
 notice-fits number today h item kind l f =
     let r = references-fit item.security item.debited item.credited item.state f.state in
-    omega (arith, f .terms .debited-named .member, f .terms .credited-named .member)
+    omega (arith, f .terms .debited-named .member-most, f .terms .credited-named .member-most)

@@ -8,6 +8,7 @@ use Rattle.rulebook.specs.declared.Account.{Account}
 use Rattle.rulebook.specs.declared.Item.{Item}
 use Rattle.rulebook.specs.declared.Posting.{Posting}
 use Rattle.rulebook.specs.declared.Notice.{Notice}
+use Rattle.rulebook.specs.Ranges.{AccountInRange}
 
 -- each field of a posting row fits its width
 abbrev pub PostingFits : Posting → Type 0
@@ -17,20 +18,13 @@ PostingFits p = Fit postingWidths (p.credit ∷ p.cash ∷ p.what ∷ p.member �
 abbrev pub NoticeFits : Notice → Type 0
 NoticeFits n = Fit noticeWidths (n.kind ∷ n.deliverer ∷ n.receiver ∷ n.«deliver_reference» ∷ n.«receive_reference» ∷ 0 ∷ [])
 
--- an account that a posting row can name
-pub record AccountFits (a : Account) : Type 0 where
-  pub security : a.security < 2 ^ 14
-  pub member : a.member < 2 ^ 10
-  pub typ : a.typ < 2 ^ 8
-  pub shareholder : a.shareholder < 2 ^ 30
-
 -- a member's cash that a posting row can name
-pub record CashFits (member currency : ℕ) : Type 0 where
+pub record CashInRange (member currency : ℕ) : Type 0 where
   pub member-fits : member < 2 ^ 10
   pub currency-fits : currency < 2 ^ 14
 
 -- a trade whose four rows can be written
-pub record TradeFits (trade : Item) : Type 0 where
-  pub debited : AccountFits (seller trade)
-  pub credited : AccountFits (buyer trade)
+pub record TradeInRange (trade : Item) : Type 0 where
+  pub debited : AccountInRange (seller trade)
+  pub credited : AccountInRange (buyer trade)
   pub currency : trade.currency < 2 ^ 14

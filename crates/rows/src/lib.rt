@@ -8,7 +8,8 @@ ghost use Rattle.rulebook.specs.Movements.{account, cashOf, move};
 ghost use Rattle.rulebook.specs.Cycle.{legs};
 ghost use Rattle.rulebook.specs.Rows.{postingBytes, noticeBytes, postingOf, postingRows, notice, noticeOf, rowsBytes, deliverReference, receiveReference};
 ghost use Rattle.rulebook.specs.Forms.{counts};
-ghost use Rattle.rows.specs.Widths.{PostingFits, NoticeFits, AccountFits, CashFits, TradeFits};
+ghost use Rattle.rulebook.specs.Ranges.{AccountInRange};
+ghost use Rattle.rows.specs.Widths.{PostingFits, NoticeFits, CashInRange, TradeInRange};
 use rulebook::Account;
 use rulebook::Cents;
 use rulebook::Counts;
@@ -77,7 +78,7 @@ fn cash_row(credit: u64, member: u64, currency: u64, amount: Cents) -> Posting
 
 // Shares go from one account to another; types 90 and 91 count as accounts here.
 pub fn write_shares(area: &mut [u8], from: Account, to: Account, quantity: Shares)
-    requires { ⌜ (32 ≤ length (now area)) × AccountFits from × AccountFits to ⌝ }
+    requires { ⌜ (32 ≤ length (now area)) × AccountInRange from × AccountInRange to ⌝ }
     ensures { λ u. ⌜ now (area .exit) ≡ rowsBytes (postingRows (move (account from) (account to) (quantity .0) ∷ [])) ++ drop 32 (now (area .entry)) ⌝ }
 {
     write_movement(
@@ -89,7 +90,7 @@ pub fn write_shares(area: &mut [u8], from: Account, to: Account, quantity: Share
 
 // Cash goes from one member to another; member 0 stands for cash that is not in the book.
 pub fn write_cash(area: &mut [u8], currency: u64, from: u64, to: u64, amount: Cents)
-    requires { ⌜ (32 ≤ length (now area)) × CashFits from currency × CashFits to currency ⌝ }
+    requires { ⌜ (32 ≤ length (now area)) × CashInRange from currency × CashInRange to currency ⌝ }
     ensures { λ u. ⌜
         now (area .exit) ≡ rowsBytes (postingRows (move (cashOf from currency) (cashOf to currency) (amount .0) ∷ [])) ++ drop 32 (now (area .entry))
         ⌝ }
@@ -103,7 +104,7 @@ pub fn write_cash(area: &mut [u8], currency: u64, from: u64, to: u64, amount: Ce
 
 // A settled trade's four rows: shares, then cash.
 pub fn write_trade(area: &mut [u8], trade: Item)
-    requires { ⌜ (64 ≤ length (now area)) × TradeFits trade ⌝ }
+    requires { ⌜ (64 ≤ length (now area)) × TradeInRange trade ⌝ }
     ensures { λ u. ⌜ now (area .exit) ≡ rowsBytes (postingRows (legs (trade ∷ []))) ++ drop 64 (now (area .entry)) ⌝ }
 {
     let seller = parties::seller_of(trade);

@@ -14,6 +14,7 @@ use Rattle.rulebook.specs.Premise.{Each, withCode, SecurityFits, Account
 use Rattle.rulebook.proofs.Securities.{outs}
 use Rattle.rulebook.proofs.Lists.{each-so, each-both}
 use Rattle.rulebook.proofs.Types.{type-fits}
+use Rattle.rulebook.specs.Ranges.{AccountInRange}
 
 -- a part is at most the sum
 pub part-most : (n i : ℕ) (f : ℕ → ℕ) → i < n → f i ≤ sumBelow n f
@@ -54,7 +55,7 @@ issued-most c (x ∷ rest) e = go (x.code is c) refl (issued-most c rest (e .1))
     go :
         (t : Bool) → (x.code is c) ≡ t → total (λ s. if s.code is c then s.issued.0 else 0) rest ≤ 1_099_511_627_775 * withCode c rest
         → total (λ s. if s.code is c then s.issued.0 else 0) (x ∷ rest) ≤ 1_099_511_627_775 * withCode c (x ∷ rest)
-    go true p ih = simp p (omega (arith, ih, e .0 .issued))
+    go true p ih = simp p (omega (arith, ih, e .0 .issued-most))
     go false p ih = simp p (omega (arith, ih))
 
 code-fits : (c : ℕ) (xs : List Security) → Each SecurityFits xs → some (λ s. s.code is c) xs ≡ true → (1 ≤ c) × (c < 2 ^ 14)
@@ -65,15 +66,8 @@ code-fits c (x ∷ rest) e t = go (x.code is c) refl (code-fits c rest (e .1))
     go true p ih =
         let q = eqb-true x.code c p in
         let f = e .0 in
-        (omega (arith, q, f.code-least), omega (arith, q, f.code))
+        (omega (arith, q, f.code-least), omega (arith, q, f.code-most))
     go false p ih = ih (simp p at t)
-
--- an account that a record's fields can name
-pub record AccountNamed (a : Account) : Type 0 where
-  pub security : a.security < 2 ^ 14
-  pub member : a.member < 2 ^ 10
-  pub typ : a.typ < 2 ^ 8
-  pub shareholder : a.shareholder < 2 ^ 30
 
 -- where no two have one code, a sum over a security's code is its own figure
 
@@ -161,14 +155,14 @@ module _ (b : Ledger) (p : Premise b) where
       (only (λ s. s.outside.0) xs p.codes) (only (λ s. s.issued.0) xs p.codes))
 
   -- an account with a balance has fields that a record can name
-  pub account-named : (a : Account) → 1 ≤ b.holdings.balance a → AccountNamed a
+  pub account-named : (a : Account) → 1 ≤ b.holdings.balance a → AccountInRange a
   account-named a l =
       let f = p.accounts a l in
       let c = admitted-fits a.security f.security in
-      record { security = c .1; member = omega (arith, f.member); typ = type-fits a.typ f.typ; shareholder = f.shareholder }
+      record { security = c .1; member = omega (arith, f.named.member-most); typ = type-fits a.typ f.typ; shareholder = f.named.shareholder-most }
 
   -- so that any other has balance 0
-  pub unnamed-zero : (a : Account) → (AccountNamed a → ⊥) → b.holdings.balance a ≡ 0
+  pub unnamed-zero : (a : Account) → (AccountInRange a → ⊥) → b.holdings.balance a ≡ 0
   unnamed-zero a n = go (b.holdings.balance a) refl
     where
       go : (k : ℕ) → b.holdings.balance a ≡ k → b.holdings.balance a ≡ 0
@@ -199,7 +193,7 @@ module _ (b : Ledger) (p : Premise b) where
       go (suc k) e =
           let l : 1 ≤ b.holdings.balance a = omega (arith, e) in
           let f = p.accounts a l in
-          omega (arith, balance-held b.holdings a (omega (arith, f.member)) (type-fits a.typ f.typ) f.shareholder, held-fits a.security)
+          omega (arith, balance-held b.holdings a (omega (arith, f.named.member-most)) (type-fits a.typ f.typ) f.named.shareholder-most, held-fits a.security)
 
   pub cash-fits : (m c : ℕ) → b.holdings.cash m c ≤ 1_000_000_000_000_000
   unfolding cashTotal

@@ -25,20 +25,15 @@ use Rattle.rulebook.specs.Windows.{cycleMinutes}
 use Rattle.rulebook.specs.Waiting.{senderOf, sentBy}
 use Rattle.rulebook.specs.Refusals.{wrongDay, wrongCycle, goesBack, outsideWindow, wrongSecurity, wrongPair, wrongParties, wrongDays, wrongReference, wrongCancel, tooLittle, overCeiling, noSpace, dayTests, orderTests, itemTests, roomTests, refusals}
 use Rattle.rulebook.proofs.Checking.{none-applies}
+use Rattle.rulebook.specs.Ranges.{PartyInRange}
 
 -- ---- an order that was read
-
--- a party, and an account, that a record's fields can name
-pub record PartyFits (p : Party) : Type 0 where
-  pub member : p.member < 2 ^ 10
-  pub typ : p.typ < 2 ^ 8
-  pub shareholder : p.shareholder < 2 ^ 30
 
 pub record OrderFits (o : Order) : Type 0 where
   pub security : o.security < 2 ^ 14
   pub currency : o.currency < 2 ^ 2
-  pub debited : PartyFits o.debited
-  pub credited : PartyFits o.credited
+  pub debited : PartyInRange o.debited
+  pub credited : PartyInRange o.credited
   pub quantity : o.quantity.0 < 2 ^ 40
   pub amount : o.amount.0 < 2 ^ 40
   pub «trade_day» : o.«trade_day» < 2 ^ 16

@@ -1,6 +1,6 @@
 -- What is proved of the definitions, whole. Assumes nothing.
 use Prim.Native.Nat.{ℕ, _≤_}
-use mathlib.Core.Bool.{Bool, true, false}
+use mathlib.Core.Bool.{Bool, true, false, _&&_, and-false}
 use mathlib.Core.List.{List, [], _∷_}
 use mathlib.Core.Path.{_≡_, refl, sym, ap, subst, _∙_}
 use native.Mathlib.Omega.{arith}
@@ -9,12 +9,13 @@ use lib.ListN.{length, take, drop}
 use lib.Seq.{take-at, take-append-le}
 use Rattle.bits.proofs.Laws.{length-bytes}
 use Rattle.bits.specs.Bits.{Octets, bytes}
-use Rattle.rulebook.specs.Lists.{if_then_else_, _is_}
+use Rattle.rulebook.specs.Lists.{if_then_else_, _is_, some}
 use Rattle.rulebook.specs.Ledger.{Holdings}
 use Rattle.bits.specs.Layout.{pack}
 use Rattle.rulebook.specs.Field.{widths}
 use Rattle.rulebook.specs.Record.{fieldsOf, readOf, recordOf, writeRefusal, writtenOf, areaWritten}
-use Rattle.rulebook.specs.Cycle.{Marked, NothingShort, anyShort, settling, sharesMissing, cashMissing}
+use Rattle.rulebook.specs.Cycle.{Marked, NothingShort, anyShort, debitsShort, seller, settling, sharesMissing, cashMissing}
+use Rattle.rulebook.specs.declared.Item.{Item}
 use Rattle.rulebook.specs.Theorems.{Theorems}
 use Rattle.rulebook.specs.declared.Order.{Order}
 use Rattle.rulebook.specs.declared.Read.{Read}
@@ -62,6 +63,18 @@ short-found h marked e = record {
   cash = λ m c. omega (arith, enough-cash h marked e m c);
 }
 
+-- where nothing is short no trade draws on what is
+none-found : (h : Holdings) (marked : List Marked) → NothingShort h marked → anyShort h marked ≡ false
+unfolding anyShort debitsShort
+none-found h marked n = go marked
+  where
+    draws : (t : Item) → debitsShort h marked t ≡ false
+    draws t = rw (n .shares (seller t), n .cash t.credited.member t.currency)
+
+    go : (ms : List Marked) → some (λ m. m .0 && debitsShort h marked (m .1)) ms ≡ false
+    go [] = refl
+    go (m ∷ rest) = simp (draws (m .1), and-false, go rest)
+
 pub theorems : Theorems
 theorems = record {
   writeRead = λ o area w. let e = wrote o area w in ap readOf (bytes-there o area e) ∙ write-read o area e;
@@ -69,6 +82,7 @@ theorems = record {
   firstBytes = first-bytes-of;
   checkingOrder = checking-order;
   shortFound = short-found;
+  noneFound = none-found;
   nothingShort = λ book. unfold settling in short-found book.holdings (settling book) (settling-done book.day.number book.holdings book.waiting);
   cycleHasRoom = λ book o form p. cycle-space book o form (p .sizes);
   freshMeets = fresh-premise;

@@ -16,6 +16,7 @@ pub mod Refusals
 pub mod Call
 pub mod Checks
 pub mod Calls
+pub mod Ranges
 pub mod Premise
 pub mod Desk
 pub mod Theorems

@@ -40,29 +40,26 @@ withCode code securities = total (λ s. if s.code is code then 1 else 0) securit
 
 pub record SecurityFits (s : Security) : Type 0 where
   pub code-least : 1 ≤ s.code
-  pub code : s.code < 2 ^ 14
+  pub code-most : s.code < 2 ^ 14
   pub issued-least : 1 ≤ s.issued.0
-  pub issued : s.issued.0 < 2 ^ 40
+  pub issued-most : s.issued.0 < 2 ^ 40
 
 -- RULES 5.1: free, pledged or blocked
 unfoldable pub accountType : ℕ → Bool
 accountType typ = free typ || pledgedOrBlocked typ
 
--- a member and a shareholder
-pub record PartyNamed (p : Party) : Type 0 where
-  pub member-least : 1 ≤ p.member
-  pub member : p.member ≤ 64
-  pub shareholder-least : 1 ≤ p.shareholder
-  pub shareholder : p.shareholder < 2 ^ 30
+-- RULES 1.12, 1.13: a member and a shareholder
+pub record Named (member shareholder : ℕ) : Type 0 where
+  pub member-least : 1 ≤ member
+  pub member-most : member ≤ 64
+  pub shareholder-least : 1 ≤ shareholder
+  pub shareholder-most : shareholder < 2 ^ 30
 
 -- an account that can have a balance
 pub record AccountFits (h : Holdings) (a : Account) : Type 0 where
   pub security : admitted a.security h ≡ true
-  pub member-least : 1 ≤ a.member
-  pub member : a.member ≤ 64
+  pub named : Named a.member a.shareholder
   pub typ : accountType a.typ ≡ true
-  pub shareholder-least : 1 ≤ a.shareholder
-  pub shareholder : a.shareholder < 2 ^ 30
 
 -- a member and a currency that can have cash
 pub record CashFits (member currency : ℕ) : Type 0 where
@@ -79,8 +76,8 @@ pub record TermsFit (security currency : ℕ) (debited credited : Party) (quanti
   pub security-most : security < 2 ^ 14
   pub currency-least : 1 ≤ currency
   pub currency-most : currency ≤ 2
-  pub debited-named : PartyNamed debited
-  pub credited-named : PartyNamed credited
+  pub debited-named : Named debited.member debited.shareholder
+  pub credited-named : Named credited.member credited.shareholder
   pub quantity-least : 1 ≤ quantity
   pub quantity-most : quantity < 2 ^ 40
   pub amount-least : 1 ≤ amount

@@ -30,6 +30,7 @@ pub record Theorems : Type 0 where
   pub checkingOrder : CheckingOrder
   -- RULES 9.4, 9.7: the test on the trades that are taken finds whatever is short, and nothing is short when a cycle settles
   pub shortFound : (h : Holdings) (marked : List Marked) → anyShort h marked ≡ false → NothingShort h marked
+  pub noneFound : (h : Holdings) (marked : List Marked) → NothingShort h marked → anyShort h marked ≡ false
   pub nothingShort : (book : Ledger) → NothingShort book.holdings (settling book)
   -- RULES 3.10: a cycle always has room
   pub cycleHasRoom : (book : Ledger) (o : Order) → o.form ≡ 16 → Premise book → noSpace book o ≡ false

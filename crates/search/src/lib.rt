@@ -7,6 +7,7 @@ ghost use Rattle.rulebook.specs.Matching.{pairsWith};
 ghost use Rattle.book.specs.Meaning.{ledgerOf};
 ghost use Rattle.book.specs.Stored.{Stored};
 ghost use Rattle.search.specs.Place.{placeIn};
+use rulebook::Cents;
 use rulebook::Item;
 use words::Found;
 
@@ -22,9 +23,9 @@ fn is_sent(book: &[u64], i: usize, sender: u64, reference: u64) -> bool
 }
 
 // Whether the item at `i` pairs with an arriving one; it is read whole only where it is a single of the quantity.
-fn is_pairing(book: &[u64], i: usize, limit: u64, arriving: Item) -> bool
+fn is_pairing(book: &[u64], i: usize, limit: Cents, arriving: Item) -> bool
     requires { ⌜ Stored (now book) × (i < length (ledgerOf (now book) .waiting)) ⌝ }
-    ensures { λ r. ⌜ ((d : Item) → r ≡ pairsWith limit arriving (getD (ledgerOf (now (book .entry)) .waiting) i d)) ⌝ }
+    ensures { λ r. ⌜ ((d : Item) → r ≡ pairsWith (limit .0) arriving (getD (ledgerOf (now (book .entry)) .waiting) i d)) ⌝ }
 {
     if !book::may_pair(book, i, arriving.quantity) {
         return false;
@@ -49,9 +50,9 @@ pub fn first_sent(book: &[u64], sender: u64, reference: u64) -> Found
 }
 
 // The first single that pairs with an arriving one.
-pub fn first_pairing(book: &[u64], limit: u64, arriving: Item) -> Found
+pub fn first_pairing(book: &[u64], limit: Cents, arriving: Item) -> Found
     requires { ⌜ Stored (now book) ⌝ }
-    ensures { λ r. ⌜ r ≡ placeIn (pairsWith limit arriving) (ledgerOf (now (book .entry)) .waiting) ⌝ }
+    ensures { λ r. ⌜ r ≡ placeIn (pairsWith (limit .0) arriving) (ledgerOf (now (book .entry)) .waiting) ⌝ }
 {
     let n = book::items(book);
     let mut i: usize = 0;

@@ -6,16 +6,17 @@ use borrow.Author.Needs.{needs}
 use native.Mathlib.Omega.{arith}
 use Rattle.rulebook.specs.Ledger.{Holdings}
 use Rattle.rulebook.specs.Movements as movements
+use Rattle.rulebook.specs.Ranges.{AccountInRange}
 use Rattle.words.specs.Tables.{rows, placeOf}
 use Rattle.words.specs.declared.Found.the-variants.{At}
-use Rattle.accounts.specs.Keys.{keyOf, InRange}
+use Rattle.accounts.specs.Keys.{keyOf}
 use Rattle.accounts.specs.Map.{balanceOf, balanceAt, withAccounts, Kept}
 use Rattle.accounts.proofs.Map.{balance-range, balance-none, balance-here, debited-part, debited-whole}
 use Rattle.accounts.proofs.debit.Statement.{statement}
 use Rattle.accounts.proofs.debit.Tie as tie
 
 -- what has a balance is an account in range
-named : (s : tie.Start) → InRange (s .args .account)
+named : (s : tie.Start) → AccountInRange (s .args .account)
 named s = balance-range (s .args .accounts .now) (s .args .account) (omega (arith, s .pre .1, s .pre .2))
 
 spot :

@@ -39,7 +39,7 @@ placed c =
     let ws = ledgerOf (a .book .now) .waiting in
     sym
     (c .first-pairing .ensures
-    ∙ ap (λ (x : Item). placeIn (pairsWith (c .before .tolerance-of .result) x) ws) (c .before .before .before .item-of .ensures)
+    ∙ ap (λ (x : Item). placeIn (pairsWith (c .before .tolerance-of .result .0) x) ws) (c .before .before .before .item-of .ensures)
     ∙ ap (λ (n : ℕ). placeIn (pairsWith n (arriving (a .book .now) (a .order))) ws) (c .before .tolerance-of .ensures))
 
 at : (c : tie.After-found) → wanted (start (searched c)) ≡ At (c .found .given .0 .0)

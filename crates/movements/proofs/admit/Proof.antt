@@ -6,7 +6,7 @@ use native.Mathlib.Omega.{arith}
 use borrow.Author.Needs.{needs}
 use lib.ListN.{length}
 use Rattle.rulebook.specs.Ledger.{admitted}
-use Rattle.rows.specs.Widths.{AccountFits}
+use Rattle.rulebook.specs.Ranges.{AccountInRange}
 use Rattle.book.specs.Meaning.{ledgerOf}
 use Rattle.refusals.proofs.Orders.{fits}
 use Rattle.movements.proofs.Known.{new-security, outside-row}
@@ -33,8 +33,8 @@ write-shares-requires c κs =
     let s = start (booked issued) in
     let f = fits _ (s .pre .0 .given .read) .security in (
       omega (arith, s .pre .0 .room),
-      subst AccountFits (sym (issued .issued-account .ensures)) (outside-row 90 _ (omega arith) f),
-      subst AccountFits (sym (c .before .outside-account .ensures)) (outside-row 91 _ (omega arith) f),
+      subst AccountInRange (sym (issued .issued-account .ensures)) (outside-row 90 _ (omega arith) f),
+      subst AccountInRange (sym (c .before .outside-account .ensures)) (outside-row 91 _ (omega arith) f),
     )
 
 returns : tie.Need-returns

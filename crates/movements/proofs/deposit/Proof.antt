@@ -6,11 +6,11 @@ use Rattle.rulebook.specs.Movements.{account, type91}
 use Rattle.rulebook.specs.Rows.{postingRows, postingOf}
 use Rattle.rulebook.specs.Forms.{deposit}
 use Rattle.rulebook.specs.declared.Account.{Account}
+use Rattle.rulebook.specs.Ranges.{AccountInRange}
 use Rattle.accounts.specs.Map.{CreditFits}
-use Rattle.rows.specs.Widths.{AccountFits}
 use Rattle.book.specs.Meaning.{ledgerOf}
 use Rattle.refusals.proofs.Orders.{fits, credited-named}
-use Rattle.movements.proofs.Known.{deposit-fits, deposit-enough, outside-row, row-fits}
+use Rattle.movements.proofs.Known.{deposit-fits, deposit-enough, outside-row}
 use Rattle.movements.proofs.Moved.{outside-kept, between}
 use Rattle.movements.proofs.deposit.Statement.{statement}
 use Rattle.movements.proofs.deposit.Tie as tie
@@ -48,8 +48,8 @@ write-shares-requires c κs =
     let to = to (credited (debited c)) in
     let s = start to in (
       omega (arith, s .pre .0 .room),
-      subst AccountFits (sym (to .before .outside-account .ensures)) (outside-row 91 _ (omega arith) (fits _ (s .pre .0 .given .read) .security)),
-      subst AccountFits (sym (to .account-of .ensures)) (row-fits _ (credited-named _ (s .pre .0 .given .read))),
+      subst AccountInRange (sym (to .before .outside-account .ensures)) (outside-row 91 _ (omega arith) (fits _ (s .pre .0 .given .read) .security)),
+      subst AccountInRange (sym (to .account-of .ensures)) (credited-named _ (s .pre .0 .given .read)),
     )
 
 returns : tie.Need-returns

@@ -6,10 +6,10 @@ use native.Mathlib.Omega.{arith}
 use borrow.Author.Needs.{needs}
 use borrow.Author.Tests.{le-leb}
 use Rattle.rulebook.specs.Lists.{within}
-use Rattle.rows.specs.Widths.{AccountFits}
+use Rattle.rulebook.specs.Ranges.{AccountInRange}
 use Rattle.book.specs.Meaning.{ledgerOf}
 use Rattle.refusals.proofs.Orders.{debited-named, credited-named, some-quantity}
-use Rattle.movements.proofs.Known.{debits-enough, transfer-swap, transfer-fits, row-fits}
+use Rattle.movements.proofs.Known.{debits-enough, transfer-swap, transfer-fits}
 use Rattle.movements.proofs.Moved.{did-transfer}
 use Rattle.movements.proofs.transfer.Statement.{statement}
 use Rattle.movements.proofs.transfer.Tie as tie
@@ -52,8 +52,8 @@ write-shares-requires c κs =
     let to = to (debited (credited c)) in
     let s = start to in (
       omega (arith, s .pre .0 .room),
-      subst AccountFits (sym (to .before .account-of .ensures)) (row-fits _ (debited-named _ (s .pre .0 .given .read))),
-      subst AccountFits (sym (to .account-of2 .ensures)) (row-fits _ (credited-named _ (s .pre .0 .given .read))),
+      subst AccountInRange (sym (to .before .account-of .ensures)) (debited-named _ (s .pre .0 .given .read)),
+      subst AccountInRange (sym (to .account-of2 .ensures)) (credited-named _ (s .pre .0 .given .read)),
     )
 
 returns : tie.Need-returns

@@ -8,10 +8,10 @@ use Rattle.rulebook.specs.Lists.{within}
 use Rattle.rulebook.specs.Movements.{account, type91}
 use Rattle.rulebook.specs.Rows.{postingRows, postingOf}
 use Rattle.rulebook.specs.Forms.{withdraw}
-use Rattle.rows.specs.Widths.{AccountFits}
+use Rattle.rulebook.specs.Ranges.{AccountInRange}
 use Rattle.book.specs.Meaning.{ledgerOf}
 use Rattle.refusals.proofs.Orders.{fits, debited-named, some-quantity}
-use Rattle.movements.proofs.Known.{outside-fits-word, debits-enough, outside-row, row-fits}
+use Rattle.movements.proofs.Known.{outside-fits-word, debits-enough, outside-row}
 use Rattle.movements.proofs.Moved.{balance-kept, between}
 use Rattle.movements.proofs.withdraw.Statement.{statement}
 use Rattle.movements.proofs.withdraw.Tie as tie
@@ -51,8 +51,8 @@ write-shares-requires c κs =
     let from = from (credited (debited c)) in
     let s = start from in (
       omega (arith, s .pre .0 .room),
-      subst AccountFits (sym (from .account-of .ensures)) (row-fits _ (debited-named _ (s .pre .0 .given .read))),
-      subst AccountFits (sym (from .before .outside-account .ensures)) (outside-row 91 _ (omega arith) (fits _ (s .pre .0 .given .read) .security)),
+      subst AccountInRange (sym (from .account-of .ensures)) (debited-named _ (s .pre .0 .given .read)),
+      subst AccountInRange (sym (from .before .outside-account .ensures)) (outside-row 91 _ (omega arith) (fits _ (s .pre .0 .given .read) .security)),
     )
 
 returns : tie.Need-returns

@@ -11,7 +11,7 @@ use Rattle.rulebook.specs.Cycle.{seller, buyer}
 use Rattle.rulebook.specs.Rows.{postingRows, rowsBytes}
 use Rattle.rulebook.specs.declared.Account.{Account}
 use Rattle.rulebook.specs.declared.Item.{Item}
-use Rattle.rows.specs.Widths.{AccountFits}
+use Rattle.rulebook.specs.Ranges.{AccountInRange}
 use Rattle.rows.proofs.Laws.{behind, movement-rows, trade-rows}
 use Rattle.rows.proofs.write_trade.Statement.{statement}
 use Rattle.rows.proofs.write_trade.Tie as tie
@@ -24,8 +24,8 @@ write-shares-requires : tie.Need-write-shares-requires
 write-shares-requires c κs =
     let s = c .before .before .before .before in (
       search needs,
-      subst AccountFits (sym (c .before .before .seller-of .ensures)) (s .pre .1 .debited),
-      subst AccountFits (sym (c .before .buyer-of .ensures)) (s .pre .1 .credited),
+      subst AccountInRange (sym (c .before .before .seller-of .ensures)) (s .pre .1 .debited),
+      subst AccountInRange (sym (c .before .buyer-of .ensures)) (s .pre .1 .credited),
     )
 
 write-cash-requires : tie.Need-write-cash-requires

@@ -15,7 +15,7 @@ use Rattle.rulebook.specs.Ledger.{Holdings, admitted}
 use Rattle.rulebook.specs.Waiting.{isDeliver, isReceive, ownReference, withState, marked, marking, unmarked, sentBy}
 use Rattle.rulebook.specs.Matching.{agree, pairsWith, pairOf, arrive}
 use Rattle.rulebook.specs.Close.{closeKind, leaves}
-use Rattle.rulebook.specs.Premise.{Each, SingleFits, StateFits, ItemFits, PartyNamed, NotOverdue}
+use Rattle.rulebook.specs.Premise.{Each, SingleFits, StateFits, ItemFits, Named, NotOverdue}
 use Rattle.rulebook.proofs.Lists.{both, each-append, each-map, each-kept}
 use Rattle.rulebook.proofs.Types.{Quiet, zero-quiet, free-quiet, free-fits, alike-free}
 
@@ -248,10 +248,8 @@ arrive-fits n t h = arrive-each (ItemFits n t h) (pair-fits n t h)
 
 -- a party: a member, and a type that no pledged, blocked or outside count has
 pub record PartyPosts (p : Party) : Type 0 where
-  pub least : 1 ≤ p.member
-  pub most : p.member ≤ 64
+  pub named : Named p.member p.shareholder
   pub typ : p.typ < 2 ^ 8
-  pub shareholder : p.shareholder < 2 ^ 30
   pub quiet : Quiet p.typ
 
 pub record ItemPosts (i : Item) : Type 0 where
@@ -262,16 +260,16 @@ pub record ItemPosts (i : Item) : Type 0 where
   pub quantity : i.quantity.0 < 2 ^ 40
   pub amount : i.amount.0 < 2 ^ 40
 
-party-posts : (p : Party) → PartyNamed p → p.typ < 2 ^ 8 → Quiet p.typ → PartyPosts p
-party-posts p f l q = record { least = f.member-least; most = f.member; typ = l; shareholder = f.shareholder; quiet = q }
+party-posts : (p : Party) → Named p.member p.shareholder → p.typ < 2 ^ 8 → Quiet p.typ → PartyPosts p
+party-posts p f l q = record { named = f; typ = l; quiet = q }
 
-free-posts : (p : Party) → PartyNamed p → free p.typ ≡ true → PartyPosts p
+free-posts : (p : Party) → Named p.member p.shareholder → free p.typ ≡ true → PartyPosts p
 free-posts p f e = party-posts p f (free-fits p.typ e) (free-quiet p.typ e)
 
-no-type-posts : (p : Party) → PartyNamed p → p.typ ≡ 0 → PartyPosts p
+no-type-posts : (p : Party) → Named p.member p.shareholder → p.typ ≡ 0 → PartyPosts p
 no-type-posts p f e = party-posts p f (omega arith) (subst Quiet (sym e) zero-quiet)
 
-parties-post : (σ : ℕ) (d c : Party) (x : State) → PartyNamed d → PartyNamed c → StateFits σ d c x → PartyPosts d × PartyPosts c
+parties-post : (σ : ℕ) (d c : Party) (x : State) → Named d.member d.shareholder → Named c.member c.shareholder → StateFits σ d c x → PartyPosts d × PartyPosts c
 parties-post σ d c (Single true r) p q f = (free-posts d p f.own, no-type-posts c q f.other)
 parties-post σ d c (Single false r) p q f = (no-type-posts d p f.other, free-posts c q f.own)
 parties-post σ d c (Pair x y dm rm) p q f =

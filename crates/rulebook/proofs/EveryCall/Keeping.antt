@@ -83,11 +83,13 @@ credited-fits n b o e a t t₂ u u₂ f =
     let c = a.ranges.credited (needed n 6 o e u) in
     record {
       security = is-admitted n b o e t t₂ a.security;
-      member-least = c .0;
-      member = c .1;
+      named = record {
+        member-least = c .0;
+        member-most = c .1;
+        shareholder-least = a.ranges.credited-holder (needed n 9 o e u₂);
+        shareholder-most = a.fits.credited.shareholder;
+      };
       typ = f (right-types n b o e a.types);
-      shareholder-least = a.ranges.credited-holder (needed n 9 o e u₂);
-      shareholder = a.fits.credited.shareholder;
     }
 
 deposit-keeps : Keeps 3 deposit
@@ -131,9 +133,9 @@ admit-keeps b o e p a =
     let f : SecurityFits new =
     record {
       code-least = a.ranges.security (needed 2 Field.security o e refl);
-      code = a.fits.security;
+      code-most = a.fits.security;
       issued-least = a.ranges.quantity (needed 2 Field.quantity o e refl) .0;
-      issued = a.fits.quantity;
+      issued-most = a.fits.quantity;
     }
     in
     let w : Owned h =
@@ -234,16 +236,13 @@ legs-get n t d h (i ∷ rest) e =
     let y = trade-types i.security i i.state (e .0 .1 .0) f.state in (
       record {
         security = f.listed;
-        member-least = f.terms.credited-named.member-least;
-        member = f.terms.credited-named.member;
+        named = f.terms.credited-named;
         typ = free-type i.credited.typ (alike-free i.debited.typ i.credited.typ y .1);
-        shareholder-least = f.terms.credited-named.shareholder-least;
-        shareholder = f.terms.credited-named.shareholder;
       },
       (
         record {
           member-least = f.terms.debited-named.member-least;
-          member-most = f.terms.debited-named.member;
+          member-most = f.terms.debited-named.member-most;
           currency-least = f.terms.currency-least;
           currency-most = f.terms.currency-most;
         },

@@ -56,17 +56,17 @@ module _ (n : ℕ) (b : Ledger) (o : Order) (e : o.form ≡ n) (a : Accepted b o
           debited-named =
               record {
                 member-least = d .0;
-                member = d .1;
+                member-most = d .1;
                 shareholder-least = a.ranges.debited-holder (field Field.debited-shareholder refl);
-                shareholder =
+                shareholder-most =
                     a.fits.debited.shareholder;
               };
           credited-named =
               record {
                 member-least = c .0;
-                member = c .1;
+                member-most = c .1;
                 shareholder-least = a.ranges.credited-holder (field Field.credited-shareholder refl);
-                shareholder =
+                shareholder-most =
                     a.fits.credited.shareholder;
               };
           quantity-least = a.ranges.quantity (field Field.quantity refl) .0;

@@ -40,7 +40,7 @@ changed-fits c v [] e = tt
 changed-fits c v (x ∷ rest) e = (go (x.code is c), changed-fits c v rest (e .1))
   where
     go : (t : Bool) → SecurityFits (if t then record { code = x.code; issued = x.issued; outside = record { 0 = v } } else x)
-    go true = let f = e .0 in record { code-least = f.code-least; code = f.code; issued-least = f.issued-least; issued = f.issued }
+    go true = let f = e .0 in record { code-least = f.code-least; code-most = f.code-most; issued-least = f.issued-least; issued-most = f.issued-most }
     go false = e .0
 
 booked-fits : (ms : List Movement) (h : Holdings) → Each SecurityFits h.securities → Each SecurityFits (booked ms h .securities)
@@ -140,14 +140,7 @@ unfolding fresh
 fresh-owned = record { securities = tt; accounts = λ a l. absurd (omega arith); cash = λ m c l. absurd (omega arith) }
 
 pub account-admitted : (h k : Holdings) → ((c : ℕ) → admitted c h ≡ true → admitted c k ≡ true) → (a : Account) → AccountFits h a → AccountFits k a
-account-admitted h k e a f = record {
-  security = e a.security f.security;
-  member-least = f.member-least;
-  member = f.member;
-  typ = f.typ;
-  shareholder-least = f.shareholder-least;
-  shareholder = f.shareholder;
-}
+account-admitted h k e a f = record { security = e a.security f.security; named = f.named; typ = f.typ }
 
 pub booked-owned : (ms : List Movement) (h : Holdings) → AllGet h ms → Owned h → Owned (booked ms h)
 booked-owned ms h g o = record {

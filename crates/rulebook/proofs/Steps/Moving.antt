@@ -19,12 +19,13 @@ use Rattle.rulebook.specs.Refusals.{wrongSecurity}
 use Rattle.rulebook.specs.Premise.{Each, withCode, Premise}
 use Rattle.rulebook.proofs.Lists.{_and_, total-append}
 use Rattle.rulebook.proofs.Rounds.{same-eq}
-use Rattle.rulebook.proofs.Orders.{PartyFits, is-admitted, not-admitted, little-parts, debit-enough, right-types, needed}
+use Rattle.rulebook.proofs.Orders.{is-admitted, not-admitted, little-parts, debit-enough, right-types, needed}
 use Rattle.rulebook.proofs.Securities.{outs, known, unknown, new-count, new-issued}
 use Rattle.rulebook.proofs.Places.{brought, Known, Bears, booked-exact, one-enough}
 use Rattle.rulebook.proofs.Reading.{Proper}
 use Rattle.rulebook.proofs.Types.{Account·type, Quiet, PutIn, free-quiet, pledged-account, deposit-free, withdraw-free, transfer-free, pledge-types, release-types, block-types, unblock-types}
 use Rattle.rulebook.proofs.Steps.OneCall.{putInAt, releasedAt, writesAt, Figures, Admits, admits-none, Step, Steps}
+use Rattle.rulebook.specs.Ranges.{PartyInRange}
 
 -- a form that makes one movement, after it admits a security or none
 moved :
@@ -63,7 +64,7 @@ one-code :
 one-code n b o e t t₂ p w = omega (arith, known o.security b.holdings.securities (is-admitted n b o e t t₂ w), p.codes o.security)
 
 -- a party's account, as rows name it
-account-proper : (security : ℕ) (p : Party) → security < 2 ^ 14 → PartyFits p → Account·type p.typ → Proper (account (accountOf security p))
+account-proper : (security : ℕ) (p : Party) → security < 2 ^ 14 → PartyInRange p → Account·type p.typ → Proper (account (accountOf security p))
 unfolding accountOf
 account-proper security p s f t = (s, f.member, f.typ, f.shareholder, t)
 

@@ -29,7 +29,7 @@ legs-known h (t ∷ rest) = (tt, tt, (tt, tt, legs-known h rest))
 
 side-proper : (security : ℕ) (p : Party) → security < 2 ^ 14 → PartyPosts p → Proper (account (accountOf security p))
 unfolding accountOf
-side-proper security p s f = (s, omega (arith, f.most), f.typ, f.shareholder, f.quiet .1)
+side-proper security p s f = (s, omega (arith, f.named.member-most), f.typ, f.named.shareholder-most, f.quiet .1)
 
 legs-proper : (ts : List Item) → Each ItemPosts ts → AllProper (legs ts)
 unfolding legs seller buyer
@@ -40,8 +40,8 @@ legs-proper (t ∷ rest) e =
       side-proper t.security t.credited i.security i.credited,
       omega (arith, i.quantity),
       (
-        (i.credited.least, i.credited.most, omega (arith, i.currency)),
-        (i.debited.least, i.debited.most, omega (arith, i.currency)),
+        (i.credited.named.member-least, i.credited.named.member-most, omega (arith, i.currency)),
+        (i.debited.named.member-least, i.debited.named.member-most, omega (arith, i.currency)),
         omega (arith, i.amount),
         legs-proper rest (e .1),
       ),

@@ -12,7 +12,7 @@ use Rattle.search.proofs.first_pairing.Statement.{statement}
 use Rattle.search.proofs.first_pairing.Tie as tie
 
 abbrev Inv-loop : tie.InvT-loop
-Inv-loop book limit arriving n i₀ i = (i ≤ n) × Left (pairsWith limit arriving) (waitingOf book) i
+Inv-loop book limit arriving n i₀ i = (i ≤ n) × Left (pairsWith (limit .0) arriving) (waitingOf book) i
 
 abbrev μ-loop : tie.MeasureT-loop
 μ-loop book limit arriving n i₀ i = n - i

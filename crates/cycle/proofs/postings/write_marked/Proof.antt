@@ -9,7 +9,7 @@ use borrow.Author.Needs.{needs}
 use lib.ListN.{length, take, drop, length-drop}
 use lib.Seq.{length-take-le}
 use Rattle.rulebook.specs.Ledger.{Ledger}
-use Rattle.rows.specs.Widths.{TradeFits}
+use Rattle.rows.specs.Widths.{TradeInRange}
 use Rattle.book.specs.Meaning.{ledgerOf}
 use Rattle.netting.specs.Marks.{noItem}
 use Rattle.cycle.proofs.Writing.{trade-fits, Written, written-none, written-fits, written-long, written-off, written-on, written-done}
@@ -61,7 +61,7 @@ write-trade-requires c κs =
     let h = t .before in
     let l = h .loop in (
       part-long (l .area) (l .at) _ (long h) (room t),
-      subst TradeFits (sym (c .before .item-at .ensures noItem)) (trade-fits _ (entry h .pre .2 .bookable (l .i) (there t))),
+      subst TradeInRange (sym (c .before .item-at .ensures noItem)) (trade-fits _ (entry h .pre .2 .bookable (l .i) (there t))),
     )
 
 loop-again : tie.Need-loop-again Inv-loop μ-loop

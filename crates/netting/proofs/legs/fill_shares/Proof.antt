@@ -8,7 +8,8 @@ use lib.ListN.{length}
 use Rattle.rulebook.specs.Cycle.{seller, buyer}
 use Rattle.rulebook.specs.Ledger.{Ledger}
 use Rattle.rulebook.specs.declared.Item.{Item}
-use Rattle.book.specs.Keys.{keyOf, InRange}
+use Rattle.rulebook.specs.Ranges.{AccountInRange}
+use Rattle.book.specs.Keys.{keyOf}
 use Rattle.book.specs.Meaning.{ledgerOf}
 use Rattle.netting.specs.Marks.{noItem, itemIn}
 use Rattle.netting.specs.Ready.{Bookable}
@@ -65,11 +66,11 @@ sold c = c .seller-of .ensures ∙ ap seller (c .before .item-at .ensures noItem
 bought : (c : tie.After-buyer-of Inv-loop μ-loop) → c .buyer-of .result ≡ buyer (item (c .before .before .before .before))
 bought c = c .buyer-of .ensures ∙ ap buyer (c .before .before .before .item-at .ensures noItem)
 
-sells : (c : tie.After-seller-of Inv-loop μ-loop) → InRange (c .seller-of .result)
-sells c = subst InRange (sym (sold c)) (fits (c .before .before) .sells)
+sells : (c : tie.After-seller-of Inv-loop μ-loop) → AccountInRange (c .seller-of .result)
+sells c = subst AccountInRange (sym (sold c)) (fits (c .before .before) .sells)
 
-buys : (c : tie.After-buyer-of Inv-loop μ-loop) → InRange (c .buyer-of .result)
-buys c = subst InRange (sym (bought c)) (fits (c .before .before .before .before) .buys)
+buys : (c : tie.After-buyer-of Inv-loop μ-loop) → AccountInRange (c .buyer-of .result)
+buys c = subst AccountInRange (sym (bought c)) (fits (c .before .before .before .before) .buys)
 
 loop-again : tie.Need-loop-again Inv-loop μ-loop
 loop-again c =

@@ -5,13 +5,13 @@ use mathlib.Core.Bool.{true, and-true}
 use native.Mathlib.Omega.{arith}
 use borrow.Author.Tests.{ne-eqb}
 use borrow.Author.Needs.{needs}
-use Rattle.accounts.specs.Keys.{InRange}
 use Rattle.book.specs.Meaning.{ledgerOf}
 use Rattle.rulebook.specs.Ledger.{Ledger}
 use Rattle.rulebook.specs.declared.Order.{Order}
 use Rattle.refusals.specs.Room.{isListFull}
 use Rattle.rulebook.proofs.Space.{admit-space, deposit-space, transfer-space, instruct-space, sides-apart}
 use Rattle.rulebook.proofs.Orders.{debit-enough}
+use Rattle.rulebook.specs.Ranges.{AccountInRange}
 use Rattle.search.proofs.Found.{not-true}
 use Rattle.refusals.proofs.Laws.{within-parts}
 use Rattle.refusals.proofs.Growth.{wider, instruction}
@@ -60,7 +60,7 @@ full c = sym (c .before .is-list-full .ensures) ∙ not-false _ (c .if2 .left)
 balance-requires : tie.Need-balance-requires
 balance-requires c κs =
     let s = start (c .before .before) in
-    (s .pre .0 .stored, subst InRange (sym (c .account-of .ensures)) (credited-named _ (s .pre .1)))
+    (s .pre .0 .stored, subst AccountInRange (sym (c .account-of .ensures)) (credited-named _ (s .pre .1)))
 
 returns-3 : tie.Need-returns-3
 returns-3 c =
@@ -76,12 +76,12 @@ returns-3 c =
 balance-requires-2 : tie.Need-balance-requires-2
 balance-requires-2 c κs =
     let s = start (transfers (c .before)) in
-    (s .pre .0 .stored, subst InRange (sym (c .account-of2 .ensures)) (credited-named _ (s .pre .1)))
+    (s .pre .0 .stored, subst AccountInRange (sym (c .account-of2 .ensures)) (credited-named _ (s .pre .1)))
 
 balance-requires-3 : tie.Need-balance-requires-3
 balance-requires-3 c κs =
     let s = start (transfers (c .before .before .before)) in
-    (s .pre .0 .stored, subst InRange (sym (c .account-of3 .ensures)) (debited-named _ (s .pre .1)))
+    (s .pre .0 .stored, subst AccountInRange (sym (c .account-of3 .ensures)) (debited-named _ (s .pre .1)))
 
 is-full-requires-2 : tie.Need-is-full-requires-2
 is-full-requires-2 c κs = start (transfers (c .before .before .before .before .before .before .before)) .pre .0

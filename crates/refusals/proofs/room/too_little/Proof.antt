@@ -4,8 +4,8 @@ use mathlib.Core.Bool.{or-false}
 use borrow.Author.Tests.{ne-eqb}
 use native.Mathlib.Omega.{arith}
 use borrow.Author.Needs.{needs}
-use Rattle.accounts.specs.Keys.{InRange}
 use Rattle.rulebook.specs.Refusals.{tooLittle}
+use Rattle.rulebook.specs.Ranges.{AccountInRange}
 use Rattle.refusals.proofs.Laws.{within-not}
 use Rattle.refusals.proofs.Orders.{debited-named, payer}
 use Rattle.refusals.proofs.room.too_little.Statement.{statement}
@@ -21,7 +21,7 @@ returns c =
 balance-requires : tie.Need-balance-requires
 balance-requires c κs =
     let s = c .before .before .before .before .before in
-    (s .pre .0 .stored, subst InRange (sym (c .account-of .ensures)) (debited-named _ (s .pre .1)))
+    (s .pre .0 .stored, subst AccountInRange (sym (c .account-of .ensures)) (debited-named _ (s .pre .1)))
 
 returns-2 : tie.Need-returns-2
 unfolding tooLittle
