@@ -139,17 +139,17 @@ enum depository_state {
 /* Makes a fresh book, whatever the words held: day 0, closed, nothing else. */
 uint64_t depository_fresh(uint64_t *book, size_t book_words);
 
-/* One call with a record of any bytes and length and an area of any length
- * and contents; `counts_words` is DEPOSITORY_COUNT_WORDS. Answers 0 if the
- * call is accepted: the book has moved, the rows stand at the area's start
- * (bytes after the last row are kept) and the counts are those of the call.
- * Refusals are 1 to 18. */
+/* One call. Nothing is assumed of the record and of the area, neither of
+ * their sizes nor of what they hold; `counts_words` is
+ * DEPOSITORY_COUNT_WORDS. Answers 0 if the call is accepted: the book has
+ * moved, the area begins with the rows and is the same behind them, and the
+ * counts are those of the call. Refusals are 1 to 18. */
 uint64_t depository_call(uint64_t *book, size_t book_words,
                          const uint8_t *record, size_t record_bytes,
                          uint8_t *area, size_t area_bytes,
                          uint64_t *counts, size_t counts_words);
 
-/* Reads a record of any bytes and length alone; `fields_words` is
+/* Reads a record alone, whatever it holds; `fields_words` is
  * DEPOSITORY_FIELD_WORDS. Refusals are 2 to 5. */
 uint64_t depository_read(const uint8_t *record, size_t record_bytes,
                          uint64_t *fields, size_t fields_words);
