@@ -110,7 +110,9 @@ module _ (a : List ℕ) (kept : Kept a) where
             ≡ (if sameAccount own other then balanceAt a m else if inRange other then sum-to m (keyOf other) else 0)
         map other = go (inRange other) refl
           where
-            same : AccountInRange other → (b : Bool) → sameAccount own other ≡ b → sum-to (suc m) (keyOf other) ≡ (if b then balanceAt a m else sum-to m (keyOf other))
+            same :
+                AccountInRange other → (b : Bool) → sameAccount own other ≡ b
+                → sum-to (suc m) (keyOf other) ≡ (if b then balanceAt a m else sum-to m (keyOf other))
             same r true e =
                 let is-key : (keyAt a m is keyOf other) ≡ true = rw (← own-key) (key-test own other range r ∙ e) in
                 let none : sum-to m (keyOf other) ≡ 0 = ap (sum-to m) (sym (eqb-true (keyAt a m) (keyOf other) is-key)) ∙ not-yet in

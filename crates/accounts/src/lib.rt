@@ -104,7 +104,8 @@ pub fn credit(accounts: &mut [u64], account: Account, quantity: Shares)
     ensures { λ u. ⌜
         Kept (now (accounts .exit))
         ×
-        ((h : Holdings) → withAccounts (now (accounts .exit)) h ≡ movements.credit (movements.account account) (quantity .0) (withAccounts (now (accounts .entry)) h))
+        ((h : Holdings) → withAccounts (now (accounts .exit)) h
+        ≡ movements.credit (movements.account account) (quantity .0) (withAccounts (now (accounts .entry)) h))
         ⌝ }
 {
     let found = find(accounts, account);
@@ -123,7 +124,8 @@ pub fn debit(accounts: &mut [u64], account: Account, quantity: Shares)
     ensures { λ u. ⌜
         Kept (now (accounts .exit))
         ×
-        ((h : Holdings) → withAccounts (now (accounts .exit)) h ≡ movements.debit (movements.account account) (quantity .0) (withAccounts (now (accounts .entry)) h))
+        ((h : Holdings) → withAccounts (now (accounts .exit)) h
+        ≡ movements.debit (movements.account account) (quantity .0) (withAccounts (now (accounts .entry)) h))
         ⌝ }
 {
     let found = find(accounts, account);

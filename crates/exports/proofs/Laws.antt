@@ -2,12 +2,11 @@
 use Prim.Native.Nat.{ℕ, _+_, _≤_, _<_}
 use mathlib.Core.Path.{_≡_, refl, sym, ap, _∙_}
 use mathlib.Core.Bool.{Bool, true, false, true≢false, not}
-use mathlib.Core.List.{List, [], _∷_, _++_, append-nil}
+use mathlib.Core.List.{List, [], _∷_, _++_}
 use native.Mathlib.Omega.{arith}
 use lib.Dec.{eqb}
-use lib.ListN.{length, getD, set, drop, drop-of-length-le}
+use lib.ListN.{length, getD, set, drop}
 use borrow.Author.Tests.{eq-eqb, ne-eqb, eqb-true, lt-ltb, le-ltb}
-use borrow.Rule.Slice.PartMut.{putMid}
 use Rattle.rulebook.specs.Lists.{if_then_else_, _is_}
 use Rattle.rulebook.specs.Record.{readNumber, orderOf, recordOf, writeRefusal, writtenOf, writtenNumber, areaWritten}
 use Rattle.rulebook.specs.Call.{answerNumber}
@@ -20,13 +19,10 @@ use Rattle.record.specs.Answers.{ReadAs, WrittenAs}
 use Rattle.book.specs.Meaning.{bookLength}
 use Rattle.book.specs.Fresh.{Freshened}
 use Rattle.ledger.specs.Called.{Called}
+use Rattle.figures.specs.Figures.{countFigures}
 use Rattle.exports.specs.Lent.{wrongBook, wrongCounts, wrongFields, wrongValues, noSuchPlace, countWords, fieldWords, Lent, freshNumber, FreshIn}
 use Rattle.exports.specs.Words.{countsOf, callNumber, CalledWith, fieldsRead, readingNumber, ReadInto, writingNumber, WrittenFrom}
-use Rattle.exports.specs.Figures.{lengthsNumber, Tells, placeNumber, TellsAt}
-
--- words that are written over a whole buffer
-pub whole : (xs ys : List ℕ) (n : ℕ) → length xs ≡ n → putMid 0 n xs ys ≡ ys
-whole xs ys n e = let l : length xs ≤ n = omega arith in rw (drop-of-length-le xs l) (append-nil ys)
+use Rattle.exports.specs.Told.{lengthsNumber, Tells, placeNumber, TellsAt}
 
 -- one word that is written
 pub one-word : (xs : List ℕ) (v w : ℕ) → length xs ≡ 1 → v ≡ w → set xs 0 v ≡ w ∷ []
@@ -89,9 +85,9 @@ module _ (book octets area counts : List ℕ) where
       number-is = rw (eq-eqb _ _ long, eq-eqb _ _ wide) (sym (called .number))
 
       pub call-accepted :
-          (c : Counts) (counts′ : List ℕ) → a ≡ Answer.Accepted c → counts′ ≡ countsOf (Answer.Accepted c) counts
+          (c : Counts) (counts′ : List ℕ) → a ≡ Answer.Accepted c → counts′ ≡ countFigures c
           → CalledWith book octets area counts 0 book′ area′ counts′
-      unfolding answerNumber
+      unfolding answerNumber countsOf
       call-accepted c counts′ e f = record {
         numbered = sym (number-is ∙ ap answerNumber e);
         ledger = λ z. called .ledger;

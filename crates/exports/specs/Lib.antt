@@ -1,4 +1,4 @@
 -- What C programs lend, and what the functions do with it.
 pub mod Lent
 pub mod Words
-pub mod Figures
+pub mod Told

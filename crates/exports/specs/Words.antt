@@ -1,6 +1,6 @@
 -- Calls, reader and writer over the words that a C program lends.
 use Prim.Native.Nat.{ℕ}
-use mathlib.Core.List.{List, [], _∷_}
+use mathlib.Core.List.{List}
 use mathlib.Core.Path.{_≡_}
 use lib.ListN.{length, take}
 use Rattle.rulebook.specs.Lists.{if_then_else_, _isNot_}
@@ -9,13 +9,14 @@ use Rattle.rulebook.specs.Call.{callOf, answerNumber}
 use Rattle.rulebook.specs.declared.Answer.{Answer}
 use Rattle.rulebook.specs.declared.Read.{Read}
 use Rattle.book.specs.Meaning.{bookLength, ledgerOf}
+use Rattle.figures.specs.Figures.{countFigures}
 use Rattle.exports.specs.Lent.{wrongBook, wrongCounts, wrongFields, countWords, fieldWords, Lent}
 
 -- ---- a call
 
 -- the counts of an accepted call; a refused one leaves what was there
 unfoldable pub countsOf : Answer → List ℕ → List ℕ
-countsOf (Answer.Accepted c) before = c.rows ∷ c.settled ∷ c.cancelled ∷ c.deleted ∷ c.suspended ∷ c.left ∷ []
+countsOf (Answer.Accepted c) before = countFigures c
 countsOf (Answer.Refused number) before = before
 
 -- lengths are looked at before everything else

@@ -1,17 +1,15 @@
 // What C and Rust programs call: numbers, and slices as a pointer and a length. include/depository.h declares these functions.
-mod figures;
-
 ghost use mathlib.Core.Path.{_≡_};
 ghost use mathlib.Core.List.{_∷_, []};
 ghost use lib.ListN.{length};
 ghost use Rattle.rulebook.specs.Ledger as Ledger;
 ghost use Rattle.book.specs.Meaning.{ledgerOf};
+ghost use Rattle.figures.specs.Figures.{dayFigures, sizeFigures, securityFigures, itemFigures};
 ghost use Rattle.exports.specs.Lent.{fieldWords, Lent, FreshIn};
-ghost use Rattle.exports.specs.Words.{countsOf, fieldsRead, CalledWith, ReadInto, WrittenFrom};
-ghost use Rattle.exports.specs.Figures.{lengthsNumber, Tells, TellsAt, dayFigures, sizeFigures, securityFigures, itemFigures};
+ghost use Rattle.exports.specs.Words.{fieldsRead, CalledWith, ReadInto, WrittenFrom};
+ghost use Rattle.exports.specs.Told.{lengthsNumber, Tells, TellsAt};
 use rulebook::Account;
 use rulebook::Answer;
-use rulebook::Counts;
 use rulebook::Order;
 use rulebook::Read;
 use rulebook::Written;
@@ -44,22 +42,6 @@ pub extern "C" fn depository_fresh(book: &mut [u64]) -> u64
     WRONG_BOOK
 }
 
-// The six counts as words.
-fn put_counts(words: &mut [u64], c: Counts)
-    requires { ⌜ length (now words) ≡ 6 ⌝ }
-    ensures { λ u. ⌜ now (words .exit) ≡ countsOf (Answer.Accepted c) (now (words .entry)) ⌝ }
-{
-    let values = [
-        c.rows,
-        c.settled,
-        c.cancelled,
-        c.deleted,
-        c.suspended,
-        c.left,
-    ];
-    words::write(words, 0, &values);
-}
-
 // One call. 0 where it is accepted, with its six counts; else the number, and counts, book and area are as they were.
 #[no_mangle]
 pub extern "C" fn depository_call(
@@ -83,7 +65,7 @@ pub extern "C" fn depository_call(
     let answer = ledger::call(book, record, area);
     match answer {
         Answer::Accepted(c) => {
-            put_counts(counts, c);
+            figures::put_counts(counts, c);
             0
         }
         Answer::Refused(number) => number,

@@ -12,7 +12,8 @@ ghost use Rattle.printing.specs.Printed.{custodyOf, custodyLines};
 fn put_security(out: &mut [u8], at: usize, book: &[u64], i: usize) -> usize
     requires { ⌜ Kept (now book) × (i < length (ledgerOf (now book) .holdings .securities)) × (at + 112 ≤ length (now out)) ⌝ }
     ensures { λ r. ⌜
-        ((d : Security) → let h = ledgerOf (now (book .entry)) .holdings in Put (now (out .entry)) at (custodyOf h (getD (h .securities) i d)) (now (out .exit)) r)
+        ((d : Security) → let h = ledgerOf (now (book .entry)) .holdings in
+        Put (now (out .entry)) at (custodyOf h (getD (h .securities) i d)) (now (out .exit)) r)
         ⌝ }
     ensures { λ r. ⌜ r ≤ at + 112 ⌝ }
 {

@@ -39,7 +39,9 @@ pub account-fits : (credit : ℕ) (a : Account) (n : ℕ) → credit < 2 → Acc
 unfolding postingOf postingWidths
 account-fits credit a n l f m = omega arith
 
-pub cash-fits : (credit member currency n : ℕ) → credit < 2 → CashInRange member currency → n < 2 ^ 64 → PostingFits (postingOf credit (cashOf member currency) n)
+pub cash-fits :
+    (credit member currency n : ℕ) → credit < 2 → CashInRange member currency → n < 2 ^ 64
+    → PostingFits (postingOf credit (cashOf member currency) n)
 unfolding postingOf postingWidths
 cash-fits credit member currency n l f m = omega arith
 

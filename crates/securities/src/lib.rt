@@ -71,7 +71,8 @@ pub fn credit_outside(securities: &mut [u64], code: u64, quantity: Shares)
     ensures { λ u. ⌜
         Kept (now (securities .exit))
         ×
-        ((h : Holdings) → withSecurities (now (securities .exit)) h ≡ movements.credit (movements.type91 code) (quantity .0) (withSecurities (now (securities .entry)) h))
+        ((h : Holdings) → withSecurities (now (securities .exit)) h
+        ≡ movements.credit (movements.type91 code) (quantity .0) (withSecurities (now (securities .entry)) h))
         ⌝ }
 {
     let found = words::find(securities, code);
@@ -90,7 +91,8 @@ pub fn debit_outside(securities: &mut [u64], code: u64, quantity: Shares)
     ensures { λ u. ⌜
         Kept (now (securities .exit))
         ×
-        ((h : Holdings) → withSecurities (now (securities .exit)) h ≡ movements.debit (movements.type91 code) (quantity .0) (withSecurities (now (securities .entry)) h))
+        ((h : Holdings) → withSecurities (now (securities .exit)) h
+        ≡ movements.debit (movements.type91 code) (quantity .0) (withSecurities (now (securities .entry)) h))
         ⌝ }
 {
     let found = words::find(securities, code);

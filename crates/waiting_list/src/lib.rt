@@ -132,7 +132,8 @@ pub fn may_bear(items: &[u64], i: usize, reference: u64) -> bool
 pub fn may_pair(items: &[u64], i: usize, quantity: Shares) -> bool
     requires { ⌜ Sized (now items) × (i < rows (now items)) ⌝ }
     ensures { λ r. ⌜
-        ((d arriving : Item) (limit : ℕ) → arriving .quantity ≡ quantity → r ≡ false → pairsWith limit arriving (getD (itemsOf (now (items .entry))) i d) ≡ false)
+        ((d arriving : Item) (limit : ℕ) → arriving .quantity ≡ quantity → r ≡ false
+        → pairsWith limit arriving (getD (itemsOf (now (items .entry))) i d) ≡ false)
         ⌝ }
 {
     let at = i * 16 + 1;

@@ -3,11 +3,12 @@ use Prim.Native.Nat.{ℕ, zero, suc, _+_, _-_, _≤_, _<_}
 use native.Mathlib.Numerals.{add-one}
 use native.Mathlib.Omega.{arith}
 use mathlib.Core.Bool.{Bool, true, false, _||_}
-use mathlib.Core.List.{List, [], _∷_, _++_, map}
+use mathlib.Core.List.{List, [], _∷_, _++_, map, append-nil}
 use mathlib.Core.Path.{_≡_, refl, sym, ap, _∙_, subst}
 use lib.Dec.{eqb}
-use lib.ListN.{length, getD, set}
+use lib.ListN.{length, getD, set, drop-of-length-le}
 use borrow.Author.Tests.{eqb-true, eqb-false}
+use borrow.Rule.Slice.PartMut.{putMid}
 use Rattle.rulebook.specs.Lists.{if_then_else_, some, total}
 use Rattle.rulebook.specs.Ledger.{sumBelow}
 use Rattle.rulebook.proofs.Lists.{total-append}
@@ -179,3 +180,9 @@ module _ {A : Type 0} where
       let z : 0 + n ≡ n = omega arith in
       let last : figure (f (0 + n)) ≡ figure (f n) = ap (λ (k : ℕ). figure (f k)) z in
       ap (total figure) (from-push f f 0 n (λ k l. refl)) ∙ total-append figure (listFrom f 0 n) (f (0 + n) ∷ []) ∙ omega (arith, last, from-total figure f n)
+
+-- ---- a whole buffer
+
+-- words that are written over all of it
+pub whole : (xs ys : List ℕ) (n : ℕ) → length xs ≡ n → putMid 0 n xs ys ≡ ys
+whole xs ys n e = let l : length xs ≤ n = omega arith in rw (drop-of-length-le xs l) (append-nil ys)

@@ -56,7 +56,7 @@ credit-spec =
     tie.close
     (tie.spec (λ c κs. search needs) (λ c. search needs)
     (λ c. omega (arith, here (c .before) .0)) (λ c. omega (arith, here (c .before) .0)) (λ c. omega (arith, here (c .before .before) .0))
-    (λ c. omega (arith, here (c .before .before .before) .1, c .before .before .before .before .before .before .before .before .pre .1 .word))
+    (λ c. let f = c .before .before .before in omega (arith, here f .1, f .before .before .before .before .before .pre .1 .word))
     (λ c. omega (arith, here (c .before .before .before) .0)) (λ c. omega (arith, here (c .before .before .before) .0))
     (λ c. omega (arith, here (c .before .before .before) .0))
     (λ c. search needs)

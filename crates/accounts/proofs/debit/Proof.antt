@@ -41,7 +41,8 @@ remove-account-requires c κs =
 
 returns : tie.Need-returns
 returns c =
-    let f = c .before .before .before .before .before .before .before .before in
+    let equal = c .before .before .before .before in
+    let f = equal .before .before .before .before in
     let s = f .before .before .before .before .before in
     subst
     (λ (r : List ℕ). Kept r ×
@@ -49,7 +50,7 @@ returns c =
     (withAccounts (s .args .accounts .now) h)))
     (sym (c .before .before .remove-account .ensures))
     (debited-whole (s .args .accounts .now) (s .pre .0) (s .args .account) (named s) (s .args .quantity .0) (f .found .given .0 .0) (spot f)
-    (c .before .before .before .before .if1 .taken))
+    (equal .if1 .taken))
 
 returns-2 : tie.Need-returns-2
 returns-2 c =
@@ -77,8 +78,7 @@ debit-spec =
     (tie.spec (λ c κs. (c .before .before .pre .0, named (c .before .before))) (λ c. search needs)
     (λ c. omega (arith, here (c .before) .0)) (λ c. omega (arith, here (c .before) .0)) (λ c. omega (arith, here (c .before .before) .0))
     remove-account-requires
-    (λ c. omega
-    (arith, here (c .before .before .before .before .before) .1, c .before .before .before .before .before .before .before .before .before .before .pre .2))
+    (λ c. let f = c .before .before .before .before .before in omega (arith, here f .1, f .before .before .before .before .before .pre .2))
     (λ c. omega (arith, here (c .before .before .before .before .before) .0)) (λ c. omega (arith, here (c .before .before .before .before .before) .0))
     (λ c. omega (arith, here (c .before .before .before .before .before) .0))
     (λ c. search needs) (λ c. search needs) returns (λ c. search needs) returns-2 (λ c. search needs) returns-3)

@@ -18,7 +18,8 @@ flag false n e = rw e
 
 returns : tie.Need-returns
 returns c =
-    let a = c .before .before .before .before .before .before .before .args in
+    let written = c .before .before in
+    let a = written .before .before .before .before .before .args in
     let o = c .before .before .before .before .before .bit-of in
     let e = flag (a .day .opened) (o .result) (o .ensures .0) in
     subst (λ (l : List ℕ). (dayIn l ≡ a .day) × (getD l 1 0 ≤ 1)) (sym (c .before .before .write .ensures))

@@ -8,7 +8,8 @@ use Rattle.desk.proofs.print_answers.Tie as tie
 
 slice-aggregate-print : tie.Need-slice-aggregate-print
 slice-aggregate-print c =
-    let put = c .before .before .before .before .before .before .before .put-block in
+    let printed = c .before .before .before .before in
+    let put = printed .before .before .before .put-block in
     let lines = put .ensures .answered .lines in
     sym (length-take-le _ _ (omega (arith, lines .room, lines .place, put .kept .0)))
 

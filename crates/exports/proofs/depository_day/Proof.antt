@@ -3,7 +3,7 @@ use mathlib.Core.Path.{_≡_, sym, ap, _∙_}
 use borrow.Author.Needs.{needs}
 use lib.ListN.{length}
 use Rattle.book.specs.Meaning.{bookLength}
-use Rattle.exports.specs.Figures.{dayFigures}
+use Rattle.figures.specs.Figures.{dayFigures}
 use Rattle.exports.proofs.Laws.{lengths-right, tells-wrong, tells}
 use Rattle.exports.proofs.depository_day.Statement.{statement}
 use Rattle.exports.proofs.depository_day.Tie as tie

@@ -1,14 +1,14 @@
 -- `exports::depository_security` meets its contract. Assumes nothing.
 use Prim.Native.Nat.{ℕ, _<_}
 use mathlib.Core.Path.{_≡_, sym, ap, _∙_}
-use mathlib.Core.List.{List, [], _∷_}
+use mathlib.Core.List.{List}
 use native.Mathlib.Omega.{arith}
 use borrow.Author.Needs.{needs}
 use lib.ListN.{length}
 use Rattle.rulebook.specs.Ledger.{held}
 use Rattle.rulebook.specs.declared.Security.{Security}
 use Rattle.book.specs.Meaning.{bookLength, holdingsOf}
-use Rattle.exports.specs.Figures.{securityFigures}
+use Rattle.figures.specs.Figures.{securityWith, securityFigures}
 use Rattle.exports.proofs.Laws.{lengths-right, tells-at-wrong, tells-none, tells-at}
 use Rattle.exports.proofs.depository_security.Statement.{statement}
 use Rattle.exports.proofs.depository_security.Tie as tie
@@ -48,9 +48,9 @@ put-security-requires c κs = right (c .before .before .before .before .before) 
 -- the figures of the security that was found
 told :
     (book : List ℕ) (found is : Security) {sum : ℕ} → found ≡ is → sum ≡ held (found .code) (holdingsOf book)
-    → (found .code ∷ found .issued .0 ∷ sum ∷ found .outside .0 ∷ []) ≡ securityFigures (holdingsOf book) is
+    → securityWith found sum ≡ securityFigures (holdingsOf book) is
 told book found is e f =
-    ap (λ (n : ℕ). found .code ∷ found .issued .0 ∷ n ∷ found .outside .0 ∷ []) f ∙ ap (securityFigures (holdingsOf book)) e
+    ap (securityWith found) f ∙ ap (securityFigures (holdingsOf book)) e
 
 returns-3 : tie.Need-returns-3
 returns-3 c =

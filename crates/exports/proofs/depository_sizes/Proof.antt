@@ -5,7 +5,8 @@ use native.Mathlib.Omega.{arith}
 use borrow.Author.Needs.{needs}
 use lib.ListN.{length}
 use Rattle.book.specs.Meaning.{bookLength}
-use Rattle.exports.proofs.Laws.{whole, lengths-right, tells-wrong, tells}
+use Rattle.words.proofs.Places.{whole}
+use Rattle.exports.proofs.Laws.{lengths-right, tells-wrong, tells}
 use Rattle.exports.proofs.depository_sizes.Statement.{statement}
 use Rattle.exports.proofs.depository_sizes.Tie as tie
 

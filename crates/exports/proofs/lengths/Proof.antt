@@ -1,6 +1,6 @@
 -- `exports::lengths` meets its contract. Assumes nothing.
 use borrow.Author.Tests.{eq-eqb, ne-eqb}
-use Rattle.exports.specs.Figures.{lengthsNumber}
+use Rattle.exports.specs.Told.{lengthsNumber}
 use Rattle.exports.proofs.lengths.Statement.{statement}
 use Rattle.exports.proofs.lengths.Tie as tie
 

@@ -8,7 +8,7 @@ use lib.ListN.{length, take}
 use Rattle.rulebook.specs.Record.{fieldsOf}
 use Rattle.exports.specs.Lent.{fieldWords}
 use Rattle.exports.specs.Words.{fieldsRead}
-use Rattle.exports.proofs.Laws.{whole}
+use Rattle.words.proofs.Places.{whole}
 use Rattle.exports.proofs.put_fields.Statement.{statement}
 use Rattle.exports.proofs.put_fields.Tie as tie
 

@@ -35,15 +35,16 @@ pub +put-number-spec : {M : Type 1} → statement M
     (λ c. (rw (decimal-one (c .before .before .before .before .before .before .args .n) (search needs)) (c .before .before .put-digit .ensures), search needs))
     (λ c κs. (omega arith, search needs))
     (λ c κs.
-    let start = c .before .before .before .before .before .before .before in
-    let front = front-short (start .args .n) (start .fits .n .fits) (search needs) in
-    (omega (arith, c .before .before .before .put-number .ensures .0 .place, c .before .before .before .put-number .kept .0), search needs))
+    let front = c .before .before .before in
+    let start = front .before .before .before .before in
+    let short = front-short (start .args .n) (start .fits .n .fits) (search needs) in
+    (omega (arith, front .put-number .ensures .0 .place, front .put-number .kept .0), search needs))
     (λ c. search needs)
     (λ c.
-    let start = c .before .before .before .before .before .before .before .before .before .before in
-    let front = front-short (start .args .n) (start .fits .n .fits) (search needs) in
-    let both = put-then (c .before .before .before .before .before .before .put-number .ensures .0) (c .before .before .put-digit2 .ensures) in (
+    let front = c .before .before .before .before .before .before in
+    let start = front .before .before .before .before in
+    let short = front-short (start .args .n) (start .fits .n .fits) (search needs) in
+    let both = put-then (front .put-number .ensures .0) (c .before .before .put-digit2 .ensures) in (
       rw (decimal-more (start .args .n) (search needs)) both,
-      omega
-          (arith, c .before .before .before .before .before .before .put-number .ensures .0 .place, c .before .before .put-digit2 .ensures .place),
+      omega (arith, front .put-number .ensures .0 .place, c .before .before .put-digit2 .ensures .place),
     )))

@@ -18,7 +18,8 @@ write-movement-requires c κs =
 
 returns : tie.Need-returns
 returns c =
-    let s = c .before .before .before .before .before .before .before in
+    let packed = c .before .before in
+    let s = packed .before .before .before .before .before in
     movement-written (move (cashOf (s .args .from) (s .args .currency)) (cashOf (s .args .to) (s .args .currency)) (s .args .amount .0)) (s .args .area .now)
     _ _ _ (c .before .before .before .before .cash-row .ensures) (c .before .before .before .cash-row2 .ensures)
     (c .before .before .write-movement .ensures)

@@ -8,7 +8,8 @@ use Rattle.rows.proofs.write_movement.Tie as tie
 
 returns : tie.Need-returns
 returns c =
-    let s = c .before .before .before .before .before .before .before .before .before in
+    let packed = c .before .before .before .before in
+    let s = packed .before .before .before .before .before in
     behind (s .args .area .now) _ _ (postingBytes (s .args .debit)) (postingBytes (s .args .credit)) 16 16
     (c .before .before .before .before .before .before .write-posting .ensures) (posting-length (s .args .debit)) (posting-length (s .args .credit))
     (omega arith)

@@ -18,9 +18,11 @@ pack-bits-requires c κs =
 returns : tie.Need-returns
 unfolding noticeWidths
 returns c =
-    let s = c .before .before .before .before .before .before .before .before in
-    notice-written _ _ (s .args .area .now) _ (c .before .before .before .before .before .before .notice-of .ensures)
-    (c .before .before .pack-bits .ensures ∙ put-front _ 16 _ (λ i. c .before .before .before .before .before .before .before .slice-known .given i .fits))
+    let packed = c .before .before in
+    let notice = packed .before .before .before .before in
+    let s = notice .before .before in
+    notice-written _ _ (s .args .area .now) _ (notice .notice-of .ensures)
+    (packed .pack-bits .ensures ∙ put-front _ 16 _ (λ i. notice .before .slice-known .given i .fits))
 
 pub write-notice-spec : {M : Type 1} → statement M
 write-notice-spec = tie.close (tie.spec (λ c κs. search needs) (λ c. search needs) (λ c. search needs) pack-bits-requires (λ c. search needs) returns)

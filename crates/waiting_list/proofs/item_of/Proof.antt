@@ -6,11 +6,17 @@ use borrow.Author.Needs.{needs}
 use Rattle.waiting_list.proofs.item_of.Statement.{statement}
 use Rattle.waiting_list.proofs.item_of.Tie as tie
 
+-- four words are read for the state, then twelve in the row's order
+abbrev start : tie.After-state-of → tie.Start
+start c = c .before .before .before .before .before .before
+
+abbrev after-six : tie.After-shared-slice-known11 → tie.After-state-of
+after-six c = c .before .before .before .before .before .before
+
 returns : tie.Need-returns
 returns c =
-    let r : List ℕ =
-    c .before .before .before .before .before .before .before .before .before .before .before .before .before .before .before .before .before .before .args .r .now
-    in
+    let state = after-six (c .before .before .before .before .before .before) in
+    let r : List ℕ = start state .args .r .now in
     λ k. record {
       security = getD r 0 0;
       currency = getD r 1 0;
@@ -20,7 +26,7 @@ returns c =
       amount = record { 0 = getD r 9 0 };
       «trade_day» = getD r 10 0;
       «settlement_day» = getD r 11 0;
-      state = c .before .before .before .before .before .before .before .before .before .before .before .before .state-of .ensures k;
+      state = state .state-of .ensures k;
     }
 
 pub item-of-spec : {M : Type 1} → statement M

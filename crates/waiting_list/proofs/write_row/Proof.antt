@@ -8,7 +8,8 @@ use Rattle.waiting_list.proofs.write_row.Tie as tie
 
 returns : tie.Need-returns
 returns c =
-    let a = c .before .before .before .before .before .before .before .args in
+    let written = c .before .before in
+    let a = written .before .before .before .before .before .args in
     c .before .before .write .ensures
     ∙ ap (λ (s : StateWords). putRow (a .items .now) (a .i) (rowOf (a .item) s)) (c .before .before .before .before .before .state-words .ensures)
 

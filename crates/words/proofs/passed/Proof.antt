@@ -17,13 +17,14 @@ abbrev μ-loop : tie.MeasureT-loop
 
 loop-again : tie.Need-loop-again Inv-loop μ-loop
 loop-again c =
-    let l = c .before .before .before .before .before .before .before .before .before .loop in
-    let a = c .before .before .before .before .before .before .before .before .before .before .args in (
+    let second = c .before .before .before .before in
+    let turn = second .before .before .before .before in
+    let l = turn .before .loop in
+    let a = turn .before .before .args in (
       omega arith,
       l .inv .1
-          ∙ four-passed (a .table .now) (a .key) (a .n) (l .i) (c .before .before .before .before .before .before .before .before .loop-test .taken)
-          (c .before .before .before .before .before .before .if1 .left) (c .before .before .before .before .if2 .left) (c .before .before .if3 .left)
-          (c .if4 .left),
+          ∙ four-passed (a .table .now) (a .key) (a .n) (l .i) (turn .loop-test .taken)
+          (second .before .before .if1 .left) (second .if2 .left) (c .before .before .if3 .left) (c .if4 .left),
     )
 
 pub passed-spec : {M : Type 1} → statement M
@@ -32,6 +33,7 @@ passed-spec =
     (tie.spec Inv-loop μ-loop (λ c. (omega arith, first-start (isKey (c .args .table .now) (c .args .key)) (c .args .n))) (λ c. omega arith)
     (λ c. omega arith) (λ c. omega arith) (λ c. omega arith) (λ c. c .before .before .before .loop .inv) (λ c. omega arith) (λ c. omega arith)
     (λ c. omega arith) (λ c. c .before .before .before .before .before .loop .inv) (λ c. omega arith) (λ c. omega arith) (λ c. omega arith)
-    (λ c. c .before .before .before .before .before .before .before .loop .inv) (λ c. omega arith) (λ c. omega arith) (λ c. omega arith)
-    (λ c. c .before .before .before .before .before .before .before .before .before .loop .inv) (λ c. omega arith) (λ c. omega arith) loop-again
+    (λ c. let first = c .before .before .before .before in first .before .before .before .loop .inv) (λ c. omega arith) (λ c. omega arith) (λ c. omega arith)
+    (λ c. let first = c .before .before .before .before .before .before in first .before .before .before .loop .inv) (λ c. omega arith) (λ c. omega arith)
+    loop-again
     (λ c. c .before .loop .inv))

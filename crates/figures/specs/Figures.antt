@@ -1,45 +1,20 @@
--- What a book says, as the values that a C program lends words for.
+-- A call's counts and what a book says, as lists of words.
 use Prim.Native.Nat.{ℕ}
 use mathlib.Core.List.{List, [], _∷_}
-use mathlib.Core.Path.{_≡_}
-use lib.ListN.{length, getD}
-use Rattle.rulebook.specs.Lists.{if_then_else_, _isNot_, _below_}
+use lib.ListN.{length}
+use Rattle.rulebook.specs.Lists.{if_then_else_}
 use Rattle.rulebook.specs.Ledger.{Ledger, Holdings, held}
+use Rattle.rulebook.specs.declared.Counts.{Counts}
 use Rattle.rulebook.specs.declared.Day.{Day}
 use Rattle.rulebook.specs.declared.Item.{Item}
 use Rattle.rulebook.specs.declared.Security.{Security}
 use Rattle.rulebook.specs.declared.State.{State}
 use Rattle.rulebook.specs.declared.State.the-variants.{Single, Pair, Trade}
 use Rattle.words.specs.Places.{bit}
-use Rattle.book.specs.Meaning.{bookLength}
-use Rattle.exports.specs.Lent.{wrongBook, wrongValues, noSuchPlace}
-use Rattle.exports.specs.declared.figures.StateFigures.{StateFigures}
+use Rattle.figures.specs.declared.StateFigures.{StateFigures}
 
--- ---- the answer of a function that reads a book
-
--- by the lengths of the book and of the values, and how many values there are to tell
-unfoldable pub lengthsNumber : (book values width : ℕ) → ℕ
-lengthsNumber book values width = if book isNot bookLength then wrongBook else if values isNot width then wrongValues else 0
-
--- the figures are told
-pub record Tells (book values figures : List ℕ) (number : ℕ) (values′ : List ℕ) : Type 0 where
-  pub numbered : number ≡ lengthsNumber (length book) (length values) (length figures)
-  pub told : number ≡ 0 → values′ ≡ figures
-  pub untouched : (number ≡ 0 → ⊥) → values′ ≡ values
-
--- by a place in a list too
-unfoldable pub placeNumber : (book values width place rows : ℕ) → ℕ
-placeNumber book values width place rows =
-    if lengthsNumber book values width isNot 0 then lengthsNumber book values width else if place below rows then 0 else noSuchPlace
-
--- the figures of what stands at a place of a list are told
-pub record TellsAt {A : Type 0} (book values : List ℕ) (width : ℕ) (figures : A → List ℕ) (place : ℕ) (rows : List A) (number : ℕ) (values′ : List ℕ)
-    : Type 0 where
-  pub numbered : number ≡ placeNumber (length book) (length values) width place (length rows)
-  pub told : number ≡ 0 → (other : A) → values′ ≡ figures (getD rows place other)
-  pub untouched : (number ≡ 0 → ⊥) → values′ ≡ values
-
--- ---- the figures
+abbrev pub countFigures : Counts → List ℕ
+countFigures c = c.rows ∷ c.settled ∷ c.cancelled ∷ c.deleted ∷ c.suspended ∷ c.left ∷ []
 
 abbrev pub dayFigures : Day → List ℕ
 dayFigures d = d.number ∷ bit d.opened ∷ d.kind ∷ d.cycles ∷ d.minute ∷ []
@@ -48,8 +23,12 @@ dayFigures d = d.number ∷ bit d.opened ∷ d.kind ∷ d.cycles ∷ d.minute �
 abbrev pub sizeFigures : Ledger → List ℕ
 sizeFigures b = length b.holdings.securities ∷ b.holdings.accounts ∷ length b.waiting ∷ []
 
+-- a security, with what its accounts hold
+abbrev pub securityWith : Security → ℕ → List ℕ
+securityWith s held = s.code ∷ s.issued.0 ∷ held ∷ s.outside.0 ∷ []
+
 abbrev pub securityFigures : Holdings → Security → List ℕ
-securityFigures h s = s.code ∷ s.issued.0 ∷ held s.code h ∷ s.outside.0 ∷ []
+securityFigures h s = securityWith s (held s.code h)
 
 -- 1 deliver, 2 receive, 3 pair, 4 exchange trade; its reference, which is the deliver's in a pair, and the receive's there; which halves are marked
 abbrev pub stateFigures : State → StateFigures

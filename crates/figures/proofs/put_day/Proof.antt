@@ -1,11 +1,11 @@
--- `exports::figures::put_day` meets its contract. Assumes nothing.
+-- `figures::put_day` meets its contract. Assumes nothing.
 use Prim.Native.Nat.{ℕ}
 use mathlib.Core.Path.{ap, _∙_}
 use mathlib.Core.List.{[], _∷_}
 use borrow.Author.Needs.{needs}
-use Rattle.exports.proofs.Laws.{whole}
-use Rattle.exports.proofs.figures.put_day.Statement.{statement}
-use Rattle.exports.proofs.figures.put_day.Tie as tie
+use Rattle.words.proofs.Places.{whole}
+use Rattle.figures.proofs.put_day.Statement.{statement}
+use Rattle.figures.proofs.put_day.Tie as tie
 
 returns : tie.Need-returns
 returns c =

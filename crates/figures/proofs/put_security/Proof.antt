@@ -1,9 +1,9 @@
--- `exports::figures::put_security` meets its contract. Assumes nothing.
+-- `figures::put_security` meets its contract. Assumes nothing.
 use mathlib.Core.Path.{_∙_}
 use borrow.Author.Needs.{needs}
-use Rattle.exports.proofs.Laws.{whole}
-use Rattle.exports.proofs.figures.put_security.Statement.{statement}
-use Rattle.exports.proofs.figures.put_security.Tie as tie
+use Rattle.words.proofs.Places.{whole}
+use Rattle.figures.proofs.put_security.Statement.{statement}
+use Rattle.figures.proofs.put_security.Tie as tie
 
 returns : tie.Need-returns
 returns c =

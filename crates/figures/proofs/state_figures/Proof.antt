@@ -1,14 +1,14 @@
--- `exports::figures::state_figures` meets its contract. Assumes nothing.
+-- `figures::state_figures` meets its contract. Assumes nothing.
 use Prim.Native.Nat.{ℕ, _-_}
 use mathlib.Core.Bool.{Bool, true, false}
 use mathlib.Core.Path.{_≡_, refl, sym, ap, _∙_}
 use borrow.Author.Needs.{needs}
 use Rattle.rulebook.specs.Lists.{if_then_else_}
 use Rattle.words.specs.Places.{bit}
-use Rattle.exports.specs.Figures.{stateFigures}
-use Rattle.exports.specs.declared.figures.StateFigures.{StateFigures}
-use Rattle.exports.proofs.figures.state_figures.Statement.{statement}
-use Rattle.exports.proofs.figures.state_figures.Tie as tie
+use Rattle.figures.specs.Figures.{stateFigures}
+use Rattle.figures.specs.declared.StateFigures.{StateFigures}
+use Rattle.figures.proofs.state_figures.Statement.{statement}
+use Rattle.figures.proofs.state_figures.Tie as tie
 
 figures : ℕ → ℕ → ℕ → ℕ → ℕ → StateFigures
 figures state reference second d r = record { state = state; reference = reference; second = second; «deliver_marked» = d; «receive_marked» = r }

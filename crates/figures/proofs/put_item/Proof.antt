@@ -1,11 +1,11 @@
--- `exports::figures::put_item` meets its contract. Assumes nothing.
+-- `figures::put_item` meets its contract. Assumes nothing.
 use mathlib.Core.Path.{ap, _∙_}
 use borrow.Author.Needs.{needs}
-use Rattle.exports.specs.Figures.{figuresWith}
-use Rattle.exports.specs.declared.figures.StateFigures.{StateFigures}
-use Rattle.exports.proofs.Laws.{whole}
-use Rattle.exports.proofs.figures.put_item.Statement.{statement}
-use Rattle.exports.proofs.figures.put_item.Tie as tie
+use Rattle.figures.specs.Figures.{figuresWith}
+use Rattle.figures.specs.declared.StateFigures.{StateFigures}
+use Rattle.words.proofs.Places.{whole}
+use Rattle.figures.proofs.put_item.Statement.{statement}
+use Rattle.figures.proofs.put_item.Tie as tie
 
 returns : tie.Need-returns
 returns c =

@@ -1,8 +1,8 @@
-// What a book says, as words in a buffer of the right length.
+// A call's counts and what a book says, as words in a buffer of the right length.
 ghost use mathlib.Core.Path.{_≡_};
-ghost use mathlib.Core.List.{_∷_, []};
 ghost use lib.ListN.{length};
-ghost use Rattle.exports.specs.Figures.{dayFigures, stateFigures, itemFigures};
+ghost use Rattle.figures.specs.Figures.{countFigures, dayFigures, securityWith, stateFigures, itemFigures};
+use rulebook::Counts;
 use rulebook::Day;
 use rulebook::Item;
 use rulebook::Security;
@@ -18,6 +18,22 @@ pub struct StateFigures {
     pub receive_marked: u64,
 }
 
+// The counts of an accepted call go into 6 words.
+pub fn put_counts(values: &mut [u64], c: Counts)
+    requires { ⌜ length (now values) ≡ 6 ⌝ }
+    ensures { λ u. ⌜ now (values .exit) ≡ countFigures c ⌝ }
+{
+    let figures = [
+        c.rows,
+        c.settled,
+        c.cancelled,
+        c.deleted,
+        c.suspended,
+        c.left,
+    ];
+    words::write(values, 0, &figures);
+}
+
 // The day goes into 5 words.
 pub fn put_day(values: &mut [u64], day: Day)
     requires { ⌜ length (now values) ≡ 5 ⌝ }
@@ -31,7 +47,7 @@ pub fn put_day(values: &mut [u64], day: Day)
 // A security and what its accounts hold go into 4 words.
 pub fn put_security(values: &mut [u64], security: Security, held: Shares)
     requires { ⌜ length (now values) ≡ 4 ⌝ }
-    ensures { λ u. ⌜ now (values .exit) ≡ (security .code ∷ security .issued .0 ∷ held .0 ∷ security .outside .0 ∷ []) ⌝ }
+    ensures { λ u. ⌜ now (values .exit) ≡ securityWith security (held .0) ⌝ }
 {
     let figures = [security.code, security.issued.0, held.0, security.outside.0];
     words::write(values, 0, &figures);

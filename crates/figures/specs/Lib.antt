@@ -1,0 +1,2 @@
+-- What a C program is told, as words.
+pub mod Figures
