@@ -10,7 +10,7 @@ use Rattle.rulebook.specs.declared.Account.{Account}
 use Rattle.rulebook.proofs.Held.{same-self}
 use Rattle.rulebook.proofs.Lists.{both}
 use Rattle.rulebook.specs.Ranges.{AccountInRange}
-use Rattle.accounts.specs.Keys.{keyOf, securityOf, inRange}
+use Rattle.accounts.specs.Keys.{keyOf, inRange}
 
 pub range-true : (a : Account) → AccountInRange a → inRange a ≡ true
 unfolding inRange
@@ -23,9 +23,6 @@ range-holds a e =
     let t = both (a.security below 2 ^ 14 && a.member below 2 ^ 10) (a.typ below 2 ^ 8) (h .0) in
     let s = both (a.security below 2 ^ 14) (a.member below 2 ^ 10) (t .0) in
     record { security = ltb-true _ _ (s .0); member = ltb-true _ _ (s .1); typ = ltb-true _ _ (t .1); shareholder = ltb-true _ _ (h .1) }
-
-pub key-security : (a : Account) → AccountInRange a → securityOf (keyOf a) ≡ a.security
-key-security a r = omega arith
 
 pub key-fits : (a : Account) → AccountInRange a → keyOf a < 2 ^ 62
 key-fits a r = omega arith

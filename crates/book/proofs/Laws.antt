@@ -9,13 +9,12 @@ use Rattle.rulebook.specs.Lists.{if_then_else_, _is_}
 use Rattle.rulebook.specs.Ledger.{Ledger, Holdings, putDay, putHoldings, putWaiting}
 use Rattle.rulebook.specs.declared.Day.{Day}
 use Rattle.rulebook.specs.declared.Item.{Item}
-use Rattle.rulebook.specs.Premise.{accountCount, withCode}
+use Rattle.rulebook.specs.Premise.{accountCount}
 use Rattle.words.specs.Regions.{putRegion}
 use Rattle.words.specs.Tables.{rows}
 use Rattle.words.proofs.Regions.{region-put, region-length, end-within}
 use Rattle.securities.specs.Admitted.{securitiesOf, withSecurities}
 use Rattle.securities.specs.Admitted as securities
-use Rattle.securities.proofs.Laws.{codes-once}
 use Rattle.accounts.proofs.HeldRows.{rows-counted}
 use Rattle.accounts.specs.Map.{balanceOf, withAccounts}
 use Rattle.accounts.specs.Map as accounts
@@ -122,8 +121,3 @@ next f first second = record { stored = second.stored; ledger = second.ledger �
 pub stored-counted : (xs : List ℕ) → Stored xs → holdingsOf xs .accounts ≡ accountCount (holdingsOf xs)
 unfolding holdingsOf
 stored-counted xs stored = rows-counted (part ACCOUNTS xs) stored.parts.accounts (holdingsOf xs)
-
--- no two securities have one code
-pub stored-codes : (xs : List ℕ) → Stored xs → (code : ℕ) → withCode code (holdingsOf xs .securities) ≤ 1
-unfolding holdingsOf
-stored-codes xs stored code = codes-once (part SECURITIES xs) stored.parts.securities code

@@ -6,7 +6,7 @@ use mathlib.Core.Bool.{Bool, true, false, not}
 use mathlib.Core.List.{List, [], _∷_, _++_, map}
 use mathlib.Core.Path.{_≡_, refl, ap, _∙_}
 use borrow.Author.Tests.{eq-eqb}
-use Rattle.rulebook.specs.Lists.{if_then_else_, _is_, keep}
+use Rattle.rulebook.specs.Lists.{if_then_else_, keep}
 use Rattle.rulebook.specs.Ledger.{Holdings, sameAccount, sumBelow}
 use Rattle.rulebook.specs.Movements.{account, cashOf, Movement, credit, debit, credits, debits}
 use Rattle.rulebook.specs.Cycle.{Marked, seller, buyer, bringsShares, takesShares, bringsCash, takesCash, withMark, withoutMark, legs}
@@ -127,17 +127,9 @@ same-self : (a : Account) → sameAccount a a ≡ true
 unfolding sameAccount
 same-self a = simp (eq-eqb a.security a.security refl, eq-eqb a.member a.member refl, eq-eqb a.typ a.typ refl, eq-eqb a.shareholder a.shareholder refl)
 
-pub own-brought : (t : Item) → bringsShares (buyer t) t ≡ t.quantity.0
-unfolding bringsShares
-own-brought t = rw (same-self (buyer t))
-
 pub own-taken : (t : Item) → takesShares (seller t) t ≡ t.quantity.0
 unfolding takesShares
 own-taken t = rw (same-self (seller t))
-
-pub own-paid : (t : Item) → bringsCash t.debited.member t.currency t ≡ t.amount.0
-unfolding bringsCash
-own-paid t = rw (eq-eqb t.debited.member t.debited.member refl, eq-eqb t.currency t.currency refl)
 
 pub own-pays : (t : Item) → takesCash t.credited.member t.currency t ≡ t.amount.0
 unfolding takesCash

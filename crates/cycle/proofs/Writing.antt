@@ -2,14 +2,14 @@
 use Prim.Native.Nat.{ℕ, _+_, _-_, _*_, _≤_, _<_}
 use native.Mathlib.Omega.{arith}
 use mathlib.Core.Bool.{Bool, true, false}
-use mathlib.Core.List.{List, [], _∷_, _++_, append-assoc, append-nil}
+use mathlib.Core.List.{List, [], _∷_, _++_, append-nil}
 use mathlib.Core.Path.{_≡_, refl, sym, ap, subst, _∙_}
 use lib.ListN.{length, drop, length-append, length-drop}
 use borrow.Rule.Slice.PartMut.{midOf, putMid}
 use Rattle.rulebook.specs.Lists.{if_then_else_}
 use Rattle.rulebook.specs.Ledger.{Ledger, sumBelow}
 use Rattle.rulebook.specs.Movements.{Movement, account, cashOf, move}
-use Rattle.rulebook.specs.Rows.{Row, postingRows, rowBytes, rowsBytes}
+use Rattle.rulebook.specs.Rows.{postingRows, rowsBytes}
 use Rattle.rulebook.specs.Cycle.{seller, buyer, withMark, legs}
 use Rattle.rulebook.specs.declared.Item.{Item}
 use Rattle.rulebook.proofs.RowCounts.{posting-length, legs-length}

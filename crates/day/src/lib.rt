@@ -8,7 +8,7 @@ ghost use Rattle.rulebook.specs.Call.{putMinute};
 ghost use Rattle.book.specs.Meaning.{ledgerOf};
 ghost use Rattle.book.specs.Stored.{Stored, Kept, Becomes};
 ghost use Rattle.book.specs.Handled.{Handled};
-ghost use Rattle.refusals.specs.Given.{Given, Accepted};
+ghost use Rattle.checking.specs.Given.{Given, Accepted};
 ghost use Rattle.day.specs.Closing.{CanCount, countedOne, itemsClosed};
 use rulebook::Counts;
 use rulebook::Order;

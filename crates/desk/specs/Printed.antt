@@ -1,9 +1,9 @@
 -- What the program makes of what it reads. No contract can say what the C library reads or writes: the buffers are what these speak of.
-use Prim.Native.Nat.{ℕ, _%_, _≤_}
+use Prim.Native.Nat.{ℕ}
 use mathlib.Core.Bool.{Bool, true}
 use mathlib.Core.List.{List}
 use mathlib.Core.Path.{_≡_}
-use lib.ListN.{length, take}
+use lib.ListN.{take}
 use Rattle.rulebook.specs.Ledger.{Ledger}
 use Rattle.lines.specs.Text.{Put}
 use Rattle.printing.specs.Printed.{lent, BlockPut, FileCalled, custodyLines}

@@ -141,7 +141,7 @@ pub extern "C" fn depository_day(book: &[u64], values: &mut [u64]) -> u64
     if wrong != 0 {
         return wrong;
     }
-    figures::put_day(values, ledger::day(book));
+    figures::put_day(values, reading::day(book));
     0
 }
 
@@ -155,9 +155,9 @@ pub extern "C" fn depository_sizes(book: &[u64], values: &mut [u64]) -> u64
     if wrong != 0 {
         return wrong;
     }
-    let securities = ledger::securities(book) as u64;
-    let accounts = ledger::accounts(book);
-    let items = ledger::items(book) as u64;
+    let securities = reading::securities(book) as u64;
+    let accounts = reading::accounts(book);
+    let items = reading::items(book) as u64;
     let figures = [securities, accounts, items];
     words::write(values, 0, &figures);
     0
@@ -176,11 +176,11 @@ pub extern "C" fn depository_security(book: &[u64], place: usize, values: &mut [
     if wrong != 0 {
         return wrong;
     }
-    if ledger::securities(book) <= place {
+    if reading::securities(book) <= place {
         return NO_SUCH_PLACE;
     }
-    let security = ledger::security_at(book, place);
-    let held = ledger::held(book, security.code);
+    let security = reading::security_at(book, place);
+    let held = reading::held(book, security.code);
     figures::put_security(values, security, held);
     0
 }
@@ -198,7 +198,7 @@ pub extern "C" fn depository_held(book: &[u64], security: u64, values: &mut [u64
     if wrong != 0 {
         return wrong;
     }
-    let held = ledger::held(book, security);
+    let held = reading::held(book, security);
     values[0] = held.0;
     0
 }
@@ -230,7 +230,7 @@ pub extern "C" fn depository_balance(
         typ: typ,
         shareholder: shareholder,
     };
-    let balance = ledger::balance(book, account);
+    let balance = reading::balance(book, account);
     values[0] = balance.0;
     0
 }
@@ -253,7 +253,7 @@ pub extern "C" fn depository_cash(
     if wrong != 0 {
         return wrong;
     }
-    let cash = ledger::cash(book, member, currency);
+    let cash = reading::cash(book, member, currency);
     values[0] = cash.0;
     0
 }
@@ -271,9 +271,9 @@ pub extern "C" fn depository_item(book: &[u64], place: usize, values: &mut [u64]
     if wrong != 0 {
         return wrong;
     }
-    if ledger::items(book) <= place {
+    if reading::items(book) <= place {
         return NO_SUCH_PLACE;
     }
-    figures::put_item(values, ledger::item_at(book, place));
+    figures::put_item(values, reading::item_at(book, place));
     0
 }

@@ -27,8 +27,8 @@ use Rattle.book.proofs.Laws.{next}
 use Rattle.book.proofs.Handled.{silent-handled, means-so}
 use Rattle.search.specs.Place.{placeFrom, placeIn}
 use Rattle.search.proofs.Found.{found-some}
-use Rattle.refusals.specs.Given.{Given}
-use Rattle.refusals.proofs.Passed.{known}
+use Rattle.checking.specs.Given.{Given}
+use Rattle.checking.proofs.Passed.{known}
 use Rattle.instructions.specs.Paired.{paired}
 use Rattle.instructions.proofs.Roomy.{first-false}
 

@@ -28,8 +28,8 @@ use Rattle.book.specs.Stored.{Means}
 use Rattle.book.specs.Handled.{Handled}
 use Rattle.search.specs.Place.{placeIn}
 use Rattle.search.proofs.Found.{Passes, found-passes, found-some}
-use Rattle.refusals.specs.Given.{Accepted}
-use Rattle.refusals.proofs.Passed.{known}
+use Rattle.checking.specs.Given.{Accepted}
+use Rattle.checking.proofs.Passed.{known}
 
 -- ---- a mark leaves a notice as it is
 

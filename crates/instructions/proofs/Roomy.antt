@@ -10,8 +10,8 @@ use Rattle.rulebook.specs.Lists.{_below_}
 use Rattle.rulebook.specs.declared.Order.{Order}
 use Rattle.rulebook.proofs.Space.{trade-space}
 use Rattle.book.specs.Meaning.{ledgerOf}
-use Rattle.refusals.specs.Given.{Given}
-use Rattle.refusals.proofs.Passed.{known}
+use Rattle.checking.specs.Given.{Given}
+use Rattle.checking.proofs.Passed.{known}
 
 pub first-false : (x y : Bool) → (x || y) ≡ false → x ≡ false
 first-false true y e = absurd (false≢true (sym e))

@@ -8,7 +8,7 @@ ghost use Rattle.rulebook.specs.Lists.{_oneOf_};
 ghost use Rattle.rulebook.specs.Forms.{instruct, trade, cancel};
 ghost use Rattle.book.specs.Meaning.{ledgerOf};
 ghost use Rattle.book.specs.Handled.{Handled};
-ghost use Rattle.refusals.specs.Given.{Given, Accepted};
+ghost use Rattle.checking.specs.Given.{Given, Accepted};
 ghost use Rattle.instructions.specs.Paired.{paired};
 use rulebook::Counts;
 use rulebook::Item;

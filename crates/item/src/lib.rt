@@ -1,6 +1,6 @@
 // The rules for one waiting item: who sent it, what it pairs with, its marks, how it leaves at close.
 ghost use mathlib.Core.Path.{_≡_};
-ghost use mathlib.Core.Bool.{_&&_, not};
+ghost use mathlib.Core.Bool.{_&&_};
 ghost use Prim.Native.Nat.{_+_, _-_, _<_, _^_};
 ghost use Rattle.rulebook.specs.Lists.{_is_, _atMost_};
 ghost use Rattle.rulebook.specs.Waiting.{itemOf, isDeliver, isReceive, ownReference, sidesOf, senderOf, sentBy, notCancellable, withState, marked, bothMarked, unmarked};

@@ -1,6 +1,4 @@
-// The depository ledger: a fresh book, one call, and what a book says.
-mod reading;
-
+// The depository ledger: a fresh book, and one call.
 ghost use mathlib.Core.Path.{_≡_};
 ghost use Rattle.rulebook.specs.Record.{readNumber};
 ghost use Rattle.rulebook.specs.Forms.{effect};
@@ -8,17 +6,8 @@ ghost use Rattle.book.specs.Meaning.{ledgerOf};
 ghost use Rattle.book.specs.Stored.{Kept};
 ghost use Rattle.book.specs.Fresh.{Freshened};
 ghost use Rattle.book.specs.Handled.{Handled};
-ghost use Rattle.refusals.specs.Given.{Accepted};
+ghost use Rattle.checking.specs.Given.{Accepted};
 ghost use Rattle.ledger.specs.Called.{Called};
-pub use reading::accounts;
-pub use reading::balance;
-pub use reading::cash;
-pub use reading::day;
-pub use reading::held;
-pub use reading::item_at;
-pub use reading::items;
-pub use reading::securities;
-pub use reading::security_at;
 use rulebook::Answer;
 use rulebook::Counts;
 use rulebook::Order;

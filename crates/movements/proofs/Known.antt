@@ -1,7 +1,7 @@
 -- What is known of a book and an order that no refusal applies to, as the book's functions ask for it. Assumes nothing.
 use Prim.Native.Nat.{ℕ, _+_, _-_, _≤_, _<_, _^_}
 use mathlib.Core.Path.{_≡_, refl, sym, ap, _∙_}
-use mathlib.Core.Bool.{Bool, true, false, _&&_, not, false≢true}
+use mathlib.Core.Bool.{Bool, true, false, _&&_, false≢true}
 use mathlib.Core.List.{List}
 use native.Mathlib.Omega.{arith}
 use lib.ListN.{length}
@@ -23,9 +23,9 @@ use Rattle.parties.specs.Counted.{outsideAccount}
 use Rattle.rows.specs.Widths as rows
 use Rattle.book.specs.Meaning.{ledgerOf}
 use Rattle.book.proofs.Laws.{stored-counted}
-use Rattle.refusals.specs.Given.{Given}
-use Rattle.refusals.proofs.Passed.{known}
-use Rattle.refusals.proofs.Orders.{fits, ranges, debited-named, credited-named, some-quantity}
+use Rattle.checking.specs.Given.{Given}
+use Rattle.checking.proofs.Passed.{known}
+use Rattle.checking.proofs.Orders.{fits, ranges, debited-named, credited-named, some-quantity}
 use Rattle.movements.proofs.Swap.{counted-among, counted-some, counted-most, counted-zero, debit-first}
 
 -- types 90 and 91

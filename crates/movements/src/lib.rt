@@ -4,7 +4,7 @@ ghost use Prim.Native.Nat.{_≤_};
 ghost use Rattle.rulebook.specs.Forms.{counts, admit, deposit, withdraw, transfer, payIn, payOut};
 ghost use Rattle.book.specs.Meaning.{ledgerOf};
 ghost use Rattle.book.specs.Handled.{Handled};
-ghost use Rattle.refusals.specs.Given.{Accepted};
+ghost use Rattle.checking.specs.Given.{Accepted};
 use rulebook::Counts;
 use rulebook::Order;
 

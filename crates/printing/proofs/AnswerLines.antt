@@ -14,7 +14,6 @@ use Rattle.lines.specs.Text.{Put}
 use Rattle.lines.proofs.Putting.{put-none, put-then}
 use Rattle.file.specs.Records.{recordsOf, nextAt, found}
 use Rattle.file.specs.declared.Cursor.{Cursor}
-use Rattle.file.specs.declared.Next.{Next}
 use Rattle.file.specs.declared.Next.the-variants.{Record, End}
 use Rattle.file.proofs.Walking.{walk-step}
 use Rattle.printing.specs.Printed.{answerLines, bookAfter, areaAfter, Lent, lent, Answered}

@@ -2,11 +2,10 @@
 use Prim.Native.Nat.{ℕ, _+_, _*_, _/_, _%_}
 use native.Mathlib.Omega.{arith}
 use mathlib.Core.List.{List, [], _∷_, _++_, append-assoc, append-nil}
-use mathlib.Core.Path.{_≡_, refl, sym, ap, _∙_}
+use mathlib.Core.Path.{_≡_, refl, sym, _∙_}
 use lib.ListN.{length, length-append}
 use Rattle.rulebook.specs.Ledger.{Ledger}
 use Rattle.file.specs.Records.{recordsOf}
-use Rattle.book.specs.Meaning.{ledgerOf}
 use Rattle.book.specs.Stored.{Kept}
 use Rattle.file.proofs.Walking.{no-records, records-append}
 use Rattle.printing.specs.Printed.{answerLines, bookAfter, areaAfter, custodyLines, printed, printedInBlocks, joined, WholeBlocks, Lent, BlockPut, FileCalled}

@@ -1,5 +1,4 @@
 // The custody lines of a book.
-ghost use mathlib.Core.Path.{_≡_};
 ghost use Prim.Native.Nat.{_+_, _≤_, _<_};
 ghost use lib.ListN.{length, getD};
 ghost use Rattle.rulebook.specs.declared.Security.{Security};
@@ -17,8 +16,8 @@ fn put_security(out: &mut [u8], at: usize, book: &[u64], i: usize) -> usize
         ⌝ }
     ensures { λ r. ⌜ r ≤ at + 112 ⌝ }
 {
-    let security = ledger::security_at(book, i);
-    let held = ledger::held(book, security.code);
+    let security = reading::security_at(book, i);
+    let held = reading::held(book, security.code);
     lines::put_custody_line(out, at, security, held)
 }
 
@@ -27,7 +26,7 @@ pub fn put_custody(out: &mut [u8], at: usize, book: &[u64]) -> usize
     requires { ⌜ Kept (now book) × (at + 3584 ≤ length (now out)) ⌝ }
     ensures { λ r. ⌜ Put (now (out .entry)) at (custodyLines (ledgerOf (now (book .entry)) .holdings)) (now (out .exit)) r ⌝ }
 {
-    let n = ledger::securities(book);
+    let n = reading::securities(book);
     let mut next = at;
     let mut i: usize = 0;
     while i < n {

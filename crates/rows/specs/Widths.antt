@@ -4,7 +4,6 @@ use mathlib.Core.List.{[], _∷_}
 use Rattle.bits.specs.Layout.{Fit}
 use Rattle.rulebook.specs.Cycle.{seller, buyer}
 use Rattle.rulebook.specs.Rows.{postingWidths, noticeWidths}
-use Rattle.rulebook.specs.declared.Account.{Account}
 use Rattle.rulebook.specs.declared.Item.{Item}
 use Rattle.rulebook.specs.declared.Posting.{Posting}
 use Rattle.rulebook.specs.declared.Notice.{Notice}

@@ -6,7 +6,7 @@ ghost use Prim.Native.Nat.{_≤_};
 ghost use lib.ListN.{length, drop};
 ghost use Rattle.rulebook.specs.Movements.{account, cashOf, move};
 ghost use Rattle.rulebook.specs.Cycle.{legs};
-ghost use Rattle.rulebook.specs.Rows.{postingBytes, noticeBytes, postingOf, postingRows, notice, noticeOf, rowsBytes, deliverReference, receiveReference};
+ghost use Rattle.rulebook.specs.Rows.{postingBytes, postingOf, postingRows, notice, noticeOf, rowsBytes, deliverReference, receiveReference};
 ghost use Rattle.rulebook.specs.Forms.{counts};
 ghost use Rattle.rulebook.specs.Ranges.{AccountInRange};
 ghost use Rattle.rows.specs.Widths.{PostingFits, NoticeFits, CashInRange, TradeInRange};

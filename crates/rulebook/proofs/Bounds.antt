@@ -8,13 +8,12 @@ use native.Mathlib.Omega.{arith}
 use borrow.Author.Tests.{eqb-true, eq-eqb}
 use Rattle.rulebook.specs.declared.Security.{Security}
 use Rattle.rulebook.specs.Lists.{if_then_else_, _is_, some, total}
-use Rattle.rulebook.specs.Ledger.{Holdings, Ledger, admitted, issuedOf, outsideOf, sumBelow, cashTotal, held}
+use Rattle.rulebook.specs.Ledger.{Holdings, Ledger, issuedOf, outsideOf, sumBelow, cashTotal, held}
 use Rattle.rulebook.specs.declared.Account.{Account}
-use Rattle.rulebook.specs.Premise.{Each, withCode, SecurityFits, AccountFits, CashFits, Premise}
+use Rattle.rulebook.specs.Premise.{Each, withCode, SecurityFits, CashFits, Premise}
 use Rattle.rulebook.proofs.Securities.{outs}
 use Rattle.rulebook.proofs.Lists.{each-so, each-both}
 use Rattle.rulebook.proofs.Types.{type-fits}
-use Rattle.rulebook.specs.Ranges.{AccountInRange}
 
 -- a part is at most the sum
 pub part-most : (n i : ℕ) (f : ℕ → ℕ) → i < n → f i ≤ sumBelow n f
@@ -130,52 +129,6 @@ module _ (b : Ledger) (p : Premise b) where
 
   pub held-fits : (security : ℕ) → held security b.holdings < 2 ^ 40
   held-fits s = omega (arith, issued-fits s, p.issue s)
-
-  -- of each security in the list
-  pub each-outside : Each (λ s. s.outside.0 < 2 ^ 40) b.holdings.securities
-  unfolding outsideOf
-  each-outside =
-      each-so (λ s. s.outside.0 ≤ outs s.code b.holdings.securities) (λ s. s.outside.0 < 2 ^ 40) (λ s l. omega (arith, l, outside-fits s.code))
-      b.holdings.securities (outside-part b.holdings.securities)
-
-  -- an admitted security's code
-  pub admitted-fits : (security : ℕ) → admitted security b.holdings ≡ true → (1 ≤ security) × (security < 2 ^ 14)
-  unfolding admitted
-  admitted-fits c e = code-fits c b.holdings.securities p.securities e
-
-  -- of each security in the list, held + outside = issued
-  pub each-issue : Each (λ s. held s.code b.holdings + s.outside.0 ≡ s.issued.0) b.holdings.securities
-  unfolding outsideOf issuedOf
-  each-issue =
-      let xs = b.holdings.securities in
-      each-so (λ s. (outs s.code xs ≡ s.outside.0) × (total (λ x. if x.code is s.code then x.issued.0 else 0) xs ≡ s.issued.0))
-      (λ s. held s.code b.holdings + s.outside.0 ≡ s.issued.0)
-      (λ s e. omega (arith, e .0, e .1, p.issue s.code)) xs
-      (each-both (λ s. outs s.code xs ≡ s.outside.0) (λ s. total (λ x. if x.code is s.code then x.issued.0 else 0) xs ≡ s.issued.0) xs
-      (only (λ s. s.outside.0) xs p.codes) (only (λ s. s.issued.0) xs p.codes))
-
-  -- an account with a balance has fields that a record can name
-  pub account-named : (a : Account) → 1 ≤ b.holdings.balance a → AccountInRange a
-  account-named a l =
-      let f = p.accounts a l in
-      let c = admitted-fits a.security f.security in
-      record { security = c .1; member = omega (arith, f.named.member-most); typ = type-fits a.typ f.typ; shareholder = f.named.shareholder-most }
-
-  -- so that any other has balance 0
-  pub unnamed-zero : (a : Account) → (AccountInRange a → ⊥) → b.holdings.balance a ≡ 0
-  unnamed-zero a n = go (b.holdings.balance a) refl
-    where
-      go : (k : ℕ) → b.holdings.balance a ≡ k → b.holdings.balance a ≡ 0
-      go zero e = e
-      go (suc k) e = absurd (n (account-named a (omega (arith, e))))
-
-  -- what is no account has balance 0
-  pub no-account : (a : Account) → (AccountFits b.holdings a → ⊥) → b.holdings.balance a ≡ 0
-  no-account a n = go (b.holdings.balance a) refl
-    where
-      go : (k : ℕ) → b.holdings.balance a ≡ k → b.holdings.balance a ≡ 0
-      go zero e = e
-      go (suc k) e = absurd (n (p.accounts a (omega (arith, e))))
 
   pub no-cash : (m c : ℕ) → (CashFits m c → ⊥) → b.holdings.cash m c ≡ 0
   no-cash m c n = go (b.holdings.cash m c) refl

@@ -9,9 +9,7 @@ use native.Mathlib.Omega.{arith}
 use borrow.Author.Tests.{eqb-true}
 use lib.ListN.{length, getD}
 use Rattle.rulebook.specs.declared.Order.{Order}
-use Rattle.rulebook.specs.declared.Counts.{Counts}
 use Rattle.rulebook.specs.declared.Day.{Day}
-use Rattle.rulebook.specs.declared.Answer.{Answer}
 use Rattle.rulebook.specs.declared.Read.{Read}
 use Rattle.rulebook.specs.Lists.{_is_, _below_, total, first}
 use Rattle.rulebook.specs.Ledger.{Ledger}

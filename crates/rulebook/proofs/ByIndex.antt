@@ -1,6 +1,6 @@
 -- The premise at an index of the book's lists, as code reads them. Assumes nothing.
 use mathlib.Core.Path.{_≡_, refl, sym, ap, _∙_}
-use mathlib.Core.Bool.{Bool, true, false}
+use mathlib.Core.Bool.{Bool, true}
 use mathlib.Core.List.{List, [], _∷_, _++_}
 use Prim.Native.Nat.{ℕ, zero, suc, _≤_, _<_}
 use native.Mathlib.Omega.{arith}
@@ -8,7 +8,7 @@ use lib.ListN.{length, getD, take, drop, set, take-append-drop}
 use lib.Seq.{drop-cons, set-split}
 use Rattle.rulebook.specs.declared.Item.{Item}
 use Rattle.rulebook.specs.declared.Security.{Security}
-use Rattle.rulebook.specs.Lists.{if_then_else_, _is_, total}
+use Rattle.rulebook.specs.Lists.{if_then_else_, total}
 use Rattle.rulebook.specs.Ledger.{Ledger}
 use Rattle.rulebook.specs.Waiting.{sentBy, marked, bothMarked, marking, cancelled, staying}
 use Rattle.rulebook.specs.Premise.{Each, SecurityFits, ItemFits, today, Premise}
@@ -44,12 +44,6 @@ module _ (b : Ledger) (p : Premise b) where
   pub security-at : (i : ℕ) (d : Security) → i < length b.holdings.securities → SecurityFits (getD b.holdings.securities i d)
   security-at i d l = each-at SecurityFits b.holdings.securities i d p.securities l
 
-  -- a code, and a sender's reference, at one index only
-  pub code-once :
-      (c i j : ℕ) (d : Security) → i < length b.holdings.securities → j < length b.holdings.securities → (getD b.holdings.securities i d .code is c) ≡ true
-      → (getD b.holdings.securities j d .code is c) ≡ true → i ≡ j
-  code-once c i j d = one-index (λ x. x.code is c) b.holdings.securities i j d (p.codes c)
-
   pub reference-once :
       (s r i j : ℕ) (d : Item) → i < length b.waiting → j < length b.waiting → sentBy s r (getD b.waiting i d) ≡ true → sentBy s r (getD b.waiting j d) ≡ true
       → i ≡ j
@@ -57,9 +51,6 @@ module _ (b : Ledger) (p : Premise b) where
 
   pub item-at : (i : ℕ) (d : Item) → i < length b.waiting → ItemFits b.day.number (today b.day) b.holdings (getD b.waiting i d)
   item-at i d l = each-at (ItemFits b.day.number (today b.day) b.holdings) b.waiting i d p.items l
-
-  pub half-at : (i : ℕ) (d : Item) → i < length b.waiting → bothMarked (getD b.waiting i d .state) ≡ false
-  half-at i d l = each-at (λ item. bothMarked item.state ≡ false) b.waiting i d p.halves l
 
   -- a cancel of the item at an index: stored with its mark, or removed with its second one
   pub cancel-at :

@@ -1,7 +1,7 @@
 -- A call's answer is the first of all its checks that applies. Assumes nothing.
-use mathlib.Core.Path.{_≡_, refl, sym, ap, _∙_}
+use mathlib.Core.Path.{_≡_, refl, sym, _∙_}
 use mathlib.Core.Bool.{Bool, true, false}
-use mathlib.Core.List.{List, _∷_, _++_}
+use mathlib.Core.List.{List, _++_}
 use Prim.Native.Nat.{ℕ}
 use native.Mathlib.Omega.{arith}
 use borrow.Author.Tests.{eqb-true}
@@ -9,7 +9,7 @@ use Rattle.rulebook.specs.Lists.{if_then_else_, _is_, first}
 use Rattle.rulebook.specs.Ledger.{Ledger}
 use Rattle.rulebook.specs.Record.{readTests, readRefusal, readOf, orderOf, fieldsIn}
 use Rattle.rulebook.specs.Refusals.{refusals}
-use Rattle.rulebook.specs.Call.{answerNumber, refused, accepted, orderCall, readCall, shortArea, callOf, Result}
+use Rattle.rulebook.specs.Call.{answerNumber, refused, accepted, orderCall, readCall, shortArea, callOf}
 use Rattle.rulebook.specs.Checks.{checks, CheckingOrder}
 use Rattle.rulebook.specs.Forms.{effect}
 use Rattle.rulebook.specs.declared.Order.{Order}

@@ -18,7 +18,7 @@ use Rattle.rulebook.specs.declared.Read.{Read}
 use Rattle.rulebook.specs.Lists.{_is_, first}
 use Rattle.rulebook.specs.Record.{readOf}
 use Rattle.rulebook.specs.Ledger.{Ledger, fresh, putDay, cashTotal, issuedOf, outsideOf, held}
-use Rattle.rulebook.specs.Movements.{type91, bookHas}
+use Rattle.rulebook.specs.Movements.{type91}
 use Rattle.rulebook.specs.Forms.{effect}
 use Rattle.rulebook.specs.Refusals.{overCeiling, refusals}
 use Rattle.rulebook.specs.Call.{putMinute}

@@ -20,8 +20,6 @@ pub mod Places
 pub mod Booking
 -- the cycle: nothing is short once its rounds end (`settling-done`), so no debit of a settlement is cut off at 0 (`Steps.Settling.cycle-exact`)
 pub mod Rounds
--- and what its trades bring and take fits a word
-pub mod CycleBounds
 -- refusal 18: forms that never get it (`never-grows`), a cycle among them (`cycle-space`); for the others a test on the book before the call
 pub mod Sizes
 pub mod Space
@@ -32,6 +30,8 @@ pub mod Bounds
 pub mod ByIndex
 pub mod Halves
 pub mod Cancelling
+-- ranges of forms
+pub mod Within
 -- WHAT THESE REST ON
 
 -- lists, account types, sums over accounts, securities, rows that are read back, what movements do to sums

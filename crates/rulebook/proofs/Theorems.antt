@@ -2,13 +2,13 @@
 use Prim.Native.Nat.{ℕ, _≤_}
 use mathlib.Core.Bool.{Bool, true, false, _&&_, and-false}
 use mathlib.Core.List.{List, [], _∷_}
-use mathlib.Core.Path.{_≡_, refl, sym, ap, subst, _∙_}
+use mathlib.Core.Path.{_≡_, refl, ap, _∙_}
 use native.Mathlib.Omega.{arith}
 use borrow.Author.Tests.{eqb-true}
 use lib.ListN.{length, take, drop}
 use lib.Seq.{take-at, take-append-le}
 use Rattle.bits.proofs.Laws.{length-bytes}
-use Rattle.bits.specs.Bits.{Octets, bytes}
+use Rattle.bits.specs.Bits.{bytes}
 use Rattle.rulebook.specs.Lists.{if_then_else_, _is_, some}
 use Rattle.rulebook.specs.Ledger.{Holdings}
 use Rattle.bits.specs.Layout.{pack}
@@ -18,7 +18,6 @@ use Rattle.rulebook.specs.Cycle.{Marked, NothingShort, anyShort, debitsS
 use Rattle.rulebook.specs.declared.Item.{Item}
 use Rattle.rulebook.specs.Theorems.{Theorems}
 use Rattle.rulebook.specs.declared.Order.{Order}
-use Rattle.rulebook.specs.declared.Read.{Read}
 use Rattle.rulebook.specs.declared.Written.{Written}
 use Rattle.rulebook.proofs.RoundTrips.{write-read, read-write, read-writable, first-bytes}
 use Rattle.rulebook.proofs.Rounds.{settling-done, enough-shares, enough-cash}

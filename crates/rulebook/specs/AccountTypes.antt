@@ -1,7 +1,7 @@
 -- Account types, and the pairs of types between which shares may move (RULES 5).
 use Prim.Native.Nat.{ℕ}
-use mathlib.Core.Bool.{Bool, true, false, not, _||_, _&&_}
-use mathlib.Core.List.{List, [], _∷_, _++_}
+use mathlib.Core.Bool.{Bool, not, _||_, _&&_}
+use mathlib.Core.List.{List, [], _∷_}
 use Rattle.rulebook.specs.Lists.{_is_, _oneOf_, some}
 
 -- RULES 5.1, 5.2: the free types, by nature

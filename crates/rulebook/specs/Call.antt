@@ -1,7 +1,7 @@
 -- One call: a record and a lent area, on a book (RULES 1.3 to 1.11).
 use Prim.Native.Nat.{ℕ, _*_}
-use mathlib.Core.Bool.{Bool, true, false}
-use mathlib.Core.List.{List, [], _∷_, _++_}
+use mathlib.Core.Bool.{Bool}
+use mathlib.Core.List.{List, _++_}
 use lib.ListN.{length, drop}
 use Rattle.rulebook.specs.Lists.{if_then_else_, _is_, _below_, first}
 use Rattle.rulebook.specs.Ledger.{Ledger, putDay, withMinute}

@@ -1,6 +1,6 @@
 -- Lists of calls, and what holds after every such list (RULES 12).
 use Prim.Native.Nat.{ℕ, zero, suc, _+_}
-use mathlib.Core.Bool.{Bool, true, false, not, _||_, _&&_}
+use mathlib.Core.Bool.{Bool, false, not, _&&_}
 use mathlib.Core.List.{List, [], _∷_, _++_}
 use mathlib.Core.Path.{_≡_}
 use lib.ListN.{take, drop}
@@ -8,7 +8,7 @@ use lib.Dec.{T}
 use Rattle.rulebook.specs.Lists.{if_then_else_, _is_, _isNot_, _oneOf_, total}
 use Rattle.rulebook.specs.AccountTypes.{pledgedOrBlocked}
 use Rattle.rulebook.specs.Record.{readOf}
-use Rattle.rulebook.specs.Ledger.{Holdings, Ledger, fresh, accountOf, sameAccount, issuedOf, outsideOf, cashTotal, held}
+use Rattle.rulebook.specs.Ledger.{Ledger, fresh, accountOf, sameAccount, issuedOf, outsideOf, cashTotal, held}
 use Rattle.rulebook.specs.declared.Account.{Account}
 use Rattle.rulebook.specs.Movements.{Place, account, type91, type90, cashOf, member0, bookHas}
 use Rattle.rulebook.specs.Rows.{postingIn}

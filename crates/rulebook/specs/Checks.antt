@@ -7,7 +7,7 @@ use Rattle.rulebook.specs.Lists.{first}
 use Rattle.rulebook.specs.Ledger.{Ledger}
 use Rattle.rulebook.specs.Record.{readTests, orderOf, fieldsIn}
 use Rattle.rulebook.specs.Refusals.{refusals}
-use Rattle.rulebook.specs.Call.{answerNumber, shortArea, callOf, Result}
+use Rattle.rulebook.specs.Call.{answerNumber, shortArea, callOf}
 
 -- RULES 7. The area, the record's bytes and fields, then the order on the book
 unfoldable pub checks : Ledger → List ℕ → List ℕ → List (ℕ × Bool)

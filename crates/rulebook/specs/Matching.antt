@@ -1,6 +1,6 @@
 -- Matching of deliver and receive instructions (RULES 8).
 use Prim.Native.Nat.{ℕ, _-_}
-use mathlib.Core.Bool.{Bool, true, false, _||_, _&&_}
+use mathlib.Core.Bool.{Bool, false, _||_, _&&_}
 use mathlib.Core.List.{List, [], _∷_, _++_}
 use Rattle.rulebook.specs.Lists.{if_then_else_, _is_, _atMost_}
 use Rattle.rulebook.specs.declared.Item.{Item}

@@ -1,5 +1,5 @@
 -- What a record's fields and a row's fields can name: numbers below what their widths hold. What a book has is narrower, and stands in `Premise`.
-use Prim.Native.Nat.{ℕ, _<_, _^_}
+use Prim.Native.Nat.{_<_, _^_}
 use Rattle.rulebook.specs.declared.Party.{Party}
 use Rattle.rulebook.specs.declared.Account.{Account}
 

@@ -1,12 +1,12 @@
 -- What is proved of these definitions, whole: a record whose fields are the theorems. `proofs/Theorems` has its one element.
 use Prim.Native.Nat.{ℕ, _≤_}
-use mathlib.Core.Bool.{Bool, false}
+use mathlib.Core.Bool.{false}
 use mathlib.Core.List.{List, [], _∷_}
 use mathlib.Core.Path.{_≡_}
 use lib.ListN.{length, take}
 use Rattle.bits.specs.Bits.{Octets}
 use Rattle.rulebook.specs.Ledger.{Holdings, Ledger, fresh}
-use Rattle.rulebook.specs.Record.{readOf, recordOf, writtenOf, areaWritten}
+use Rattle.rulebook.specs.Record.{readOf, writtenOf, areaWritten}
 use Rattle.rulebook.specs.Cycle.{Marked, NothingShort, anyShort, settling}
 use Rattle.rulebook.specs.Refusals.{noSpace}
 use Rattle.rulebook.specs.Checks.{CheckingOrder}

@@ -1,6 +1,5 @@
 -- Windows: minutes of the day, both ends inside (RULES 4.7).
 use Prim.Native.Nat.{ℕ}
-use mathlib.Core.Bool.{Bool}
 use mathlib.Core.List.{List, [], _∷_}
 use lib.ListN.{getD}
 use Rattle.rulebook.specs.Lists.{if_then_else_, _is_}

@@ -33,11 +33,6 @@ pub security-there : (s : List ℕ) (i : ℕ) (d : Security) → i < rows s → 
 unfolding securitiesOf
 security-there s i d h = let z : i ≡ 0 + i = omega arith in ap (securityAt s) z ∙ sym (from-get (securityAt s) 0 (rows s) i d h)
 
--- no two have one code
-pub codes-once : (s : List ℕ) → Kept s → (code : ℕ) → withCode code (securitiesOf s) ≤ 1
-unfolding securitiesOf
-codes-once s kept code = rw (from-total (λ x. if x.code is code then 1 else 0) (securityAt s) (rows s)) (kept.once code)
-
 module _ (s : List ℕ) (code : ℕ) where
   -- it is admitted where a search finds it
   pub admitted-found : (h : Holdings) → isFound (placeOf code s) ≡ admitted code (withSecurities s h)

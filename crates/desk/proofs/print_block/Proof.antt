@@ -1,13 +1,11 @@
 -- `desk::print_block` meets its contract: what was read lies inside the buffer. Assumes nothing.
 use borrow.Author.Needs.{needs}
 use native.Mathlib.Omega.{arith}
-use mathlib.Core.Bool.{Bool, true, false≢true}
-use mathlib.Core.Path.{_≡_, sym, _∙_}
-use Prim.Native.Nat.{_≤_}
-use lib.ListN.{length, take, length-take}
+use mathlib.Core.Bool.{false≢true}
+use mathlib.Core.Path.{sym, _∙_}
+use lib.ListN.{length-take}
 use lib.Seq.{length-take-le}
 use Rattle.printing.proofs.Blocks.{block-called}
-use Rattle.desk.specs.Printed.{ReadAndCalled}
 use Rattle.desk.proofs.print_block.Statement.{statement}
 use Rattle.desk.proofs.print_block.Tie as tie
 

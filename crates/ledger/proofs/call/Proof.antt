@@ -1,7 +1,7 @@
 -- `ledger::call` meets its contract: it ends in one of four ways. Assumes nothing.
 use mathlib.Core.Path.{sym, _∙_}
 use borrow.Author.Needs.{needs}
-use Rattle.refusals.specs.Given.{WasRead, Given}
+use Rattle.checking.specs.Given.{WasRead, Given}
 use Rattle.ledger.proofs.Calls.{too-short, unread-as, refuses, accepts}
 use Rattle.ledger.proofs.call.Statement.{statement}
 use Rattle.ledger.proofs.call.Tie as tie

@@ -7,8 +7,8 @@ use borrow.Author.Tests.{le-leb}
 use borrow.Author.Needs.{needs}
 use Rattle.rulebook.specs.Forms.{forms, rowOf}
 use Rattle.rulebook.proofs.ByCall.{HasForm, effect-at}
-use Rattle.refusals.proofs.Orders.{ranges}
-use Rattle.refusals.proofs.Growth.{instruction}
+use Rattle.checking.proofs.Orders.{ranges}
+use Rattle.rulebook.proofs.Within.{instruction}
 use Rattle.ledger.proofs.ByForm.{transfer-is, instruct-is, as-effect}
 use Rattle.ledger.proofs.handle.Statement.{statement}
 use Rattle.ledger.proofs.handle.Tie as tie

@@ -1,5 +1,5 @@
 -- `lines::put_number` meets its contract, by the digits' recursion on the last one. The measure is the number. Assumes nothing.
-use Prim.Native.Nat.{ℕ, _<_, _^_}
+use Prim.Native.Nat.{ℕ, _<_}
 use native.Mathlib.Omega.{arith}
 use borrow.Author.Needs.{needs}
 use borrow.Fn.Kinds.{In}

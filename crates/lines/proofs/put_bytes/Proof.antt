@@ -1,9 +1,8 @@
 -- `lines::put_bytes` meets its contract: after i turns the first i bytes stand in the buffer. Assumes nothing.
 use borrow.Author.Needs.{needs}
-use mathlib.Core.Path.{_≡_, refl, sym, ap, _∙_}
-use Prim.Native.Nat.{ℕ, _+_, _-_, _≤_}
+use mathlib.Core.Path.{_≡_, refl}
+use Prim.Native.Nat.{_-_, _≤_}
 use native.Mathlib.Omega.{arith}
-use native.Mathlib.Numerals.{add-one}
 use lib.ListN.{length}
 use lib.Seq.{paste, paste-zero}
 use Rattle.lines.proofs.Putting.{one-more, all-put}

@@ -1,7 +1,6 @@
 -- `lines::put_digit` meets its contract: the digit's byte is stored. Assumes nothing.
 use borrow.Author.Needs.{needs}
 use mathlib.Core.Path.{refl}
-use native.Mathlib.Omega.{arith}
 use Rattle.lines.proofs.Putting.{put-one}
 use Rattle.lines.proofs.put_digit.Statement.{statement}
 use Rattle.lines.proofs.put_digit.Tie as tie

@@ -8,7 +8,7 @@ use lib.ListN.{length}
 use Rattle.rulebook.specs.Ledger.{admitted}
 use Rattle.rulebook.specs.Ranges.{AccountInRange}
 use Rattle.book.specs.Meaning.{ledgerOf}
-use Rattle.refusals.proofs.Orders.{fits}
+use Rattle.checking.proofs.Orders.{fits}
 use Rattle.movements.proofs.Known.{new-security, outside-row}
 use Rattle.movements.proofs.Moved.{did-admit}
 use Rattle.movements.proofs.admit.Statement.{statement}

@@ -9,7 +9,7 @@ use Rattle.rulebook.specs.declared.Account.{Account}
 use Rattle.rulebook.specs.Ranges.{AccountInRange}
 use Rattle.accounts.specs.Map.{CreditFits}
 use Rattle.book.specs.Meaning.{ledgerOf}
-use Rattle.refusals.proofs.Orders.{fits, credited-named}
+use Rattle.checking.proofs.Orders.{fits, credited-named}
 use Rattle.movements.proofs.Known.{deposit-fits, deposit-enough, outside-row}
 use Rattle.movements.proofs.Moved.{outside-kept, between}
 use Rattle.movements.proofs.deposit.Statement.{statement}

@@ -6,7 +6,7 @@ use Rattle.rulebook.specs.Rows.{postingRows, postingOf}
 use Rattle.rulebook.specs.Premise.{CashFits}
 use Rattle.rulebook.specs.Forms.{payOut}
 use Rattle.book.specs.Meaning.{ledgerOf}
-use Rattle.refusals.proofs.Orders.{payer}
+use Rattle.checking.proofs.Orders.{payer}
 use Rattle.movements.proofs.Known.{pay-out-enough, cash-row}
 use Rattle.movements.proofs.Moved.{moved}
 use Rattle.movements.proofs.pay_out.Statement.{statement}

@@ -8,7 +8,7 @@ use borrow.Author.Tests.{le-leb}
 use Rattle.rulebook.specs.Lists.{within}
 use Rattle.rulebook.specs.Ranges.{AccountInRange}
 use Rattle.book.specs.Meaning.{ledgerOf}
-use Rattle.refusals.proofs.Orders.{debited-named, credited-named, some-quantity}
+use Rattle.checking.proofs.Orders.{debited-named, credited-named, some-quantity}
 use Rattle.movements.proofs.Known.{debits-enough, transfer-swap, transfer-fits}
 use Rattle.movements.proofs.Moved.{did-transfer}
 use Rattle.movements.proofs.transfer.Statement.{statement}

@@ -10,7 +10,7 @@ use Rattle.rulebook.specs.Rows.{postingRows, postingOf}
 use Rattle.rulebook.specs.Forms.{withdraw}
 use Rattle.rulebook.specs.Ranges.{AccountInRange}
 use Rattle.book.specs.Meaning.{ledgerOf}
-use Rattle.refusals.proofs.Orders.{fits, debited-named, some-quantity}
+use Rattle.checking.proofs.Orders.{fits, debited-named, some-quantity}
 use Rattle.movements.proofs.Known.{outside-fits-word, debits-enough, outside-row}
 use Rattle.movements.proofs.Moved.{balance-kept, between}
 use Rattle.movements.proofs.withdraw.Statement.{statement}

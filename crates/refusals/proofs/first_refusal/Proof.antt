@@ -4,7 +4,6 @@ use mathlib.Core.Path.{_≡_, sym, ap, _∙_}
 use mathlib.Core.Bool.{Bool}
 use mathlib.Core.List.{List, _++_}
 use native.Mathlib.Omega.{arith}
-use borrow.Author.Needs.{needs}
 use Rattle.rulebook.specs.Lists.{first}
 use Rattle.rulebook.specs.Ledger.{Ledger}
 use Rattle.rulebook.specs.Refusals.{refusals, dayTests, orderTests, itemTests, roomTests}
@@ -12,7 +11,7 @@ use Rattle.rulebook.specs.declared.Day.{Day}
 use Rattle.rulebook.specs.declared.Order.{Order}
 use Rattle.rulebook.proofs.Checking.{first-stops, first-goes-on, day-numbered, order-numbered, items-numbered}
 use Rattle.book.specs.Meaning.{ledgerOf}
-use Rattle.refusals.proofs.Orders.{ranges}
+use Rattle.checking.proofs.Orders.{ranges}
 use Rattle.refusals.proofs.first_refusal.Statement.{statement}
 use Rattle.refusals.proofs.first_refusal.Tie as tie
 

@@ -1,7 +1,7 @@
 -- Every account, outside count and member's cash is what the rows written say, over any list of calls. Assumes nothing.
 use mathlib.Core.Path.{_≡_, refl}
 use mathlib.Core.Bool.{Bool, true, false}
-use mathlib.Core.List.{List, [], _∷_, _++_}
+use mathlib.Core.List.{List, _++_}
 use Prim.Native.Nat.{ℕ, _+_, _*_}
 use native.Mathlib.Omega.{arith}
 use lib.ListN.{length, drop}
@@ -10,7 +10,6 @@ use Rattle.rulebook.specs.Lists.{total}
 use Rattle.rulebook.specs.Ledger.{Ledger, fresh, outsideOf}
 use Rattle.rulebook.specs.Movements.{Place, account, type91, type90, cashOf, member0, bookHas}
 use Rattle.rulebook.specs.Rows.{postingRows, rowsBytes}
-use Rattle.rulebook.specs.declared.Posting.{Posting}
 use Rattle.rulebook.specs.Forms.{Outcome, rowOf, effect, writes}
 use Rattle.rulebook.specs.Call.{accepted}
 use Rattle.rulebook.specs.Calls.{Call, callsOn, bookAfter, Accepted, firstRows, postingsOf, written, debitsWritten, creditsWritten}

@@ -8,7 +8,6 @@ use Rattle.rulebook.proofs.Lists.{_and_, keep-split, total-append, tota
 use Rattle.rulebook.proofs.Rounds.{cycle-total}
 use Rattle.rulebook.proofs.ByCall.{Effect, AllForms, by-form, by-call}
 use Rattle.rulebook.specs.Call.{putMinute}
-use Rattle.rulebook.specs.declared.Answer.{Answer}
 use native.Mathlib.Omega.{arith}
 use Rattle.rulebook.specs.declared.Item.{Item}
 use Rattle.rulebook.specs.declared.Order.{Order}

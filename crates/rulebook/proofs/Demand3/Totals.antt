@@ -12,15 +12,15 @@ use Rattle.rulebook.specs.AccountTypes.{pledgedOrBlocked}
 use Rattle.rulebook.specs.Record.{readOf}
 use Rattle.rulebook.specs.Ledger.{Holdings, Ledger, fresh, cashTotal, issuedOf, putDay, held}
 use Rattle.rulebook.specs.declared.Account.{Account}
-use Rattle.rulebook.specs.Movements.{account, bookHas}
-use Rattle.rulebook.specs.Forms.{Outcome, effect}
+use Rattle.rulebook.specs.Movements.{account}
+use Rattle.rulebook.specs.Forms.{effect}
 use Rattle.rulebook.specs.Refusals.{refusals}
 use Rattle.rulebook.specs.Call.{putMinute}
 use Rattle.rulebook.specs.Calls.{Call, callsOn, bookAfter, Accepted, sum, sharesOf, cashOfForm, issues, deposits, withdrawals, payIns, payOuts, putIn, released}
 use Rattle.rulebook.specs.Premise.{Premise}
 use Rattle.rulebook.proofs.ByCall.{acceptedCall, by-call, sum-none}
 use Rattle.rulebook.proofs.Sums.{none-held, held-exact, none-paid, cash-exact}
-use Rattle.rulebook.proofs.Steps.OneCall.{sharesAt, cashAt, putInAt, releasedAt, Step, step-issued}
+use Rattle.rulebook.proofs.Steps.OneCall.{putInAt, releasedAt, Step, step-issued}
 use Rattle.rulebook.proofs.Steps.{order-step}
 use Rattle.rulebook.proofs.EveryCall.{fresh-premise, order-premise}
 

@@ -1,7 +1,7 @@
 -- Part 2 of the premise: the number of accounts is the number of those with a balance. Assumes nothing.
 use mathlib.Core.Path.{_≡_, refl, sym, subst}
 use mathlib.Core.List.{List, [], _∷_}
-use Prim.Native.Nat.{ℕ, _+_, _-_, _^_}
+use Prim.Native.Nat.{ℕ, _^_}
 use Rattle.rulebook.specs.declared.Security.{Security}
 use Rattle.rulebook.specs.declared.Order.{Order}
 use Rattle.rulebook.specs.Ledger.{Holdings, Ledger, fresh, counted, putCash, putSecurities, putOutside}

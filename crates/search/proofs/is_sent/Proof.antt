@@ -1,5 +1,5 @@
 -- `search::is_sent` meets its contract: the words that were looked at tell that it does not, or the whole item is asked. Assumes nothing.
-use mathlib.Core.Path.{_≡_, refl, sym, ap, _∙_}
+use mathlib.Core.Path.{sym, ap, _∙_}
 use borrow.Author.Needs.{needs}
 use Rattle.rulebook.specs.Waiting.{sentBy}
 use Rattle.search.proofs.Found.{not-true}

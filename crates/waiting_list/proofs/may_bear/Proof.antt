@@ -1,5 +1,5 @@
 -- `waiting_list::may_bear` meets its contract: neither reference is that one. Assumes nothing.
-use mathlib.Core.Path.{sym, _∙_}
+use mathlib.Core.Path.{sym}
 use mathlib.Core.Bool.{false≢true}
 use borrow.Author.Needs.{needs}
 use borrow.Author.Tests.{ne-eqb}

@@ -1,7 +1,6 @@
 -- `waiting_list::may_pair` meets its contract: another quantity, or no single. Assumes nothing.
-use mathlib.Core.Path.{_≡_, sym, ap, _∙_}
+use mathlib.Core.Path.{ap, _∙_}
 use borrow.Author.Needs.{needs}
-use Prim.Native.Nat.{ℕ}
 use Rattle.rulebook.specs.declared.Shares.{Shares}
 use Rattle.waiting_list.proofs.Filters.{pairs-none, pairs-no-single}
 use Rattle.waiting_list.proofs.may_pair.Statement.{statement}

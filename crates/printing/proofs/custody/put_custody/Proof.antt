@@ -6,7 +6,6 @@ use native.Mathlib.Omega.{arith}
 use lib.ListN.{length, take}
 use lib.Seq.{take-all}
 use Rattle.rulebook.specs.declared.Security.{Security}
-use Rattle.rulebook.specs.declared.Shares.{Shares}
 use Rattle.book.specs.Meaning.{ledgerOf}
 use Rattle.lines.specs.Text.{Put}
 use Rattle.lines.proofs.Putting.{put-none, put-then}

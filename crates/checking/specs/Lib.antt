@@ -1,0 +1,2 @@
+-- An order that was read, and one that no refusal applies to.
+pub mod Given

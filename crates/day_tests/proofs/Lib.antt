@@ -1,0 +1,2 @@
+-- Windows by tests of the form.
+mod Windows

@@ -1,0 +1,2 @@
+-- Parts of a window.
+pub mod Window

@@ -1,0 +1,2 @@
+-- The item that a cancel names.
+mod Cancel

@@ -1,9 +1,0 @@
--- `refusals::day::goes_back` meets its contract. Assumes nothing.
-use borrow.Author.Needs.{needs}
-use Rattle.rulebook.specs.Refusals.{goesBack}
-use Rattle.refusals.proofs.day.goes_back.Statement.{statement}
-use Rattle.refusals.proofs.day.goes_back.Tie as tie
-
-pub goes-back-spec : {M : Type 1} → statement M
-unfolding goesBack
-goes-back-spec = tie.close (tie.spec (λ c. search needs))

@@ -1,0 +1,3 @@
+-- Which forms can lack room, and in which books.
+mod Growth
+mod Roomy

@@ -1,0 +1,72 @@
+-- A book with room for one more item, and so for one more account, lacks space for no form but an admission. Assumes nothing.
+use Prim.Native.Nat.{_≤_}
+use mathlib.Core.Path.{_≡_, refl, sym, _∙_}
+use mathlib.Core.Bool.{Bool, true, false, not, _||_, and-false, false≢true}
+use native.Mathlib.Omega.{arith}
+use borrow.Author.Tests.{eqb-true}
+use lib.ListN.{length}
+use Rattle.rulebook.specs.Lists.{_is_, _below_, within}
+use Rattle.rulebook.specs.Ledger.{Ledger}
+use Rattle.rulebook.specs.Premise.{Premise}
+use Rattle.rulebook.specs.Refusals.{noSpace}
+use Rattle.rulebook.specs.declared.Order.{Order}
+use Rattle.rulebook.proofs.ByCall.{HasForm}
+use Rattle.rulebook.proofs.Sizes.{never-grows}
+use Rattle.rulebook.proofs.Space.{deposit-space, transfer-space, instruct-space, trade-space, sides-apart}
+use Rattle.rulebook.proofs.Orders.{debit-enough}
+use Rattle.checking.specs.Given.{WasRead}
+use Rattle.room_tests.specs.Room.{isFull, isListFull, SidesPassed}
+use Rattle.rulebook.proofs.Within.{within-parts}
+use Rattle.rulebook.proofs.Within.{wider, instruction}
+use Rattle.room_tests.proofs.Growth.{never}
+use Rattle.checking.proofs.Orders.{ranges, some-quantity}
+
+or-none : (a b : Bool) → (a || b) ≡ false → b ≡ false
+or-none true b e = absurd (false≢true (sym e))
+or-none false b e = e
+
+pub not-false : (a : Bool) → not a ≡ false → a ≡ true
+not-false true e = refl
+not-false false e = sym e
+
+-- the last form that can lack space, in a book without room for one more item
+pub last :
+    (b : Ledger) (o : Order) → Premise b → isListFull b ≡ true → HasForm o.form
+    → (o.form is 2) ≡ false → (o.form is 3) ≡ false → within 5 9 o.form ≡ false → within 12 13 o.form ≡ false → noSpace b o ≡ (o.form is 14)
+last b o p full h two three five twelve = go (o.form is 14) refl
+  where
+    go : (t : Bool) → (o.form is 14) ≡ t → noSpace b o ≡ (o.form is 14)
+    go true e = trade-space b o (p .sizes) (eqb-true o.form 14 e) ∙ full ∙ sym e
+    go false e = never-grows b o (never o.form h two three five twelve e) (p .sizes) ∙ sym e
+
+module _ (b : Ledger) (o : Order) (w : WasRead o) (p : Premise b) (passed : SidesPassed b o) where
+  pub roomy :
+      (o.form is 2) ≡ false → isListFull b ≡ false → noSpace b o ≡ false
+  roomy two room = on-3 (o.form is 3) refl
+    where
+      full : isFull b ≡ false
+      full = or-none (63 below length b.waiting) (isFull b) room
+
+      on-14 : (t : Bool) → (o.form is 14) ≡ t → (o.form is 3) ≡ false → within 5 9 o.form ≡ false → within 12 13 o.form ≡ false → noSpace b o ≡ false
+      on-14 true e three five twelve = trade-space b o (p .sizes) (eqb-true o.form 14 e) ∙ room
+      on-14 false e three five twelve =
+          never-grows b o (never o.form (ranges o w .form) two three five twelve e) (p .sizes)
+
+      on-12 : (t : Bool) → within 12 13 o.form ≡ t → (o.form is 3) ≡ false → within 5 9 o.form ≡ false → noSpace b o ≡ false
+      on-12 true e three five = instruct-space b o (p .sizes) (instruction o.form e) ∙ simp (room, and-false)
+      on-12 false e three five = on-14 (o.form is 14) refl three five e
+
+      on-5 : (t : Bool) → within 5 9 o.form ≡ t → (o.form is 3) ≡ false → noSpace b o ≡ false
+      on-5 true e three =
+          let r = within-parts 5 9 o.form e in
+          let l : 3 ≤ o.form = omega (arith, r .0) in
+          transfer-space b o (p .sizes) (r .0) (r .1) (some-quantity o w l (r .1)) (debit-enough b o (passed .enough) (wider o.form e))
+          (sides-apart b o (r .0) (r .1) (passed .types) (passed .parties))
+          ∙ simp (full, and-false)
+      on-5 false e three = on-12 (within 12 13 o.form) refl three e
+
+      on-3 : (t : Bool) → (o.form is 3) ≡ t → noSpace b o ≡ false
+      on-3 true e =
+          let f : o.form ≡ 3 = eqb-true o.form 3 e in
+          deposit-space b o (p .sizes) f (some-quantity o w (omega arith) (omega arith)) ∙ simp (full, and-false)
+      on-3 false e = on-5 (within 5 9 o.form) refl e

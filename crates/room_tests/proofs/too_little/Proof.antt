@@ -1,0 +1,59 @@
+-- `room_tests::too_little` meets its contract. Assumes nothing.
+use mathlib.Core.Path.{sym, subst, _∙_}
+use mathlib.Core.Bool.{or-false}
+use borrow.Author.Tests.{ne-eqb}
+use native.Mathlib.Omega.{arith}
+use borrow.Author.Needs.{needs}
+use Rattle.rulebook.specs.Refusals.{tooLittle}
+use Rattle.rulebook.specs.Ranges.{AccountInRange}
+use Rattle.rulebook.proofs.Within.{within-not}
+use Rattle.checking.proofs.Orders.{debited-named, payer}
+use Rattle.room_tests.proofs.too_little.Statement.{statement}
+use Rattle.room_tests.proofs.too_little.Tie as tie
+
+returns : tie.Need-returns
+unfolding tooLittle
+returns c =
+    let outside = c .before .before .outside .ensures in
+    let form = c .before .before .before .if1 .taken in
+    simp (form, outside, or-false)
+
+balance-requires : tie.Need-balance-requires
+balance-requires c κs =
+    let s = c .before .before .before .before .before in
+    (s .pre .0 .stored, subst AccountInRange (sym (c .account-of .ensures)) (debited-named _ (s .pre .1)))
+
+returns-2 : tie.Need-returns-2
+unfolding tooLittle
+returns-2 c =
+    let b = c .before .before in
+    let two = b .before .before in
+    let one = two .before .before in
+    let s = one .before .before in
+    let f = s .args .order .form in
+    let w = sym (two .before .is-within .ensures) ∙ two .if2 .taken in
+    simp (ne-eqb f 3 (one .if1 .left), w, within-not 4 9 f 11 (omega arith) w, b .balance .ensures, b .before .account-of .ensures, or-false)
+
+cash-requires : tie.Need-cash-requires
+cash-requires c κs =
+    let s = c .before .before .before .before .before in
+    (s .pre .0 .stored, payer _ (s .pre .1) (c .if3 .taken))
+
+returns-3 : tie.Need-returns-3
+unfolding tooLittle
+returns-3 c =
+    let cash = c .before .before in
+    simp (cash .before .if3 .taken, cash .cash .ensures)
+
+returns-4 : tie.Need-returns-4
+unfolding tooLittle
+returns-4 c =
+    let two = c .before in
+    let one = two .before .before in
+    let f = one .before .before .args .order .form in
+    simp (ne-eqb f 3 (one .if1 .left), sym (two .before .is-within .ensures) ∙ two .if2 .left, ne-eqb f 11 (c .if3 .left))
+
+pub too-little-spec : {M : Type 1} → statement M
+too-little-spec =
+    tie.close
+    (tie.spec (λ c κs. search needs) returns (λ c κs. search needs) (λ c κs. search needs) balance-requires returns-2 cash-requires returns-3 returns-4)

@@ -1,0 +1,2 @@
+-- Room in a book.
+pub mod Room

@@ -1,0 +1,36 @@
+-- Room for one more account or item, in the book as it is before a call.
+use Prim.Native.Nat.{_+_}
+use mathlib.Core.Path.{_≡_}
+use mathlib.Core.Bool.{Bool, false, _||_}
+use mathlib.Core.List.{List}
+use lib.ListN.{length}
+use Rattle.rulebook.specs.Lists.{_is_, _below_, some, first}
+use Rattle.rulebook.specs.Ledger.{Ledger}
+use Rattle.rulebook.specs.Waiting.{itemOf}
+use Rattle.rulebook.specs.Matching.{tolerance, pairsWith}
+use Rattle.rulebook.specs.Refusals.{wrongPair, wrongParties, tooLittle, orderTests}
+use Rattle.rulebook.specs.declared.Item.{Item}
+use Rattle.rulebook.specs.declared.Order.{Order}
+use Rattle.rulebook.specs.declared.State.the-variants.{Single}
+
+-- accounts plus items leave no room for one more
+abbrev pub isFull : Ledger → Bool
+isFull book = 255 below (book.holdings.accounts + length book.waiting)
+
+-- the waiting list, or accounts plus items, leave no room for one more item
+abbrev pub isListFull : Ledger → Bool
+isListFull book = 63 below length book.waiting || isFull book
+
+-- a waiting single pairs with the arriving one of an order
+abbrev pub isMatched : List Item → Order → Bool
+isMatched waiting order = some (pairsWith (tolerance order.currency) (itemOf (Single (order.form is 12) order.reference) order)) waiting
+
+-- the order's stage lets the order pass
+abbrev pub OrderPassed : Ledger → Order → Type 0
+OrderPassed book order = first (orderTests book.holdings book.day.number order) ≡ 0
+
+-- what refusal 18 is asked after: 11, 12 and 16 do not apply, so that a transfer has two sides and its debit is covered
+pub record SidesPassed (book : Ledger) (order : Order) : Type 0 where
+  pub types : wrongPair order ≡ false
+  pub parties : wrongParties order ≡ false
+  pub enough : tooLittle book.holdings order ≡ false

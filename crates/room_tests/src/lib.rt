@@ -1,0 +1,112 @@
+// Refusals 16 to 18: whether the book has enough, and room.
+ghost use mathlib.Core.Path.{_≡_};
+ghost use Rattle.rulebook.specs.Lists.{first};
+ghost use Rattle.rulebook.specs.Refusals.{tooLittle, overCeiling, noSpace, roomTests};
+ghost use Rattle.book.specs.Meaning.{ledgerOf};
+ghost use Rattle.book.specs.Stored.{Kept};
+ghost use Rattle.checking.specs.Given.{WasRead};
+ghost use Rattle.room_tests.specs.Room.{isFull, isListFull, isMatched, OrderPassed, SidesPassed};
+use rulebook::Order;
+use rulebook::State;
+
+// RULES 7.16: too little where the movement takes from.
+fn too_little(book: &[u64], order: Order) -> bool
+    requires { ⌜ Kept (now book) × WasRead order ⌝ }
+    ensures { λ r. ⌜ r ≡ tooLittle (ledgerOf (now (book .entry)) .holdings) order ⌝ }
+{
+    let form = order.form;
+    if form == 3 {
+        let outside = book::outside(book, order.security);
+        return outside.0 < order.quantity.0;
+    }
+    if parties::is_within(4, 9, form) {
+        let balance = book::balance(book, parties::account_of(order.security, order.debited));
+        return balance.0 < order.quantity.0;
+    }
+    if form == 11 {
+        let cash = book::cash(book, order.debited.member, order.currency);
+        return cash.0 < order.amount.0;
+    }
+    false
+}
+
+// RULES 7.17: above the ceiling of a currency's cash.
+fn over_ceiling(book: &[u64], order: Order) -> bool
+    requires { ⌜ Kept (now book) × WasRead order ⌝ }
+    ensures { λ r. ⌜ r ≡ overCeiling (ledgerOf (now (book .entry)) .holdings) order ⌝ }
+{
+    if order.form != 10 {
+        return false;
+    }
+    let total = book::cash_total(book, order.currency);
+    1_000_000_000_000_000 < total.0 + order.amount.0
+}
+
+// Accounts plus items leave no room for one more.
+fn is_full(book: &[u64]) -> bool
+    requires { ⌜ Kept (now book) ⌝ }
+    ensures { λ r. ⌜ r ≡ isFull (ledgerOf (now (book .entry))) ⌝ }
+{
+    255 < book::accounts(book) + book::items(book) as u64
+}
+
+// The waiting list, or accounts plus items, leave no room for one more item.
+fn is_list_full(book: &[u64]) -> bool
+    requires { ⌜ Kept (now book) ⌝ }
+    ensures { λ r. ⌜ r ≡ isListFull (ledgerOf (now (book .entry))) ⌝ }
+{
+    (63 < book::items(book)) | is_full(book)
+}
+
+// Whether a waiting single pairs with the arriving one of an order.
+fn is_matched(book: &[u64], order: Order) -> bool
+    requires { ⌜ Kept (now book) ⌝ }
+    ensures { λ r. ⌜ r ≡ isMatched (ledgerOf (now (book .entry)) .waiting) order ⌝ }
+{
+    let delivers = order.form == 12;
+    let state = State::Single {
+        delivers,
+        reference: order.reference,
+    };
+    let arriving = item::item_of(state, order);
+    words::is_found(search::first_pairing(book, item::tolerance_of(order.currency), arriving))
+}
+
+// RULES 7.18: no room in the book that the call would leave.
+fn no_space(book: &[u64], order: Order) -> bool
+    requires { ⌜ Kept (now book) × WasRead order × SidesPassed (ledgerOf (now book)) order ⌝ }
+    ensures { λ r. ⌜ r ≡ noSpace (ledgerOf (now (book .entry))) order ⌝ }
+{
+    let form = order.form;
+    if form == 2 {
+        return 31 < book::securities(book);
+    }
+    if !is_list_full(book) {
+        return false;
+    }
+    if form == 3 {
+        let to = book::balance(book, parties::account_of(order.security, order.credited));
+        return (to.0 == 0) & is_full(book);
+    }
+    if parties::is_within(5, 9, form) {
+        let to = book::balance(book, parties::account_of(order.security, order.credited));
+        let from = book::balance(book, parties::account_of(order.security, order.debited));
+        return (to.0 == 0) & (from.0 != order.quantity.0) & is_full(book);
+    }
+    if parties::is_within(12, 13, form) {
+        return !is_matched(book, order);
+    }
+    form == 14
+}
+
+// The first refusal of the room's stage, for an order that the order's stage lets pass; 0 where none applies.
+pub fn refusal(book: &[u64], order: Order) -> u64
+    requires { ⌜ Kept (now book) × WasRead order × OrderPassed (ledgerOf (now book)) order ⌝ }
+    ensures { λ r. ⌜ r ≡ first (roomTests (ledgerOf (now (book .entry))) order) ⌝ }
+{
+    if too_little(book, order) {
+        return 16;
+    }
+    let later = checking::refuse(18, no_space(book, order), 0);
+    checking::refuse(17, over_ceiling(book, order), later)
+}
