@@ -8,12 +8,13 @@ use lib.ListN.{length, drop}
 use Rattle.bits.specs.Layout.{Fit}
 use Rattle.rulebook.specs.Lists.{if_then_else_, _below_, first}
 use Rattle.rulebook.specs.Field.{widths}
-use Rattle.rulebook.specs.Record.{fieldsIn, fieldsOf, orderOf, recordOf, readRefusal, readOf, readNumber, writeRefusal, writtenOf, writtenNumber, areaWritten, noForm, unusedNotZero, usedOutOfRange}
+use Rattle.rulebook.specs.Record.{fieldsIn, fieldsOf, orderOf, recordOf, noForm, unusedNotZero, usedOutOfRange}
+use Rattle.rulebook.specs.Record.{readRefusal, readOf, readNumber, writeRefusal, writtenOf, writtenNumber, areaWritten}
 use Rattle.rulebook.specs.declared.Order.{Order}
 use Rattle.rulebook.specs.declared.Read.{Read}
 use Rattle.rulebook.specs.declared.Written.{Written}
 use Rattle.rulebook.proofs.RoundTrips.{fields-fit}
-use Rattle.record.specs.Fields.{fieldsRefusal}
+use Rattle.field_rules.specs.Fields.{fieldsRefusal}
 use Rattle.record.specs.Answers.{ReadAs, WrittenAs}
 
 -- the number of an answer follows from the answer
