@@ -79,7 +79,7 @@ fn put_fields(words: &mut [u64], order: Order)
     requires { ⌜ length (now words) ≡ fieldWords ⌝ }
     ensures { λ u. ⌜ now (words .exit) ≡ fieldsRead (Read.Order order) (now (words .entry)) ⌝ }
 {
-    let fields = record::layout::fields_of(order);
+    let fields = layout::fields_of(order);
     words::write(words, 0, &fields[..FIELD_WORDS]);
 }
 
@@ -109,7 +109,7 @@ pub extern "C" fn depository_write(fields: &[u64], area: &mut [u8]) -> u64
     if fields.len() != FIELD_WORDS {
         return WRONG_FIELDS;
     }
-    let written = record::write(record::layout::order_of(fields), area);
+    let written = record::write(layout::order_of(fields), area);
     match written {
         Written::Record => 0,
         Written::Refused(number) => number,

@@ -6,14 +6,15 @@ use Prim.Native.Nat.{ℕ, _≤_}
 use borrow.Author.Tests.{eq-eqb, ne-eqb, le-ltb}
 use lib.ListN.{length, drop}
 use Rattle.bits.specs.Layout.{Fit}
-use Rattle.rulebook.specs.Lists.{if_then_else_, _below_, first}
+use Rattle.rulebook.specs.Lists.{first}
 use Rattle.rulebook.specs.Field.{widths}
-use Rattle.rulebook.specs.Record.{fieldsIn, fieldsOf, orderOf, recordOf, readRefusal, readOf, readNumber, writeRefusal, writtenOf, writtenNumber, areaWritten, noForm, unusedNotZero, usedOutOfRange}
+use Rattle.rulebook.specs.Record.{fieldsIn, fieldsOf, orderOf, recordOf, noForm, unusedNotZero, usedOutOfRange}
+use Rattle.rulebook.specs.Record.{readRefusal, readOf, readNumber, writeRefusal, writtenOf, writtenNumber, areaWritten}
 use Rattle.rulebook.specs.declared.Order.{Order}
 use Rattle.rulebook.specs.declared.Read.{Read}
 use Rattle.rulebook.specs.declared.Written.{Written}
 use Rattle.rulebook.proofs.RoundTrips.{fields-fit}
-use Rattle.record.specs.Fields.{fieldsRefusal}
+use Rattle.field_rules.specs.Fields.{fieldsRefusal}
 use Rattle.record.specs.Answers.{ReadAs, WrittenAs}
 
 -- the number of an answer follows from the answer
@@ -64,12 +65,3 @@ write-fits order e =
     neither false true c h = (cc, cc)
     neither false false true h = (cc, cc)
     neither false false false h = (refl, refl)
-
--- the fields of an order that the writer takes are not refused
-pub write-passes : (order : Order) (area : List ℕ) → writeRefusal order area ≡ 0 → fieldsRefusal (fieldsOf order) ≡ 0
-unfolding writeRefusal fieldsRefusal
-write-passes order area e = other (length area below 40) (fieldsRefusal (fieldsOf order)) e
-  where
-    other : (t : Bool) (n : ℕ) → (if t then 1 else n) ≡ 0 → n ≡ 0
-    other true n h = cc
-    other false n h = h

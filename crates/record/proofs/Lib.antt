@@ -1,2 +1,1 @@
-pub mod FieldsBelow
 pub mod Answers

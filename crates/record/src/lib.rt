@@ -1,8 +1,4 @@
 // The record reader and the record writer.
-pub mod layout;
-mod places;
-mod refusals;
-
 ghost use Rattle.record.specs.Answers.{ReadAs, WrittenAs};
 use rulebook::Order;
 use rulebook::Read;
@@ -16,7 +12,7 @@ pub fn read(record: &[u8]) -> Read
         return Read::Refused(2);
     }
     let fields = layout::fields_in(record);
-    let number = refusals::refusal(&fields);
+    let number = field_rules::refusal(&fields);
     if number != 0 {
         return Read::Refused(number);
     }
@@ -31,7 +27,7 @@ pub fn write(order: Order, area: &mut [u8]) -> Written
         return Written::Refused(1);
     }
     let fields = layout::fields_of(order);
-    let number = refusals::refusal(&fields);
+    let number = field_rules::refusal(&fields);
     if number == 0 {
         bits::pack_bits(area, &layout::WIDTHS, &fields);
         return Written::Record;

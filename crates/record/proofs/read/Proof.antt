@@ -6,7 +6,7 @@ use borrow.Author.Tests.{ne-eqb}
 use Rattle.rulebook.specs.Field.{widths}
 use Rattle.rulebook.specs.Record.{fieldsIn, orderOf, readRefusal, readOf}
 use Rattle.rulebook.specs.declared.Read.{Read}
-use Rattle.record.specs.Fields.{fieldsRefusal}
+use Rattle.field_rules.specs.Fields.{fieldsRefusal}
 use Rattle.record.proofs.Answers.{as-read, read-refused, read-order}
 use Rattle.record.proofs.read.Statement.{statement}
 use Rattle.record.proofs.read.Tie as tie

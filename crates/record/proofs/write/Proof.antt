@@ -12,7 +12,7 @@ use Rattle.bits.proofs.Packing.{put-front}
 use Rattle.rulebook.specs.Field.{widths}
 use Rattle.rulebook.specs.Record.{fieldsOf, recordOf, writeRefusal, writtenOf, areaWritten}
 use Rattle.rulebook.specs.declared.Order.{Order}
-use Rattle.record.specs.Fields.{fieldsRefusal}
+use Rattle.field_rules.specs.Fields.{fieldsRefusal}
 use Rattle.record.proofs.Answers.{as-written, write-refused, write-record, write-fits}
 use Rattle.record.proofs.write.Statement.{statement}
 use Rattle.record.proofs.write.Tie as tie

@@ -1,0 +1,45 @@
+-- `field_rules::most_of` meets its contract: no row but form 1's has a field with less than its place allows. Assumes nothing.
+use mathlib.Core.Path.{_≡_, refl, sym, ap₂}
+use mathlib.Core.Bool.{Bool, true, false, not, _&&_, _||_, and-false}
+use mathlib.Core.List.{List, [], _∷_, _++_, map}
+use Prim.Native.Nat.{ℕ}
+use borrow.Author.Needs.{needs}
+use borrow.Author.Tests.{ne-eqb, eqb-true}
+use Rattle.rulebook.specs.Lists.{_is_, _isNot_, some}
+use Rattle.rulebook.specs.Field.{places, widths, ceiling, always, ruleIn}
+use Rattle.rulebook.specs.Forms.{Form, forms, rowOf, most}
+use Rattle.rulebook.proofs.ByCall.{by-test}
+use Rattle.field_rules.proofs.most_of.Statement.{statement}
+use Rattle.field_rules.proofs.most_of.Tie as tie
+
+-- another form than 1 has a most of its own at some place
+lower : ℕ → Form → Bool
+lower n f = n isNot 1 && some (λ place. ruleIn (always ++ f.fields) place .most isNot ceiling place) places
+
+map-same : (f g : ℕ → ℕ) (l : List ℕ) → some (λ x. f x isNot g x) l ≡ false → map f l ≡ map g l
+map-same f g [] e = refl
+map-same f g (x ∷ rest) e =
+    ap₂ _∷_ (eqb-true (f x) (g x) (first (f x is g x) (some (λ y. f y isNot g y) rest) e .0))
+    (map-same f g rest (first (f x is g x) (some (λ y. f y isNot g y) rest) e .1))
+  where
+    first : (a b : Bool) → (not a || b) ≡ false → (a ≡ true) × (b ≡ false)
+    first true b h = (refl, h)
+    first false b h = (cc, cc)
+
+most-is : (n : ℕ) → (n is 1) ≡ false → map (most n) places ≡ map ceiling places
+unfolding most lower
+most-is n e = map-same (most n) ceiling places (simp e at by-table)
+  where
+    by-table : lower n (rowOf n) ≡ false
+    by-table = unfold lower forms ceiling widths places in by-test lower refl (λ m. and-false (m isNot 1)) n
+
+returns : tie.Need-returns
+unfolding places widths ceiling most forms rowOf
+returns c = rw (c .if1 .taken)
+
+returns-2 : tie.Need-returns-2
+unfolding places widths ceiling
+returns-2 c = sym (most-is _ (ne-eqb _ _ (c .if1 .left)))
+
+pub most-of-spec : {M : Type 1} → statement M
+most-of-spec = tie.close (tie.spec (λ c. search needs) returns returns-2)
