@@ -1,7 +1,7 @@
 -- `desk::input::fill` meets its contract. What is left of the buffer falls at each turn. Assumes nothing.
 use borrow.Author.Needs.{needs}
 use native.Mathlib.Omega.{arith}
-use mathlib.Core.Bool.{false≢true}
+use mathlib.Core.Bool.{false≢true, true≢false}
 use mathlib.Core.Path.{_≡_}
 use Prim.Native.Nat.{_-_, _≤_}
 use lib.ListN.{length}
@@ -15,13 +15,13 @@ abbrev μ-loop : tie.MeasureT-loop
 μ-loop input₀ done₀ input done = length input₀ - done
 
 returns : tie.Need-returns Inv-loop μ-loop
-returns c = record { inside = omega arith; full = λ e. absurd (false≢true e) }
+returns c = record { inside = omega arith; full = λ e. absurd (false≢true e); whole = λ m e. omega arith }
 
 returns-2 : tie.Need-returns-2 Inv-loop μ-loop
-returns-2 c = record { inside = omega arith; full = λ e. absurd (false≢true e) }
+returns-2 c = record { inside = omega arith; full = λ e. absurd (false≢true e); whole = λ m e. absurd (true≢false e) }
 
 returns-3 : tie.Need-returns-3 Inv-loop μ-loop
-returns-3 c = record { inside = omega arith; full = λ e. omega arith }
+returns-3 c = record { inside = omega arith; full = λ e. omega arith; whole = λ m e. absurd (true≢false m) }
 
 pub fill-spec : {M : Type 1} → statement M
 fill-spec =
