@@ -15,7 +15,7 @@ use Rattle.rulebook.specs.declared.Item.{Item}
 use Rattle.rulebook.proofs.Places.{credit-balance, debit-balance, credit-cash, debit-cash}
 use Rattle.words.specs.Places.{listFrom}
 use Rattle.words.proofs.Places.{from-push}
-use Rattle.netting.proofs.Marking.{marking}
+use Rattle.marks.proofs.Marking.{marking}
 
 -- ---- lists of movements, one behind the other
 

@@ -15,8 +15,8 @@ use Rattle.rulebook.proofs.Bounds.{balance-fits, cash-fits}
 use Rattle.rulebook.proofs.ByIndex.{item-at}
 use Rattle.rulebook.proofs.EveryCall.Items.{PartyPosts, item-posts}
 use Rattle.rulebook.specs.Ranges.{AccountInRange}
-use Rattle.netting.specs.Marks.{noItem}
-use Rattle.netting.specs.Ready.{Bookable, Ready}
+use Rattle.marks.specs.Marks.{noItem}
+use Rattle.legs.specs.Ready.{Bookable, Ready}
 
 named : (security : ℕ) (p : Party) → security < 2 ^ 14 → PartyPosts p → AccountInRange (accountOf security p)
 unfolding accountOf

@@ -14,8 +14,8 @@ use Rattle.words.specs.Places.{listFrom}
 use Rattle.book.specs.Meaning.{ledgerOf}
 use Rattle.book.specs.Stored.{Stored, Means}
 use Rattle.book.proofs.Laws.{next}
-use Rattle.netting.specs.Marks.{noItem, itemIn, isOn, markedOf}
-use Rattle.netting.proofs.Marking.{marking}
+use Rattle.marks.specs.Marks.{noItem, itemIn, isOn, markedOf}
+use Rattle.marks.proofs.Marking.{marking}
 use Rattle.cycle.proofs.Posting.{ifMarked, without-next}
 
 module _ (b : Ledger) (marks : ℕ) where

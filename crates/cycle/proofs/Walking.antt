@@ -8,7 +8,8 @@ use lib.ListN.{length}
 use Rattle.rulebook.specs.Lists.{if_then_else_, _is_}
 use Rattle.rulebook.specs.Ledger.{Ledger, Holdings, sameAccount, putHoldings, sumBelow}
 use Rattle.rulebook.specs.Movements.{Movement, credits, debits}
-use Rattle.rulebook.specs.Cycle.{seller, buyer, over, bringsShares, takesShares, bringsCash, takesCash, sharesBrought, sharesTaken, cashBrought, cashTaken, anyShort, withMark, legs}
+use Rattle.rulebook.specs.Cycle.{seller, buyer, over, bringsShares, takesShares, bringsCash, takesCash}
+use Rattle.rulebook.specs.Cycle.{sharesBrought, sharesTaken, cashBrought, cashTaken, anyShort, withMark, legs}
 use Rattle.rulebook.specs.declared.Account.{Account}
 use Rattle.rulebook.specs.declared.Item.{Item}
 use Rattle.rulebook.proofs.Rounds.{enough-shares, enough-cash}
@@ -17,13 +18,13 @@ use Rattle.words.proofs.Sums.{sum-last, sum-grows}
 use Rattle.book.specs.Meaning.{ledgerOf}
 use Rattle.book.specs.Stored.{Stored, Means, HoldingsBecome}
 use Rattle.book.proofs.Laws.{next}
-use Rattle.netting.specs.Marks.{itemIn, isOn, markedOf}
-use Rattle.netting.specs.Ready.{Bookable, Ready}
+use Rattle.marks.specs.Marks.{itemIn, isOn, markedOf}
+use Rattle.legs.specs.Ready.{Bookable, Ready}
 use Rattle.cycle.specs.Booking.{CanCredit, CanDebit, Covered}
-use Rattle.netting.proofs.Marking.{marking, over-sum, count-marked}
+use Rattle.marks.proofs.Marking.{marking, over-sum, count-marked, count-most}
 use Rattle.netting.proofs.Netting.{sum-most, if-below}
-use Rattle.netting.proofs.Running.{count-most}
-use Rattle.cycle.proofs.Posting.{first, ifMarked, credits-none, credits-next, debits-none, debits-next, own-taken, own-pays, credited-balance, credited-cash, debited-balance, debited-cash}
+use Rattle.cycle.proofs.Posting.{first, ifMarked, credits-none, credits-next, debits-none, debits-next}
+use Rattle.cycle.proofs.Posting.{own-taken, own-pays, credited-balance, credited-cash, debited-balance, debited-cash}
 
 -- ---- a book with other holdings
 

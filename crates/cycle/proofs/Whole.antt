@@ -23,9 +23,9 @@ use Rattle.book.specs.Meaning.{ledgerOf}
 use Rattle.book.specs.Stored.{Means}
 use Rattle.book.specs.Handled.{Handled}
 use Rattle.book.proofs.Laws.{next}
-use Rattle.netting.specs.Marks.{itemIn, isOn, markedOf, countOn, withRows}
+use Rattle.marks.specs.Marks.{itemIn, isOn, markedOf, countOn, withRows}
 use Rattle.netting.specs.Selected.{Selected}
-use Rattle.netting.proofs.Marking.{count-marked}
+use Rattle.marks.proofs.Marking.{count-marked}
 use Rattle.cycle.specs.Counting.{countsOf}
 
 -- ---- a trade has two sides

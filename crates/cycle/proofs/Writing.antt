@@ -18,10 +18,9 @@ use Rattle.words.proofs.Sums.{sum-last}
 use Rattle.rows.specs.Widths.{TradeInRange}
 use Rattle.rows.proofs.RowBytes.{rows-append}
 use Rattle.rows.proofs.Laws.{behind, movement-rows, trade-rows}
-use Rattle.netting.specs.Marks.{itemIn, isOn, markedOf, countOn, rowsOf}
-use Rattle.netting.specs.Ready.{Bookable}
-use Rattle.netting.proofs.Marking.{count-marked}
-use Rattle.netting.proofs.Running.{count-most}
+use Rattle.marks.specs.Marks.{itemIn, isOn, markedOf, countOn, rowsOf}
+use Rattle.legs.specs.Ready.{Bookable}
+use Rattle.marks.proofs.Marking.{count-marked, count-most}
 use Rattle.cycle.proofs.Posting.{first, ifMarked, first-next, legs-append}
 
 -- a trade that can be booked has rows that can be written

@@ -6,8 +6,8 @@ use Rattle.rulebook.specs.Cycle.{Marked, seller, buyer, sharesTaken, cashTaken}
 use Rattle.rulebook.specs.Ledger.{Ledger, Holdings}
 use Rattle.rulebook.specs.declared.Account.{Account}
 use Rattle.rulebook.specs.declared.Item.{Item}
-use Rattle.netting.specs.Marks.{itemIn}
-use Rattle.netting.specs.Ready.{Bookable}
+use Rattle.marks.specs.Marks.{itemIn}
+use Rattle.legs.specs.Ready.{Bookable}
 
 -- what a trade brings can be booked
 pub record CanCredit (t : Item) (h : Holdings) : Type 0 where

@@ -2,7 +2,7 @@
 use Prim.Native.Nat.{ℕ, _-_, _*_}
 use Rattle.rulebook.specs.Forms.{counts}
 use Rattle.rulebook.specs.declared.Counts.{Counts}
-use Rattle.netting.specs.Marks.{isOn, countOn}
+use Rattle.marks.specs.Marks.{isOn, countOn}
 
 -- four rows and two sides for each of the first n that settles, and those that are due and do not settle
 abbrev pub countsOf : (due settled n : ℕ) → Counts

@@ -6,11 +6,10 @@ ghost use Rattle.rulebook.specs.Movements.{credits, debits, booked};
 ghost use Rattle.rulebook.specs.Cycle.{anyShort, withMark, legs};
 ghost use Rattle.book.specs.Meaning.{ledgerOf, holdingsOf, waitingOf};
 ghost use Rattle.book.specs.Stored.{Stored, HoldingsBecome};
-ghost use Rattle.netting.specs.Marks.{markedOf};
-ghost use Rattle.netting.specs.Ready.{Ready};
+ghost use Rattle.marks.specs.Marks.{markedOf};
+ghost use Rattle.legs.specs.Ready.{Ready};
 ghost use Rattle.cycle.specs.Booking.{CanCredit, CanDebit, Covered};
-use netting::marks;
-use netting::marks::Marks;
+use marks::Marks;
 use rulebook::Item;
 
 // What a trade brings: shares to the buyer's account, cash to the seller.

@@ -4,9 +4,8 @@ ghost use lib.ListN.{length};
 ghost use Rattle.rulebook.specs.Cycle.{withoutMark};
 ghost use Rattle.book.specs.Meaning.{waitingOf};
 ghost use Rattle.book.specs.Stored.{Stored, WaitingBecomes};
-ghost use Rattle.netting.specs.Marks.{markedOf};
-use netting::marks;
-use netting::marks::Marks;
+ghost use Rattle.marks.specs.Marks.{markedOf};
+use marks::Marks;
 
 // The items without a mark stay, in their order.
 pub fn leave_marked(book: &mut [u64], marks: Marks)

@@ -12,10 +12,9 @@ ghost use Rattle.rulebook.specs.declared.Order.{Order};
 ghost use Rattle.book.specs.Meaning.{ledgerOf};
 ghost use Rattle.book.specs.Stored.{Stored, Kept, Becomes};
 ghost use Rattle.book.specs.Handled.{Handled};
-ghost use Rattle.netting.specs.Marks.{isOn, countOn};
+ghost use Rattle.marks.specs.Marks.{isOn, countOn};
 ghost use Rattle.cycle.specs.Counting.{countsOf};
 use netting::Selection;
-use netting::marks;
 use rulebook::Counts;
 
 // A cycle adds 1 to cycles run.

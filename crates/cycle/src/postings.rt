@@ -4,10 +4,9 @@ ghost use Prim.Native.Nat.{_≤_};
 ghost use lib.ListN.{length};
 ghost use Rattle.book.specs.Meaning.{ledgerOf, waitingOf};
 ghost use Rattle.book.specs.Stored.{Stored};
-ghost use Rattle.netting.specs.Marks.{markedOf, withRows};
-ghost use Rattle.netting.specs.Ready.{Ready};
-use netting::marks;
-use netting::marks::Marks;
+ghost use Rattle.marks.specs.Marks.{markedOf, withRows};
+ghost use Rattle.legs.specs.Ready.{Ready};
+use marks::Marks;
 
 // Each marked trade's four rows go into the area behind those before it.
 pub fn write_marked(area: &mut [u8], book: &[u64], marks: Marks)

@@ -1,86 +1,16 @@
--- A search from the end, the drop of a round, and the rounds. Assumes nothing.
-use Prim.Native.Nat.{ℕ, zero, suc, _-_, _≤_, _<_, zero-le, suc-le-suc}
+-- The drop of a round, and the rounds. Assumes nothing.
+use Prim.Native.Nat.{ℕ, zero, suc, _<_, zero-le, suc-le-suc}
 use native.Mathlib.Nat.{le-of-suc-le-suc, not-suc-le-zero}
-use native.Mathlib.Omega.{arith}
 use mathlib.Core.Bool.{Bool, true, false, or-true, _&&_}
 use mathlib.Core.List.{List, [], _∷_}
-use mathlib.Core.Path.{_≡_, refl, sym, subst, _∙_}
-use borrow.Author.Tests.{ltb-true, ltb-false}
-use lib.Dec.{ltb}
+use mathlib.Core.Path.{_≡_, refl}
 use lib.ListN.{length, getD, set}
 use Rattle.rulebook.specs.Lists.{some}
 use Rattle.rulebook.specs.Ledger.{Holdings}
 use Rattle.rulebook.specs.Cycle.{Marked, debitsShort, anyShort, dropLast, rounds}
 use Rattle.rulebook.specs.declared.Item.{Item}
-use Rattle.words.specs.declared.Found.the-variants.{At, Nothing}
-use Rattle.netting.specs.Figures.{lastBelow}
-use Rattle.netting.specs.Marks.{noItem}
-
--- ---- a search from the end
-
-module _ (p : ℕ → Bool) where
-  pub last-here : (i : ℕ) → 0 < i → p (i - 1) ≡ true → lastBelow p i ≡ At (i - 1)
-  unfolding lastBelow
-  last-here zero h e = absurd (omega arith)
-  last-here (suc i) h e =
-      let z : suc i - 1 ≡ i = omega arith in
-      let t : p i ≡ true = subst (λ (x : ℕ). p x ≡ true) z e in
-      rw (t, z)
-
-  pub last-before : (i : ℕ) → 0 < i → p (i - 1) ≡ false → lastBelow p i ≡ lastBelow p (i - 1)
-  unfolding lastBelow
-  last-before zero h e = absurd (omega arith)
-  last-before (suc i) h e =
-      let z : suc i - 1 ≡ i = omega arith in
-      let t : p i ≡ false = subst (λ (x : ℕ). p x ≡ false) z e in
-      rw (t, z)
-
-  pub last-nowhere : (i : ℕ) → i ≡ 0 → lastBelow p i ≡ Nothing
-  unfolding lastBelow
-  last-nowhere zero e = refl
-  last-nowhere (suc i) e = absurd (omega arith)
-
-  pub record Last (n j : ℕ) : Type 0 where
-    pub inside : j < n
-    pub passed : p j ≡ true
-    pub behind : (k : ℕ) → j < k → k < n → p k ≡ false
-
-  -- what holds below n, and of n, holds below n + 1
-  upto : (q : ℕ → Type 0) (n k : ℕ) → (k < n → q k) → q n → k < suc n → q k
-  upto q n k f e h = go (ltb k n) refl
-    where
-      go : (b : Bool) → ltb k n ≡ b → q k
-      go true t = f (ltb-true k n t)
-      go false t = let s : n ≤ k = ltb-false k n t in subst q (omega arith) e
-
-  pub last-at : (n j : ℕ) → lastBelow p n ≡ At j → Last n j
-  unfolding lastBelow
-  last-at zero j e = let z : _≡_ {A = ℕ} 0 1 = cc in absurd (omega arith)
-  last-at (suc n) j e = go (p n) refl (λ f. last-at n j f)
-    where
-      go : (b : Bool) → p n ≡ b → (lastBelow p n ≡ At j → Last n j) → Last (suc n) j
-      go true t ih =
-          let f : At n ≡ At j = rw t at e in
-          let s : n ≡ j = cc in
-          record { inside = omega arith; passed = subst (λ (x : ℕ). p x ≡ true) s t; behind = λ k l h. absurd (omega arith) }
-      go false t ih =
-          let r = ih (rw t at e) in
-          record { inside = omega (arith, r .inside); passed = r .passed; behind = λ k l h. upto (λ x. p x ≡ false) n k (λ g. r .behind k l g) t h }
-
-  pub last-none : (n : ℕ) → lastBelow p n ≡ Nothing → (k : ℕ) → k < n → p k ≡ false
-  unfolding lastBelow
-  last-none zero e k h = absurd (not-suc-le-zero h)
-  last-none (suc n) e k h = go (p n) refl (λ f. last-none n f)
-    where
-      go : (b : Bool) → p n ≡ b → (lastBelow p n ≡ Nothing → (k : ℕ) → k < n → p k ≡ false) → p k ≡ false
-      go true t ih =
-          let f : At n ≡ Nothing = rw t at e in
-          let z : _≡_ {A = ℕ} 0 1 = cc in
-          absurd (omega arith)
-      go false t ih = upto (λ x. p x ≡ false) n k (λ g. ih (rw t at e) k g) t h
-
-pub last-same : (p q : ℕ → Bool) (n j : ℕ) → ((k : ℕ) → k < n → p k ≡ q k) → Last p n j → Last q n j
-last-same p q n j e l = record { inside = l .inside; passed = sym (e j (l .inside)) ∙ l .passed; behind = λ k g h. sym (e k h) ∙ l .behind k g h }
+use Rattle.marks.specs.Marks.{noItem}
+use Rattle.legs.proofs.Searches.{Last}
 
 -- ---- the drop
 

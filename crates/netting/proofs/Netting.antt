@@ -11,8 +11,8 @@ use Rattle.rulebook.specs.Cycle.{over}
 use Rattle.rulebook.specs.declared.Item.{Item}
 use Rattle.rulebook.proofs.Held.{sum-same}
 use Rattle.words.proofs.Sums.{sum-least}
-use Rattle.netting.specs.Figures.{hasAt, owesAt, brings, takes, bringsAll, takesAll, Figures, Cover, RoomAll}
-use Rattle.netting.proofs.Marking.{marking, over-sum, over-more}
+use Rattle.legs.specs.Figures.{hasAt, owesAt, brings, takes, bringsAll, takesAll, Figures, Cover, RoomAll}
+use Rattle.marks.proofs.Marking.{marking, over-sum, over-more}
 
 -- a sum of numbers below 2^40
 pub sum-most : (n : ℕ) (f : ℕ → ℕ) → ((k : ℕ) → k < n → f k < 2 ^ 40) → sumBelow n f ≤ n * 1_099_511_627_776

@@ -1,5 +1,5 @@
 -- The rounds as code runs them: the marks, and beside them the figures of every item. Assumes nothing.
-use Prim.Native.Nat.{ℕ, zero, suc, _+_, _-_, _^_, _≤_, _<_}
+use Prim.Native.Nat.{ℕ, suc, _+_, _-_, _^_, _≤_, _<_}
 use native.Mathlib.Omega.{arith}
 use mathlib.Core.Bool.{Bool, true, false, not, _&&_, _||_, false≢true}
 use mathlib.Core.List.{List}
@@ -9,7 +9,7 @@ use borrow.Author.Tests.{eq-eqb, ne-eqb, eqb-true, eqb-false, ltb-true, ltb-fals
 use lib.Dec.{ltb}
 use lib.ListN.{length, getD, set}
 use Rattle.rulebook.specs.Lists.{if_then_else_, _is_, _isNot_, _below_}
-use Rattle.rulebook.specs.Ledger.{Ledger, sameAccount, sumBelow}
+use Rattle.rulebook.specs.Ledger.{Ledger, sameAccount}
 use Rattle.rulebook.specs.Premise.{CashFits}
 use Rattle.rulebook.specs.Cycle.{Marked, seller, buyer, over, anyShort, dropLast, rounds}
 use Rattle.rulebook.specs.Cycle.{bringsShares, takesShares, bringsCash, takesCash, sharesBrought, sharesTaken, cashBrought, cashTaken}
@@ -21,15 +21,16 @@ use Rattle.words.proofs.Sums.{sum-change}
 use Rattle.rulebook.proofs.Lists.{both}
 use Rattle.book.specs.Keys.{keyOf}
 use Rattle.book.proofs.Keys.{key-test, key-once}
-use Rattle.netting.specs.Marks.{itemIn, isOn, markedOf, countOn}
-use Rattle.netting.specs.Figures.{fromAt, toAt, hasAt, owesAt, brings, takes, bringsAll, takesAll, Figures, Cover, RoomAll, shortAt, lastShort, cashKey}
-use Rattle.netting.specs.Filled.{ShareLegs, ShareStart, CashLegs, CashStart, payerOf}
-use Rattle.netting.specs.Slots.{Slots, viewed}
-use Rattle.netting.specs.Ready.{Ready}
-use Rattle.netting.proofs.Slotted.{has-viewed, owes-viewed, viewed-long, slot-leg, slot-own}
-use Rattle.netting.proofs.Marking.{marking}
+use Rattle.marks.specs.Marks.{itemIn, isOn, markedOf, countOn}
+use Rattle.legs.specs.Figures.{fromAt, toAt, hasAt, owesAt, brings, takes, bringsAll, takesAll, Figures, Cover, RoomAll, shortAt, lastShort, cashKey}
+use Rattle.legs.specs.Filled.{ShareLegs, ShareStart, CashLegs, CashStart, payerOf}
+use Rattle.legs.specs.Slots.{Slots, viewed}
+use Rattle.legs.specs.Ready.{Ready}
+use Rattle.legs.proofs.Searches.{Last, last-at, last-none, last-same}
+use Rattle.legs.proofs.Slotted.{has-viewed, owes-viewed, viewed-long, slot-leg, slot-own}
+use Rattle.marks.proofs.Marking.{marking, count-most}
 use Rattle.netting.proofs.Netting.{Are, Small, Lined, lined-room, lined-start, lined-cover, lined-less}
-use Rattle.netting.proofs.Drops.{Last, last-at, last-none, last-same, noMark, at, none-at, some-at, drop-at, rounds-stop, rounds-step}
+use Rattle.netting.proofs.Drops.{noMark, at, none-at, some-at, drop-at, rounds-stop, rounds-step}
 
 -- ---- keys tell members' cash apart
 
@@ -52,15 +53,6 @@ missing-test has owes = go (has below owes) refl
 if-most : (t : Bool) (q : ℕ) → q < 2 ^ 40 → (if t then q else 0) < 2 ^ 40
 if-most true q l = l
 if-most false q l = omega arith
-
-pub count-most : (on : ℕ → Bool) (n : ℕ) → countOn on n ≤ n
-unfolding sumBelow
-count-most on zero = omega arith
-count-most on (suc n) = omega (arith, one (on n), count-most on n)
-  where
-    one : (x : Bool) → (if x then 1 else 0) ≤ 1
-    one true = omega arith
-    one false = omega arith
 
 -- what was not short stays so where a leg is taken away, but for what that leg credits
 still :

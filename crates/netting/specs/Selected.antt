@@ -4,7 +4,7 @@ use mathlib.Core.Path.{_≡_}
 use lib.ListN.{length}
 use Rattle.rulebook.specs.Ledger.{Ledger}
 use Rattle.rulebook.specs.Cycle.{taken, rounds, settling}
-use Rattle.netting.specs.Marks.{isOn, markedOf, countOn}
+use Rattle.marks.specs.Marks.{isOn, markedOf, countOn}
 
 -- the marks are those of the trades whose day has come
 abbrev pub Taken : Ledger → (due : ℕ) → Type 0

@@ -6,8 +6,7 @@ ghost use Rattle.rulebook.specs.Cycle.{due};
 ghost use Rattle.book.specs.Meaning.{ledgerOf};
 ghost use Rattle.book.specs.Stored.{Stored};
 ghost use Rattle.netting.specs.Selected.{Taken};
-use crate::marks;
-use crate::marks::Marks;
+use marks::Marks;
 use rulebook::Item;
 use rulebook::State;
 

@@ -1,14 +1,10 @@
 // Which of the trades that a cycle takes settle: what each account and each member's cash has with what the trades bring, against what they take.
 mod due;
-mod figures;
-mod legs;
-pub mod marks;
 mod rounds;
-mod slots;
 
 ghost use Rattle.book.specs.Meaning.{ledgerOf};
 ghost use Rattle.book.specs.Stored.{Stored};
-ghost use Rattle.netting.specs.Ready.{Ready};
+ghost use Rattle.legs.specs.Ready.{Ready};
 ghost use Rattle.netting.specs.Selected.{Selected};
 use marks::Marks;
 

@@ -2,13 +2,10 @@
 ghost use Prim.Native.Nat.{_≤_};
 ghost use Rattle.book.specs.Meaning.{ledgerOf};
 ghost use Rattle.book.specs.Stored.{Stored};
-ghost use Rattle.netting.specs.Ready.{Ready};
+ghost use Rattle.legs.specs.Ready.{Ready};
 ghost use Rattle.netting.specs.Selected.{Netted};
-use crate::figures;
-use crate::legs;
-use crate::marks;
-use crate::marks::Marks;
-use crate::slots;
+use legs::figures;
+use marks::Marks;
 use words::Found;
 
 // Below which place the next short one is looked for: the one that was dropped stands there, or what it credited is debited last.

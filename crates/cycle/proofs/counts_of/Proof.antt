@@ -3,8 +3,8 @@ use Prim.Native.Nat.{_≤_}
 use native.Mathlib.Omega.{arith}
 use borrow.Author.Needs.{needs}
 use Rattle.rulebook.specs.Forms.{counts}
-use Rattle.netting.specs.Marks.{isOn}
-use Rattle.netting.proofs.Running.{count-most}
+use Rattle.marks.specs.Marks.{isOn}
+use Rattle.marks.proofs.Marking.{count-most}
 use Rattle.cycle.proofs.counts_of.Statement.{statement}
 use Rattle.cycle.proofs.counts_of.Tie as tie
 

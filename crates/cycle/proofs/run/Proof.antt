@@ -9,8 +9,8 @@ use Rattle.rulebook.specs.Ledger.{Ledger}
 use Rattle.rulebook.specs.declared.Day.{Day}
 use Rattle.rulebook.specs.declared.Item.{Item}
 use Rattle.book.specs.Meaning.{ledgerOf}
-use Rattle.netting.specs.Marks.{isOn, countOn}
-use Rattle.netting.specs.Ready.{Ready}
+use Rattle.marks.specs.Marks.{isOn, countOn}
+use Rattle.legs.specs.Ready.{Ready}
 use Rattle.cycle.proofs.Premises.{premise-ready, premise-cycles}
 use Rattle.cycle.proofs.Walking.{waiting-now}
 use Rattle.cycle.proofs.Whole.{none-short, same-day, handled}

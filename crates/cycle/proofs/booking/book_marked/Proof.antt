@@ -6,7 +6,7 @@ use Rattle.rulebook.specs.Movements.{debits, booked}
 use Rattle.rulebook.specs.Cycle.{withMark, legs}
 use Rattle.book.specs.Meaning.{ledgerOf}
 use Rattle.book.proofs.Laws.{next}
-use Rattle.netting.specs.Marks.{markedOf}
+use Rattle.marks.specs.Marks.{markedOf}
 use Rattle.cycle.specs.Booking.{Covered}
 use Rattle.cycle.proofs.Walking.{covered}
 use Rattle.cycle.proofs.booking.book_marked.Statement.{statement}

@@ -9,7 +9,7 @@ use lib.ListN.{length}
 use Rattle.rulebook.specs.Ledger.{Ledger}
 use Rattle.rulebook.specs.declared.Item.{Item}
 use Rattle.book.specs.Meaning.{ledgerOf}
-use Rattle.netting.specs.Marks.{noItem}
+use Rattle.marks.specs.Marks.{noItem}
 use Rattle.cycle.proofs.Walking.{Credited, waiting-now, credit-fits, credit-start, credit-off, credit-on, credit-done}
 use Rattle.cycle.proofs.booking.credit_marked.Statement.{statement}
 use Rattle.cycle.proofs.booking.credit_marked.Tie as tie

@@ -8,7 +8,7 @@ use borrow.Author.Tests.{not-true, not-false}
 use lib.ListN.{length}
 use Rattle.rulebook.specs.Ledger.{Ledger}
 use Rattle.book.specs.Meaning.{ledgerOf}
-use Rattle.netting.specs.Marks.{noItem}
+use Rattle.marks.specs.Marks.{noItem}
 use Rattle.cycle.proofs.Staying.{Staying, staying-none, staying-off, staying-on, staying-done}
 use Rattle.cycle.proofs.leaving.leave_marked.Statement.{statement}
 use Rattle.cycle.proofs.leaving.leave_marked.Tie as tie

@@ -11,7 +11,7 @@ use lib.Seq.{length-take-le}
 use Rattle.rulebook.specs.Ledger.{Ledger}
 use Rattle.rows.specs.Widths.{TradeInRange}
 use Rattle.book.specs.Meaning.{ledgerOf}
-use Rattle.netting.specs.Marks.{noItem}
+use Rattle.marks.specs.Marks.{noItem}
 use Rattle.cycle.proofs.Writing.{trade-fits, Written, written-none, written-fits, written-long, written-off, written-on, written-done}
 use Rattle.cycle.proofs.postings.write_marked.Statement.{statement}
 use Rattle.cycle.proofs.postings.write_marked.Tie as tie

@@ -10,9 +10,9 @@ use Rattle.rulebook.specs.Cycle.{due}
 use Rattle.rulebook.specs.declared.Day.{Day}
 use Rattle.rulebook.specs.declared.Item.{Item}
 use Rattle.book.specs.Meaning.{ledgerOf}
-use Rattle.netting.specs.Marks.{noItem, itemIn, isOn}
-use Rattle.netting.proofs.Masks.{none-on}
-use Rattle.netting.proofs.Marking.{DueBelow, due-not, due-one, taken-marked}
+use Rattle.marks.specs.Marks.{noItem, itemIn, isOn}
+use Rattle.marks.proofs.Masks.{none-on}
+use Rattle.netting.proofs.Taken.{DueBelow, due-not, due-one, taken-marked}
 use Rattle.netting.proofs.due.due_marks.Statement.{statement}
 use Rattle.netting.proofs.due.due_marks.Tie as tie
 

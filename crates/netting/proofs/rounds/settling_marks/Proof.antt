@@ -10,13 +10,14 @@ use lib.ListN.{length}
 use Rattle.rulebook.specs.Ledger.{Ledger}
 use Rattle.book.specs.Meaning.{ledgerOf}
 use Rattle.words.specs.declared.Found.the-variants.{At}
-use Rattle.netting.specs.Marks.{isOn, countOn}
-use Rattle.netting.specs.Figures.{shortAt, lastBelow, lastShort}
-use Rattle.netting.specs.Slots.{Slots, Low, viewed, WithMarked, WithoutLeg}
-use Rattle.netting.specs.Ready.{Ready}
-use Rattle.netting.proofs.Slotted.{slots-low}
-use Rattle.netting.proofs.Links.{last-cut}
-use Rattle.netting.proofs.Running.{Running, share-room, cash-room, share-viewed, cash-viewed, starts, stops, inside, share-cover, cash-cover, fewer, behind-still, runs-on}
+use Rattle.marks.specs.Marks.{isOn, countOn}
+use Rattle.legs.specs.Figures.{shortAt, lastBelow, lastShort}
+use Rattle.legs.specs.Slots.{Slots, Low, viewed, WithMarked, WithoutLeg}
+use Rattle.legs.specs.Ready.{Ready}
+use Rattle.legs.proofs.Searches.{last-cut}
+use Rattle.legs.proofs.Slotted.{slots-low}
+use Rattle.netting.proofs.Running.{Running, share-room, cash-room, share-viewed, cash-viewed}
+use Rattle.netting.proofs.Running.{starts, stops, inside, share-cover, cash-cover, fewer, behind-still, runs-on}
 use Rattle.netting.proofs.rounds.settling_marks.Statement.{statement}
 use Rattle.netting.proofs.rounds.settling_marks.Tie as tie
 

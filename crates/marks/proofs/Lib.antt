@@ -1,0 +1,3 @@
+-- A mask's bits, and the waiting list with its marks.
+pub mod Masks
+pub mod Marking

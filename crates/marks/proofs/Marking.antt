@@ -1,0 +1,78 @@
+-- The waiting list with its marks, by places: sums over it, and how many are marked. Assumes nothing.
+use Prim.Native.Nat.{ℕ, zero, suc, _+_, _≤_, _<_}
+use native.Mathlib.Omega.{arith}
+use mathlib.Core.Bool.{Bool, true, false}
+use mathlib.Core.List.{List, [], _∷_}
+use mathlib.Core.Logic.{_≢_}
+use mathlib.Core.Path.{_≡_, refl, ap, _∙_}
+use lib.ListN.{length, length-map}
+use lib.Seq.{ext-getD}
+use Rattle.rulebook.specs.Lists.{if_then_else_, total, keep}
+use Rattle.rulebook.specs.Ledger.{sumBelow}
+use Rattle.rulebook.specs.Cycle.{Marked, over, withMark}
+use Rattle.rulebook.specs.declared.Item.{Item}
+use Rattle.words.specs.Places.{listFrom}
+use Rattle.words.proofs.Places.{from-same, from-total, from-get, length-from}
+use Rattle.words.proofs.Sums.{sum-change}
+use Rattle.marks.specs.Marks.{noItem, itemIn, countOn}
+
+-- n items with their marks
+abbrev pub marking : (ℕ → Bool) → (ℕ → Item) → ℕ → List Marked
+marking on item n = listFrom (λ k. (on k, item k)) 0 n
+
+-- a list by its places
+pub listed : (waiting : List Item) → listFrom (itemIn waiting) 0 (length waiting) ≡ waiting
+listed waiting =
+    ext-getD noItem (listFrom (itemIn waiting) 0 (length waiting)) waiting (length-from (itemIn waiting) 0 (length waiting))
+    (λ k l.
+    let h : k < length waiting = rw (length-from (itemIn waiting) 0 (length waiting)) at l in
+    let z : 0 + k ≡ k = omega arith in
+    from-get (itemIn waiting) 0 (length waiting) k noItem h ∙ ap (itemIn waiting) z)
+
+module _ (item : ℕ → Item) (n : ℕ) where
+  pub marking-same : (on off : ℕ → Bool) → ((k : ℕ) → k < n → on k ≡ off k) → marking on item n ≡ marking off item n
+  marking-same on off e =
+      from-same (λ k. (off k, item k)) (λ k. (on k, item k)) 0 0 n
+      (λ k l. let z : 0 + k ≡ k = omega arith in rw z (ap (λ (b : Bool). (b, item k)) (e k l)))
+
+  pub over-sum : (f : Item → ℕ) (on : ℕ → Bool) → over f (marking on item n) ≡ sumBelow n (λ k. if on k then f (item k) else 0)
+  unfolding over
+  over-sum f on = from-total (λ (m : Marked). if m .0 then f (m .1) else 0) (λ k. (on k, item k)) n
+
+  -- a mark more
+  pub over-more :
+      (f : Item → ℕ) (on more : ℕ → Bool) (j : ℕ) → j < n → on j ≡ false → more j ≡ true → ((k : ℕ) → k < n → k ≢ j → more k ≡ on k)
+      → over f (marking more item n) ≡ over f (marking on item n) + f (item j)
+  over-more f on more j l off now e =
+      let s =
+      sum-change n j (λ k. if on k then f (item k) else 0) (λ k. if more k then f (item k) else 0) l
+      (λ k h d. ap (λ (b : Bool). if b then f (item k) else 0) (e k h d))
+      in
+      let t = rw (off, now) at s in
+      omega (arith, over-sum f on, over-sum f more, t)
+
+length-kept : (ms : List Marked) → length (keep (λ m. m .0) ms) ≡ total (λ (m : Marked). if m .0 then 1 else 0) ms
+length-kept [] = refl
+length-kept (m ∷ rest) = go (m .0) refl (length-kept rest)
+  where
+    go :
+        (b : Bool) → m .0 ≡ b → length (keep (λ m. m .0) rest) ≡ total (λ (m : Marked). if m .0 then 1 else 0) rest
+        → length (keep (λ m. m .0) (m ∷ rest)) ≡ total (λ (m : Marked). if m .0 then 1 else 0) (m ∷ rest)
+    go true e ih = rw e (omega arith)
+    go false e ih = rw e (omega arith)
+
+pub count-marked : (item : ℕ → Item) (n : ℕ) (on : ℕ → Bool) → length (withMark (marking on item n)) ≡ countOn on n
+unfolding withMark
+count-marked item n on =
+    length-map (keep (λ m. m .0) (marking on item n)) (λ m. m .1)
+    ∙ length-kept (marking on item n)
+    ∙ from-total (λ (m : Marked). if m .0 then 1 else 0) (λ k. (on k, item k)) n
+
+pub count-most : (on : ℕ → Bool) (n : ℕ) → countOn on n ≤ n
+unfolding sumBelow
+count-most on zero = omega arith
+count-most on (suc n) = omega (arith, one (on n), count-most on n)
+  where
+    one : (x : Bool) → (if x then 1 else 0) ≤ 1
+    one true = omega arith
+    one false = omega arith

@@ -1,0 +1,2 @@
+-- Marks on the items of a waiting list.
+pub mod Marks

@@ -1,0 +1,2 @@
+-- How slots are found.
+pub mod Links
