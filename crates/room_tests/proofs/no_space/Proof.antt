@@ -84,7 +84,7 @@ balance-requires-3 c κs =
     (s .pre .0 .stored, subst AccountInRange (sym (c .account-of3 .ensures)) (debited-named _ (s .pre .1)))
 
 is-full-requires-2 : tie.Need-is-full-requires-2
-is-full-requires-2 c κs = start (transfers (c .before .before .before .before .before .before .before)) .pre .0
+is-full-requires-2 c κs = let from = c .before .before .before in start (transfers (from .before .before .before .before)) .pre .0
 
 returns-4 : tie.Need-returns-4
 returns-4 c =
