@@ -13,7 +13,7 @@ use lib.Pow.{pow-pos, pow-add, shr-shr, shl-shr, shr-lt, shl-lt, high, low, spli
 use lib.Arith.{digits-lt, lt-one}
 use Rattle.bits.specs.Bits.{Octets, number, bytes, leading, field, put, wholeBytes, Inside}
 use Rattle.bits.specs.Layout.{pack, cut, total, Fit, Spans, puts}
-use Rattle.bits.proofs.Laws.{target, number-snoc, number-lt, leading-take, length-bytes, bytes-number}
+use Rattle.bits.proofs.Numbers.{target, number-snoc, number-lt, leading-take, length-bytes, bytes-number}
 
 -- ---- lists of bytes
 

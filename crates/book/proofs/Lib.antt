@@ -1,5 +1,5 @@
 -- The laws of a book's parts.
-pub mod Laws
+pub mod Parts
 pub mod Zeros
 pub mod Admission
 pub mod Keys

@@ -1,2 +1,2 @@
 -- The laws of the cash words.
-pub mod Laws
+pub mod StoredCash

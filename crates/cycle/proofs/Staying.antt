@@ -13,7 +13,7 @@ use Rattle.rulebook.specs.declared.Item.{Item}
 use Rattle.words.specs.Places.{listFrom}
 use Rattle.book.specs.Meaning.{ledgerOf}
 use Rattle.book.specs.Stored.{Stored, Means}
-use Rattle.book.proofs.Laws.{next}
+use Rattle.book.proofs.Parts.{next}
 use Rattle.marks.specs.Marks.{noItem, itemIn, isOn, markedOf}
 use Rattle.marks.proofs.Marking.{marking}
 use Rattle.cycle.proofs.Posting.{ifMarked, without-next}

@@ -17,7 +17,7 @@ use Rattle.rulebook.proofs.Sizes.{credits-accounts, legs-opened}
 use Rattle.words.proofs.Sums.{sum-last, sum-grows}
 use Rattle.book.specs.Meaning.{ledgerOf}
 use Rattle.book.specs.Stored.{Stored, Means, HoldingsBecome}
-use Rattle.book.proofs.Laws.{next}
+use Rattle.book.proofs.Parts.{next}
 use Rattle.marks.specs.Marks.{itemIn, isOn, markedOf}
 use Rattle.legs.specs.Ready.{Bookable, Ready}
 use Rattle.cycle.specs.Booking.{CanCredit, CanDebit, Covered}

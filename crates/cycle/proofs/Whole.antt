@@ -22,7 +22,7 @@ use Rattle.rulebook.proofs.RowCounts.{posting-length, legs-length}
 use Rattle.book.specs.Meaning.{ledgerOf}
 use Rattle.book.specs.Stored.{Means}
 use Rattle.book.specs.Handled.{Handled}
-use Rattle.book.proofs.Laws.{next}
+use Rattle.book.proofs.Parts.{next}
 use Rattle.marks.specs.Marks.{itemIn, isOn, markedOf, countOn, withRows}
 use Rattle.netting.specs.Selected.{Selected}
 use Rattle.marks.proofs.Marking.{count-marked}

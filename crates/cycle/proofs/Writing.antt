@@ -17,7 +17,7 @@ use Rattle.words.specs.Places.{listFrom}
 use Rattle.words.proofs.Sums.{sum-last}
 use Rattle.rows.specs.Widths.{TradeInRange}
 use Rattle.rows.proofs.RowBytes.{rows-append}
-use Rattle.rows.proofs.Laws.{behind, movement-rows, trade-rows}
+use Rattle.rows.proofs.Area.{behind, movement-rows, trade-rows}
 use Rattle.marks.specs.Marks.{itemIn, isOn, markedOf, countOn, rowsOf}
 use Rattle.legs.specs.Ready.{Bookable}
 use Rattle.marks.proofs.Marking.{count-marked, count-most}

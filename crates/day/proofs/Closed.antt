@@ -19,11 +19,11 @@ use Rattle.rulebook.specs.declared.Item.{Item}
 use Rattle.rulebook.specs.declared.Order.{Order}
 use Rattle.rulebook.proofs.ByIndex.{item-at}
 use Rattle.rows.specs.Widths.{NoticeFits}
-use Rattle.rows.proofs.Laws.{behind}
+use Rattle.rows.proofs.Area.{behind}
 use Rattle.book.specs.Meaning.{ledgerOf}
 use Rattle.book.specs.Stored.{Kept, Means}
 use Rattle.book.specs.Handled.{Handled}
-use Rattle.book.proofs.Laws.{next}
+use Rattle.book.proofs.Parts.{next}
 use Rattle.day.specs.Closing.{kept, notices, closeCounts, countedOne, CanCount, itemsClosed}
 use Rattle.rows.proofs.Notices.{notice-fits}
 use Rattle.rows.proofs.RowBytes.{rows-length, rows-append}

@@ -23,7 +23,7 @@ use Rattle.words.specs.declared.Found.the-variants.{At, Nothing}
 use Rattle.book.specs.Meaning.{ledgerOf}
 use Rattle.book.specs.Stored.{Means}
 use Rattle.book.specs.Handled.{Handled}
-use Rattle.book.proofs.Laws.{next}
+use Rattle.book.proofs.Parts.{next}
 use Rattle.book.proofs.Handled.{silent-handled, means-so}
 use Rattle.search.specs.Place.{placeFrom, placeIn}
 use Rattle.search.proofs.Found.{found-some}

@@ -22,7 +22,7 @@ use Rattle.accounts.specs.Map.{CreditFits}
 use Rattle.parties.specs.Counted.{outsideAccount}
 use Rattle.rows.specs.Widths as rows
 use Rattle.book.specs.Meaning.{ledgerOf}
-use Rattle.book.proofs.Laws.{stored-counted}
+use Rattle.book.proofs.Parts.{stored-counted}
 use Rattle.checking.specs.Given.{Given}
 use Rattle.checking.proofs.Passed.{known}
 use Rattle.checking.proofs.Orders.{fits, ranges, debited-named, credited-named, some-quantity}

@@ -16,7 +16,7 @@ use Rattle.parties.specs.Counted.{outsideAccount}
 use Rattle.book.specs.Meaning.{ledgerOf}
 use Rattle.book.specs.Stored.{Means, HoldingsBecome, withSecurity}
 use Rattle.book.specs.Handled.{Handled}
-use Rattle.book.proofs.Laws.{next}
+use Rattle.book.proofs.Parts.{next}
 use Rattle.book.proofs.Handled.{means-so}
 use Rattle.book.proofs.Admission.{admitted-outside}
 

@@ -1,4 +1,3 @@
-pub mod Laws
+pub mod Area
 pub mod RowBytes
-pub mod P2
 pub mod Notices

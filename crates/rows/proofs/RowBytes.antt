@@ -4,9 +4,9 @@ use native.Mathlib.Omega.{arith}
 use mathlib.Core.List.{List, [], _∷_, _++_, append-assoc}
 use mathlib.Core.Path.{_≡_, refl, ap, sym, _∙_}
 use lib.ListN.{length, length-append}
-use Rattle.bits.proofs.Laws.{length-bytes}
+use Rattle.bits.proofs.Numbers.{length-bytes}
 use Rattle.rulebook.specs.Rows.{Row, posting, notice, noticeBytes, rowBytes, rowsBytes}
-use Rattle.rows.proofs.Laws.{posting-length}
+use Rattle.rows.proofs.Area.{posting-length}
 
 row-length : (row : Row) → length (rowBytes row) ≡ 16
 unfolding rowBytes noticeBytes

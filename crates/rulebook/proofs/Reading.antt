@@ -10,7 +10,7 @@ use lib.ListN.{length}
 use lib.Seq.{take-at, drop-at}
 use Rattle.rulebook.specs.Lists.{if_then_else_, _is_, _oneOf_, total}
 use Rattle.bits.specs.Layout.{pack, cut, Fit}
-use Rattle.bits.proofs.Laws.{length-bytes}
+use Rattle.bits.proofs.Numbers.{length-bytes}
 use Rattle.bits.proofs.Packing.{values-back}
 use Rattle.rulebook.specs.Ledger.{sameAccount}
 use Rattle.rulebook.specs.Movements.{Place, account, type91, type90, cashOf, member0, Movement}

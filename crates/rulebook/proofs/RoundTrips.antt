@@ -10,7 +10,7 @@ use lib.ListN.{length, getD, take, drop}
 use lib.Seq.{take-all}
 use Rattle.bits.specs.Bits.{Octets, bytes}
 use Rattle.bits.specs.Layout.{pack, Fit}
-use Rattle.bits.proofs.Laws.{length-bytes}
+use Rattle.bits.proofs.Numbers.{length-bytes}
 use Rattle.bits.proofs.Packing.{values-back, bytes-back, take-bytes, pack-high}
 use Rattle.rulebook.specs.declared.Order.{Order}
 use Rattle.rulebook.specs.declared.Read.{Read}

@@ -7,7 +7,7 @@ use native.Mathlib.Omega.{arith}
 use borrow.Author.Tests.{eqb-true}
 use lib.ListN.{length, take, drop}
 use lib.Seq.{take-at, take-append-le}
-use Rattle.bits.proofs.Laws.{length-bytes}
+use Rattle.bits.proofs.Numbers.{length-bytes}
 use Rattle.bits.specs.Bits.{bytes}
 use Rattle.rulebook.specs.Lists.{if_then_else_, _is_, some}
 use Rattle.rulebook.specs.Ledger.{Holdings}

@@ -1,2 +1,2 @@
 -- The laws of the securities' words.
-pub mod Laws
+pub mod StoredSecurities

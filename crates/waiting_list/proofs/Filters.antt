@@ -15,7 +15,7 @@ use Rattle.rulebook.specs.declared.State.{State}
 use Rattle.rulebook.specs.declared.State.the-variants.{Single, Pair, Trade}
 use Rattle.words.specs.Tables.{rows}
 use Rattle.waiting_list.specs.Waiting.{stateOf, itemOf, rowAt, itemAt, itemsOf}
-use Rattle.waiting_list.proofs.Laws.{item-there}
+use Rattle.waiting_list.proofs.StoredItems.{item-there}
 
 -- a word of row i
 pub word-of : (w : List ℕ) (i j : ℕ) → j < 16 → getD (rowAt w i) j 0 ≡ getD w (i * 16 + 1 + j) 0

@@ -1,3 +1,3 @@
 -- The laws of the waiting list's words.
-pub mod Laws
+pub mod StoredItems
 pub mod Filters

@@ -3,7 +3,7 @@ use Prim.Native.Nat.{ℕ, _+_, _-_, _*_, _/_, _^_, _≤_}
 use native.Mathlib.Omega.{arith}
 use mir.Facts.{fits-mask}
 use Rattle.bits.specs.Bits.{wholeBytes}
-use Rattle.bits.proofs.Laws.{Filled, target, word, put-none, put-more, put-all}
+use Rattle.bits.proofs.Numbers.{Filled, target, word, put-none, put-more, put-all}
 use Rattle.bits.proofs.put_bits.Statement.{statement}
 use Rattle.bits.proofs.put_bits.Tie as tie
 

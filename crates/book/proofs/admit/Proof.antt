@@ -5,9 +5,9 @@ use native.Mathlib.Omega.{arith}
 use borrow.Author.Needs.{needs}
 use Rattle.rulebook.specs.Ledger.{putSecurities, admitted}
 use Rattle.rulebook.specs.declared.Security.{Security}
-use Rattle.securities.proofs.Laws.{how-many}
+use Rattle.securities.proofs.StoredSecurities.{how-many}
 use Rattle.book.specs.Meaning.{SECURITIES, part, holdingsOf}
-use Rattle.book.proofs.Laws.{securities-step}
+use Rattle.book.proofs.Parts.{securities-step}
 use Rattle.book.proofs.admit.Statement.{statement}
 use Rattle.book.proofs.admit.Tie as tie
 

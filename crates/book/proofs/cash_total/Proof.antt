@@ -4,7 +4,7 @@ use borrow.Author.Needs.{needs}
 use Rattle.rulebook.specs.Ledger.{cashTotal}
 use Rattle.cash.specs.Amounts.{totalIn}
 use Rattle.book.specs.Meaning.{CASH, holdingsOf}
-use Rattle.book.proofs.Laws.{part-long}
+use Rattle.book.proofs.Parts.{part-long}
 use Rattle.book.proofs.cash_total.Statement.{statement}
 use Rattle.book.proofs.cash_total.Tie as tie
 

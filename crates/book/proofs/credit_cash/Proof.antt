@@ -3,7 +3,7 @@ use mathlib.Core.Path.{_∙_}
 use native.Mathlib.Omega.{arith}
 use borrow.Author.Needs.{needs}
 use Rattle.book.specs.Meaning.{CASH, holdingsOf}
-use Rattle.book.proofs.Laws.{part-long, cash-step}
+use Rattle.book.proofs.Parts.{part-long, cash-step}
 use Rattle.book.proofs.credit_cash.Statement.{statement}
 use Rattle.book.proofs.credit_cash.Tie as tie
 

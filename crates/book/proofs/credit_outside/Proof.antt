@@ -2,7 +2,7 @@
 use borrow.Author.Needs.{needs}
 use Rattle.rulebook.specs.Ledger.{outsideOf}
 use Rattle.book.specs.Meaning.{holdingsOf}
-use Rattle.book.proofs.Laws.{securities-step}
+use Rattle.book.proofs.Parts.{securities-step}
 use Rattle.book.proofs.credit_outside.Statement.{statement}
 use Rattle.book.proofs.credit_outside.Tie as tie
 

@@ -1,7 +1,7 @@
 -- `book::debit` meets its contract. Assumes nothing.
 use borrow.Author.Needs.{needs}
 use Rattle.book.specs.Meaning.{holdingsOf}
-use Rattle.book.proofs.Laws.{accounts-step}
+use Rattle.book.proofs.Parts.{accounts-step}
 use Rattle.book.proofs.debit.Statement.{statement}
 use Rattle.book.proofs.debit.Tie as tie
 

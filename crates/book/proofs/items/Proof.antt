@@ -1,7 +1,7 @@
 -- `book::items` meets its contract. Assumes nothing.
 use mathlib.Core.Path.{sym, _∙_}
 use borrow.Author.Needs.{needs}
-use Rattle.waiting_list.proofs.Laws.{how-many}
+use Rattle.waiting_list.proofs.StoredItems.{how-many}
 use Rattle.book.specs.Meaning.{ITEMS, part, waitingOf}
 use Rattle.book.proofs.items.Statement.{statement}
 use Rattle.book.proofs.items.Tie as tie

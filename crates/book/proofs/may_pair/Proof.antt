@@ -1,7 +1,7 @@
 -- `book::may_pair` meets its contract. Assumes nothing.
 use native.Mathlib.Omega.{arith}
 use borrow.Author.Needs.{needs}
-use Rattle.waiting_list.proofs.Laws.{how-many}
+use Rattle.waiting_list.proofs.StoredItems.{how-many}
 use Rattle.book.specs.Meaning.{ITEMS, part, waitingOf}
 use Rattle.book.proofs.may_pair.Statement.{statement}
 use Rattle.book.proofs.may_pair.Tie as tie

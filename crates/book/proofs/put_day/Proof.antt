@@ -3,7 +3,7 @@ use mathlib.Core.Path.{_∙_}
 use native.Mathlib.Omega.{arith}
 use borrow.Author.Needs.{needs}
 use Rattle.book.specs.Meaning.{DAY}
-use Rattle.book.proofs.Laws.{part-long, day-step}
+use Rattle.book.proofs.Parts.{part-long, day-step}
 use Rattle.book.proofs.put_day.Statement.{statement}
 use Rattle.book.proofs.put_day.Tie as tie
 

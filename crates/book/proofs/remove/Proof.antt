@@ -1,9 +1,9 @@
 -- `book::remove` meets its contract. Assumes nothing.
 use native.Mathlib.Omega.{arith}
 use borrow.Author.Needs.{needs}
-use Rattle.waiting_list.proofs.Laws.{how-many}
+use Rattle.waiting_list.proofs.StoredItems.{how-many}
 use Rattle.book.specs.Meaning.{ITEMS, part, waitingOf}
-use Rattle.book.proofs.Laws.{items-step}
+use Rattle.book.proofs.Parts.{items-step}
 use Rattle.book.proofs.remove.Statement.{statement}
 use Rattle.book.proofs.remove.Tie as tie
 

@@ -1,7 +1,7 @@
 -- `book::securities` meets its contract. Assumes nothing.
 use mathlib.Core.Path.{sym, _∙_}
 use borrow.Author.Needs.{needs}
-use Rattle.securities.proofs.Laws.{how-many}
+use Rattle.securities.proofs.StoredSecurities.{how-many}
 use Rattle.book.specs.Meaning.{SECURITIES, part, holdingsOf}
 use Rattle.book.proofs.securities.Statement.{statement}
 use Rattle.book.proofs.securities.Tie as tie

@@ -1,7 +1,7 @@
 -- `book::security_at` meets its contract. Assumes nothing.
 use native.Mathlib.Omega.{arith}
 use borrow.Author.Needs.{needs}
-use Rattle.securities.proofs.Laws.{how-many}
+use Rattle.securities.proofs.StoredSecurities.{how-many}
 use Rattle.book.specs.Meaning.{SECURITIES, part, holdingsOf}
 use Rattle.book.proofs.security_at.Statement.{statement}
 use Rattle.book.proofs.security_at.Tie as tie

@@ -1,6 +1,6 @@
 -- `cash::amount` meets its contract. Assumes nothing.
 use borrow.Author.Needs.{needs}
-use Rattle.cash.proofs.Laws.{amount-at}
+use Rattle.cash.proofs.StoredCash.{amount-at}
 use Rattle.cash.proofs.amount.Statement.{statement}
 use Rattle.cash.proofs.amount.Tie as tie
 

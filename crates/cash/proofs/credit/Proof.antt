@@ -1,7 +1,7 @@
 -- `cash::credit` meets its contract. Assumes nothing.
 use borrow.Author.Needs.{needs}
 use native.Mathlib.Omega.{arith}
-use Rattle.cash.proofs.Laws.{amount-at, credited}
+use Rattle.cash.proofs.StoredCash.{amount-at, credited}
 use Rattle.cash.proofs.credit.Statement.{statement}
 use Rattle.cash.proofs.credit.Tie as tie
 

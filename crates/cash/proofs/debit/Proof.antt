@@ -1,7 +1,7 @@
 -- `cash::debit` meets its contract. Assumes nothing.
 use borrow.Author.Needs.{needs}
 use native.Mathlib.Omega.{arith}
-use Rattle.cash.proofs.Laws.{amount-at, debited}
+use Rattle.cash.proofs.StoredCash.{amount-at, debited}
 use Rattle.cash.proofs.debit.Statement.{statement}
 use Rattle.cash.proofs.debit.Tie as tie
 

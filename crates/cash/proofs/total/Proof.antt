@@ -5,7 +5,7 @@ use borrow.Author.Needs.{needs}
 use native.Mathlib.Omega.{arith}
 use Rattle.rulebook.specs.Ledger.{sumBelow}
 use Rattle.cash.specs.Amounts.{amountOf, totalIn}
-use Rattle.cash.proofs.Laws.{total-none, total-more, total-fits}
+use Rattle.cash.proofs.StoredCash.{total-none, total-more, total-fits}
 use Rattle.cash.proofs.total.Statement.{statement}
 use Rattle.cash.proofs.total.Tie as tie
 

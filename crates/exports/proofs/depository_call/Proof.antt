@@ -1,6 +1,6 @@
 -- `exports::depository_call` meets its contract. Assumes nothing.
 use borrow.Author.Needs.{needs}
-use Rattle.exports.proofs.Laws.{call-wrong-book, call-wrong-counts, call-accepted, call-refused}
+use Rattle.exports.proofs.Answers.{call-wrong-book, call-wrong-counts, call-accepted, call-refused}
 use Rattle.exports.proofs.depository_call.Statement.{statement}
 use Rattle.exports.proofs.depository_call.Tie as tie
 

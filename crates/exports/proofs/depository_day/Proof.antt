@@ -4,7 +4,7 @@ use borrow.Author.Needs.{needs}
 use lib.ListN.{length}
 use Rattle.book.specs.Meaning.{bookLength}
 use Rattle.figures.specs.Figures.{dayFigures}
-use Rattle.exports.proofs.Laws.{lengths-right, tells-wrong, tells}
+use Rattle.exports.proofs.Answers.{lengths-right, tells-wrong, tells}
 use Rattle.exports.proofs.depository_day.Statement.{statement}
 use Rattle.exports.proofs.depository_day.Tie as tie
 

@@ -1,6 +1,6 @@
 -- `exports::depository_fresh` meets its contract. Assumes nothing.
 use borrow.Author.Needs.{needs}
-use Rattle.exports.proofs.Laws.{fresh-made, fresh-wrong}
+use Rattle.exports.proofs.Answers.{fresh-made, fresh-wrong}
 use Rattle.exports.proofs.depository_fresh.Statement.{statement}
 use Rattle.exports.proofs.depository_fresh.Tie as tie
 

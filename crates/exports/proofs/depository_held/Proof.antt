@@ -4,7 +4,7 @@ use native.Mathlib.Omega.{arith}
 use borrow.Author.Needs.{needs}
 use lib.ListN.{length}
 use Rattle.book.specs.Meaning.{bookLength}
-use Rattle.exports.proofs.Laws.{one-word, lengths-right, tells-wrong, tells}
+use Rattle.exports.proofs.Answers.{one-word, lengths-right, tells-wrong, tells}
 use Rattle.exports.proofs.depository_held.Statement.{statement}
 use Rattle.exports.proofs.depository_held.Tie as tie
 

@@ -6,7 +6,7 @@ use borrow.Author.Needs.{needs}
 use lib.ListN.{length}
 use Rattle.book.specs.Meaning.{bookLength, ledgerOf}
 use Rattle.figures.specs.Figures.{itemFigures}
-use Rattle.exports.proofs.Laws.{lengths-right, tells-at-wrong, tells-none, tells-at}
+use Rattle.exports.proofs.Answers.{lengths-right, tells-at-wrong, tells-none, tells-at}
 use Rattle.exports.proofs.depository_item.Statement.{statement}
 use Rattle.exports.proofs.depository_item.Tie as tie
 

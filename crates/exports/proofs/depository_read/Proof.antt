@@ -1,6 +1,6 @@
 -- `exports::depository_read` meets its contract. Assumes nothing.
 use borrow.Author.Needs.{needs}
-use Rattle.exports.proofs.Laws.{read-wrong, read-order, read-refused}
+use Rattle.exports.proofs.Answers.{read-wrong, read-order, read-refused}
 use Rattle.exports.proofs.depository_read.Statement.{statement}
 use Rattle.exports.proofs.depository_read.Tie as tie
 

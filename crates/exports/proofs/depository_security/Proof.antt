@@ -9,7 +9,7 @@ use Rattle.rulebook.specs.Ledger.{held}
 use Rattle.rulebook.specs.declared.Security.{Security}
 use Rattle.book.specs.Meaning.{bookLength, holdingsOf}
 use Rattle.figures.specs.Figures.{securityWith, securityFigures}
-use Rattle.exports.proofs.Laws.{lengths-right, tells-at-wrong, tells-none, tells-at}
+use Rattle.exports.proofs.Answers.{lengths-right, tells-at-wrong, tells-none, tells-at}
 use Rattle.exports.proofs.depository_security.Statement.{statement}
 use Rattle.exports.proofs.depository_security.Tie as tie
 

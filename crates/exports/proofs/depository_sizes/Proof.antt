@@ -6,7 +6,7 @@ use borrow.Author.Needs.{needs}
 use lib.ListN.{length}
 use Rattle.book.specs.Meaning.{bookLength}
 use Rattle.words.proofs.Places.{whole}
-use Rattle.exports.proofs.Laws.{lengths-right, tells-wrong, tells}
+use Rattle.exports.proofs.Answers.{lengths-right, tells-wrong, tells}
 use Rattle.exports.proofs.depository_sizes.Statement.{statement}
 use Rattle.exports.proofs.depository_sizes.Tie as tie
 

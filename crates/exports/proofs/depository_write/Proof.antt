@@ -2,7 +2,7 @@
 use mathlib.Core.Path.{ap}
 use borrow.Author.Needs.{needs}
 use Rattle.rulebook.specs.Record.{writtenNumber}
-use Rattle.exports.proofs.Laws.{write-wrong, write-answered}
+use Rattle.exports.proofs.Answers.{write-wrong, write-answered}
 use Rattle.exports.proofs.depository_write.Statement.{statement}
 use Rattle.exports.proofs.depository_write.Tie as tie
 

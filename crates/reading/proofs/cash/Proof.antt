@@ -2,7 +2,7 @@
 use mathlib.Core.Path.{sym, _∙_}
 use borrow.Author.Needs.{needs}
 use Rattle.cash.specs.Amounts.{amountOf}
-use Rattle.cash.proofs.Laws.{fits-kept}
+use Rattle.cash.proofs.StoredCash.{fits-kept}
 use Rattle.book.specs.Meaning.{holdingsOf}
 use Rattle.reading.proofs.cash.Statement.{statement}
 use Rattle.reading.proofs.cash.Tie as tie

@@ -4,7 +4,7 @@ use native.Mathlib.Omega.{arith}
 use borrow.Author.Needs.{needs}
 use Rattle.rulebook.specs.Movements.{cashOf, move}
 use Rattle.rows.specs.Widths.{PostingFits}
-use Rattle.rows.proofs.Laws.{cash-fits, movement-written}
+use Rattle.rows.proofs.Area.{cash-fits, movement-written}
 use Rattle.rows.proofs.write_cash.Statement.{statement}
 use Rattle.rows.proofs.write_cash.Tie as tie
 

@@ -2,7 +2,7 @@
 use native.Mathlib.Omega.{arith}
 use borrow.Author.Needs.{needs}
 use Rattle.rulebook.specs.Rows.{postingBytes}
-use Rattle.rows.proofs.Laws.{posting-length, behind}
+use Rattle.rows.proofs.Area.{posting-length, behind}
 use Rattle.rows.proofs.write_movement.Statement.{statement}
 use Rattle.rows.proofs.write_movement.Tie as tie
 

@@ -4,7 +4,7 @@ use borrow.Author.Needs.{needs}
 use Rattle.bits.proofs.Packing.{put-front}
 use Rattle.rulebook.specs.Rows.{noticeWidths}
 use Rattle.rows.specs.Widths.{NoticeFits}
-use Rattle.rows.proofs.Laws.{notice-written}
+use Rattle.rows.proofs.Area.{notice-written}
 use Rattle.rows.proofs.write_notice.Statement.{statement}
 use Rattle.rows.proofs.write_notice.Tie as tie
 

@@ -4,7 +4,7 @@ use native.Mathlib.Omega.{arith}
 use borrow.Author.Needs.{needs}
 use Rattle.rulebook.specs.Movements.{account, move}
 use Rattle.rows.specs.Widths.{PostingFits}
-use Rattle.rows.proofs.Laws.{account-fits, movement-written}
+use Rattle.rows.proofs.Area.{account-fits, movement-written}
 use Rattle.rows.proofs.write_shares.Statement.{statement}
 use Rattle.rows.proofs.write_shares.Tie as tie
 

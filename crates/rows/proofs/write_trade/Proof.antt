@@ -12,7 +12,7 @@ use Rattle.rulebook.specs.Rows.{postingRows, rowsBytes}
 use Rattle.rulebook.specs.declared.Account.{Account}
 use Rattle.rulebook.specs.declared.Item.{Item}
 use Rattle.rulebook.specs.Ranges.{AccountInRange}
-use Rattle.rows.proofs.Laws.{behind, movement-rows, trade-rows}
+use Rattle.rows.proofs.Area.{behind, movement-rows, trade-rows}
 use Rattle.rows.proofs.write_trade.Statement.{statement}
 use Rattle.rows.proofs.write_trade.Tie as tie
 

@@ -2,7 +2,7 @@
 use borrow.Author.Needs.{needs}
 use native.Mathlib.Omega.{arith}
 use lib.ListN.{length-set}
-use Rattle.securities.proofs.Laws.{admits}
+use Rattle.securities.proofs.StoredSecurities.{admits}
 use Rattle.securities.proofs.admit.Statement.{statement}
 use Rattle.securities.proofs.admit.Tie as tie
 

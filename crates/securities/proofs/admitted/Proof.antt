@@ -2,7 +2,7 @@
 use mathlib.Core.Path.{sym, ap, _∙_}
 use borrow.Author.Needs.{needs}
 use Rattle.words.specs.Places.{isFound}
-use Rattle.securities.proofs.Laws.{admitted-found}
+use Rattle.securities.proofs.StoredSecurities.{admitted-found}
 use Rattle.securities.proofs.admitted.Statement.{statement}
 use Rattle.securities.proofs.admitted.Tie as tie
 

@@ -7,7 +7,7 @@ use Rattle.rulebook.specs.Ledger.{fresh}
 use Rattle.words.specs.Tables.{rows, placeOf}
 use Rattle.words.specs.declared.Found.the-variants.{At}
 use Rattle.words.proofs.Tables.{place-at}
-use Rattle.securities.proofs.Laws.{outside-here, credited, credited-nowhere}
+use Rattle.securities.proofs.StoredSecurities.{outside-here, credited, credited-nowhere}
 use Rattle.securities.proofs.credit_outside.Statement.{statement}
 use Rattle.securities.proofs.credit_outside.Tie as tie
 

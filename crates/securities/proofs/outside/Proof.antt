@@ -1,7 +1,7 @@
 -- `securities::outside` meets its contract. Assumes nothing.
 use mathlib.Core.Path.{_∙_}
 use borrow.Author.Needs.{needs}
-use Rattle.securities.proofs.Laws.{outside-value}
+use Rattle.securities.proofs.StoredSecurities.{outside-value}
 use Rattle.securities.proofs.outside.Statement.{statement}
 use Rattle.securities.proofs.outside.Tie as tie
 

@@ -1,6 +1,6 @@
 -- `securities::security_at` meets its contract. Assumes nothing.
 use borrow.Author.Needs.{needs}
-use Rattle.securities.proofs.Laws.{security-there}
+use Rattle.securities.proofs.StoredSecurities.{security-there}
 use Rattle.securities.proofs.security_at.Statement.{statement}
 use Rattle.securities.proofs.security_at.Tie as tie
 

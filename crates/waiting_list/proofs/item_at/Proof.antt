@@ -5,7 +5,7 @@ use borrow.Author.Needs.{needs}
 use native.Mathlib.Omega.{arith}
 use lib.ListN.{take, drop}
 use Rattle.waiting_list.specs.Waiting.{itemOf}
-use Rattle.waiting_list.proofs.Laws.{item-there}
+use Rattle.waiting_list.proofs.StoredItems.{item-there}
 use Rattle.waiting_list.proofs.item_at.Statement.{statement}
 use Rattle.waiting_list.proofs.item_at.Tie as tie
 

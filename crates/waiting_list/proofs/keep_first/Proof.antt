@@ -1,6 +1,6 @@
 -- `waiting_list::keep_first` meets its contract. Assumes nothing.
 use borrow.Author.Needs.{needs}
-use Rattle.waiting_list.proofs.Laws.{cut-down}
+use Rattle.waiting_list.proofs.StoredItems.{cut-down}
 use Rattle.waiting_list.proofs.keep_first.Statement.{statement}
 use Rattle.waiting_list.proofs.keep_first.Tie as tie
 

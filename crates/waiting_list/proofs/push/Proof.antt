@@ -6,7 +6,7 @@ use borrow.Author.Needs.{needs}
 use lib.ListN.{set}
 use Rattle.words.specs.Tables.{rows}
 use Rattle.waiting_list.specs.Waiting.{Sized, itemsOf}
-use Rattle.waiting_list.proofs.Laws.{pushed}
+use Rattle.waiting_list.proofs.StoredItems.{pushed}
 use Rattle.waiting_list.proofs.push.Statement.{statement}
 use Rattle.waiting_list.proofs.push.Tie as tie
 

@@ -5,7 +5,7 @@ use Prim.Native.Nat.{ℕ}
 use borrow.Author.Needs.{needs}
 use lib.ListN.{set}
 use Rattle.waiting_list.specs.Waiting.{Sized, itemsOf}
-use Rattle.waiting_list.proofs.Laws.{put-in}
+use Rattle.waiting_list.proofs.StoredItems.{put-in}
 use Rattle.waiting_list.proofs.put_item.Statement.{statement}
 use Rattle.waiting_list.proofs.put_item.Tie as tie
 

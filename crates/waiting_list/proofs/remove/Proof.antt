@@ -7,7 +7,7 @@ use lib.ListN.{set}
 use Rattle.words.specs.Places.{removeAt}
 use Rattle.words.specs.Tables.{rows}
 use Rattle.waiting_list.specs.Waiting.{Sized, itemsOf}
-use Rattle.waiting_list.proofs.Laws.{removed}
+use Rattle.waiting_list.proofs.StoredItems.{removed}
 use Rattle.waiting_list.proofs.remove.Statement.{statement}
 use Rattle.waiting_list.proofs.remove.Tie as tie
 

@@ -5,7 +5,7 @@ use Rattle.rulebook.specs.Ledger.{Ledger, putHoldings}
 use Rattle.rulebook.specs.Movements.{debits, booked}
 use Rattle.rulebook.specs.Cycle.{withMark, legs}
 use Rattle.book.specs.Meaning.{ledgerOf}
-use Rattle.book.proofs.Laws.{next}
+use Rattle.book.proofs.Parts.{next}
 use Rattle.marks.specs.Marks.{markedOf}
 use Rattle.cycle.specs.Booking.{Covered}
 use Rattle.cycle.proofs.Walking.{covered}

@@ -5,7 +5,7 @@ use mathlib.Core.List.{List, [], _∷_, _++_, append-assoc, append-nil}
 use native.Mathlib.Omega.{arith}
 use lib.ListN.{length, drop, length-append}
 use borrow.Rule.Slice.PartMut.{midOf, putMid}
-use Rattle.bits.proofs.Laws.{length-bytes}
+use Rattle.bits.proofs.Numbers.{length-bytes}
 use Rattle.bits.proofs.Parts.{part-next}
 use Rattle.rulebook.specs.Movements.{Movement, account, cashOf, move}
 use Rattle.bits.specs.Bits.{bytes}
