@@ -6,8 +6,9 @@ use mathlib.Core.Bool.{Bool, true, false}
 use mathlib.Core.List.{List, []}
 use mathlib.Core.Path.{_≡_, refl, sym, ap, _∙_, fun-ext, subst}
 use borrow.Author.Tests.{eqb-true, eqb-false, eq-eqb, ne-eqb, ltb-true}
-use Rattle.rulebook.specs.Lists.{if_then_else_, _is_, _below_}
-use Rattle.rulebook.specs.Ledger.{Holdings, fresh, counted, putBalance, sameAccount, sumBelow, held}
+use Rattle.plain.specs.Lists.{if_then_else_, _is_, _below_, sumBelow}
+use Rattle.plain.proofs.Sums.{sum-none, sum-suc, sum-last, sum-least, sum-grows}
+use Rattle.rulebook.specs.Ledger.{Holdings, fresh, counted, putBalance, sameAccount, held}
 use Rattle.rulebook.specs.Premise.{accountCount}
 use Rattle.rulebook.specs.declared.Account.{Account}
 use Rattle.rulebook.proofs.Held.{held-put, held-put-other, accounts-put}
@@ -15,7 +16,6 @@ use Rattle.rulebook.proofs.Sums.{none-held}
 use Rattle.rulebook.proofs.EveryCall.{fresh-premise}
 use Rattle.rulebook.specs.Ranges.{AccountInRange}
 use Rattle.words.specs.Tables.{rows, keyAt, sumOf, valueOf}
-use Rattle.words.proofs.Sums.{sum-none, sum-suc, sum-last, sum-least, sum-grows}
 use Rattle.words.proofs.Tables.{key-once}
 use Rattle.accounts.specs.Keys.{keyOf, securityOf, inRange}
 use Rattle.accounts.specs.Map.{balanceAt, balanceOf, withAccounts, Kept}

@@ -4,11 +4,11 @@ use native.Mathlib.Omega.{arith}
 use mathlib.Core.Bool.{Bool, true, false, _&&_}
 use mathlib.Core.Path.{_≡_, refl, sym, ap, _∙_}
 use borrow.Author.Tests.{lt-ltb, ltb-true, eqb-true, eqb-false}
-use Rattle.rulebook.specs.Lists.{_is_, _below_}
+use Rattle.plain.specs.Lists.{_is_, _below_}
+use Rattle.plain.proofs.Tests.{both}
 use Rattle.rulebook.specs.Ledger.{sameAccount}
 use Rattle.rulebook.specs.declared.Account.{Account}
 use Rattle.rulebook.proofs.Held.{same-self}
-use Rattle.rulebook.proofs.Lists.{both}
 use Rattle.rulebook.specs.Ranges.{AccountInRange}
 use Rattle.accounts.specs.Keys.{keyOf, inRange}
 

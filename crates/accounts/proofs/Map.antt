@@ -7,8 +7,9 @@ use mathlib.Core.Logic.{_≢_}
 use mathlib.Core.Path.{_≡_, refl, sym, ap, _∙_, fun-ext}
 use lib.ListN.{set}
 use borrow.Author.Tests.{eq-eqb, ne-eqb, eqb-true, lt-ltb}
-use Rattle.rulebook.specs.Lists.{if_then_else_, _is_, _below_}
-use Rattle.rulebook.specs.Ledger.{Holdings, counted, putBalance, sameAccount, sumBelow}
+use Rattle.plain.specs.Lists.{if_then_else_, _is_, _below_, sumBelow}
+use Rattle.plain.proofs.Sums.{sum-none, sum-one}
+use Rattle.rulebook.specs.Ledger.{Holdings, counted, putBalance, sameAccount}
 use Rattle.rulebook.specs.Movements.{credit, debit}
 use Rattle.rulebook.specs.Movements.{account as place}
 use Rattle.rulebook.specs.declared.Account.{Account}
@@ -16,7 +17,6 @@ use Rattle.rulebook.specs.Ranges.{AccountInRange}
 use Rattle.words.specs.Tables.{rows, keyAt, placeOf, sumOf, valueOf}
 use Rattle.words.specs.declared.Found.{Found}
 use Rattle.words.specs.declared.Found.the-variants.{At, Nothing}
-use Rattle.words.proofs.Sums.{sum-none, sum-one}
 use Rattle.words.proofs.Tables.{place-at, place-none, value-none}
 use Rattle.accounts.specs.Keys.{keyOf, inRange}
 use Rattle.accounts.specs.Map.{BALANCES, balanceAt, opened, removed, balanceOf, withAccounts, Kept}

@@ -9,12 +9,11 @@ use mathlib.Core.Path.{_≡_, refl, sym, ap, _∙_}
 use lib.ListN.{length, set, length-set}
 use lib.Seq.{getD-set-same, getD-set-other}
 use borrow.Author.Tests.{ne-eqb, eqb-false}
-use Rattle.rulebook.specs.Lists.{if_then_else_, _is_}
-use Rattle.rulebook.specs.Ledger.{counted, sumBelow}
+use Rattle.plain.specs.Lists.{if_then_else_, _is_, sumBelow}
+use Rattle.plain.proofs.Sums.{sum-same, sum-change, sum-last, sum-moved, sum-least}
+use Rattle.rulebook.specs.Ledger.{counted}
 use Rattle.words.specs.Tables.{rows, keyAt, placeOf, sumOf, valueOf}
 use Rattle.words.specs.declared.Found.the-variants.{At, Nothing}
-use Rattle.rulebook.proofs.Held.{sum-same}
-use Rattle.words.proofs.Sums.{sum-change, sum-last, sum-moved, sum-least}
 use Rattle.words.proofs.Tables.{place-at, value-at, value-none}
 use Rattle.accounts.specs.Map.{BALANCES, balanceAt, opened, removed, Kept}
 

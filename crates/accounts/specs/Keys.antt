@@ -1,7 +1,7 @@
 -- An account as one number: security, member, type and shareholder, as in a posting row.
 use Prim.Native.Nat.{ℕ, _+_, _*_, _/_, _^_}
 use mathlib.Core.Bool.{Bool, _&&_}
-use Rattle.rulebook.specs.Lists.{_below_}
+use Rattle.plain.specs.Lists.{_below_}
 use Rattle.rulebook.specs.declared.Account.{Account}
 
 abbrev pub keyOf : Account → ℕ

@@ -3,7 +3,7 @@ use Prim.Native.Nat.{ℕ, _+_, _-_, _^_, _≤_, _<_}
 use mathlib.Core.List.{List}
 use mathlib.Core.Path.{_≡_}
 use lib.ListN.{length, getD, set}
-use Rattle.rulebook.specs.Lists.{if_then_else_, _is_, _below_}
+use Rattle.plain.specs.Lists.{if_then_else_, _is_, _below_}
 use Rattle.rulebook.specs.Ledger.{Holdings}
 use Rattle.rulebook.specs.declared.Account.{Account}
 use Rattle.rulebook.specs.Ranges.{AccountInRange}

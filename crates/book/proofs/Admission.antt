@@ -5,7 +5,7 @@ use mathlib.Core.Bool.{Bool, true, false, true≢false}
 use mathlib.Core.List.{List, [], _∷_, _++_, map}
 use mathlib.Core.Path.{_≡_, refl, ap, _∙_}
 use borrow.Author.Tests.{eq-eqb}
-use Rattle.rulebook.specs.Lists.{if_then_else_, _is_, some, total}
+use Rattle.plain.specs.Lists.{if_then_else_, _is_, some, total}
 use Rattle.rulebook.specs.Ledger.{Holdings, admitted, outsideOf, putOutside, putSecurities}
 use Rattle.rulebook.specs.Movements.{credit, type91}
 use Rattle.rulebook.specs.declared.Security.{Security}

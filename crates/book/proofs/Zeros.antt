@@ -7,8 +7,8 @@ use mathlib.Core.List.{List, [], _∷_, _++_}
 use mathlib.Core.Path.{_≡_, refl, ap, _∙_, fun-ext}
 use lib.ListN.{length, getD, set, take, replicate, replicate-append-replicate}
 use lib.Seq.{take-suc-set}
-use Rattle.rulebook.specs.Lists.{if_then_else_}
-use Rattle.rulebook.specs.Ledger.{fresh, sumBelow}
+use Rattle.plain.specs.Lists.{if_then_else_, sumBelow}
+use Rattle.rulebook.specs.Ledger.{fresh}
 use Rattle.rulebook.specs.declared.Account.{Account}
 use Rattle.rulebook.proofs.EveryCall.{fresh-premise}
 use Rattle.words.specs.Places.{listFrom}

@@ -4,7 +4,7 @@ use mathlib.Core.Bool.{Bool, true, false}
 use mathlib.Core.List.{List}
 use mathlib.Core.Path.{_≡_}
 use lib.ListN.{length}
-use Rattle.rulebook.specs.Lists.{_is_}
+use Rattle.plain.specs.Lists.{_is_}
 use Rattle.rulebook.specs.Ledger.{fresh}
 use Rattle.book.specs.Meaning.{bookLength, ledgerOf}
 use Rattle.book.specs.Stored.{Kept}

@@ -7,12 +7,12 @@ use mathlib.Core.Path.{_≡_, refl, sym, ap, _∙_, fun-ext}
 use lib.ListN.{length, getD, set}
 use lib.Seq.{getD-set-same, getD-set-other}
 use borrow.Author.Tests.{le-leb, leb-true, eqb-true, eqb-false}
-use Rattle.rulebook.specs.Lists.{if_then_else_, _is_, _atMost_, within}
-use Rattle.rulebook.specs.Ledger.{Holdings, putCash, sumBelow}
+use Rattle.plain.specs.Lists.{if_then_else_, _is_, _atMost_, within, sumBelow}
+use Rattle.plain.proofs.Tests.{both}
+use Rattle.plain.proofs.Sums.{sum-last, sum-grows}
+use Rattle.rulebook.specs.Ledger.{Holdings, putCash}
 use Rattle.rulebook.specs.Movements.{credit, debit, cashOf}
 use Rattle.rulebook.specs.Premise.{CashFits}
-use Rattle.rulebook.proofs.Lists.{both}
-use Rattle.words.proofs.Sums.{sum-last, sum-grows}
 use Rattle.cash.specs.Amounts.{place, kept, amountOf, totalIn, withCash}
 
 pub kept-fits : (member currency : ℕ) → CashFits member currency → kept member currency ≡ true

@@ -3,8 +3,8 @@ use Prim.Native.Nat.{ℕ, _+_, _-_, _*_}
 use mathlib.Core.Bool.{Bool, _&&_}
 use mathlib.Core.List.{List}
 use lib.ListN.{getD}
-use Rattle.rulebook.specs.Lists.{if_then_else_, within}
-use Rattle.rulebook.specs.Ledger.{Holdings, sumBelow}
+use Rattle.plain.specs.Lists.{if_then_else_, within, sumBelow}
+use Rattle.rulebook.specs.Ledger.{Holdings}
 
 -- where a member's cash in a currency stands
 abbrev pub place : (member currency : ℕ) → ℕ

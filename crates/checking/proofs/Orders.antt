@@ -4,7 +4,7 @@ use mathlib.Core.Path.{_≡_, refl}
 use mathlib.Core.Bool.{Bool, true, not, _&&_}
 use mathlib.Core.List.{_++_}
 use borrow.Author.Tests.{le-leb, not-false}
-use Rattle.rulebook.specs.Lists.{_is_, _atMost_, within, some}
+use Rattle.plain.specs.Lists.{_is_, _atMost_, within, some}
 use Rattle.rulebook.specs.Ledger.{accountOf}
 use Rattle.rulebook.specs.Premise.{CashFits}
 use Rattle.rulebook.specs.Field as Field

@@ -3,7 +3,7 @@ use Prim.Native.Nat.{ℕ, _≤_}
 use mathlib.Core.List.{List}
 use mathlib.Core.Path.{_≡_}
 use lib.ListN.{length}
-use Rattle.rulebook.specs.Lists.{first}
+use Rattle.plain.specs.Lists.{first}
 use Rattle.rulebook.specs.Record.{readOf}
 use Rattle.rulebook.specs.Refusals.{refusals}
 use Rattle.rulebook.specs.declared.Order.{Order}

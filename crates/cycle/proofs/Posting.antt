@@ -6,12 +6,13 @@ use mathlib.Core.Bool.{Bool, true, false, not}
 use mathlib.Core.List.{List, [], _∷_, _++_, map}
 use mathlib.Core.Path.{_≡_, refl, ap, _∙_}
 use borrow.Author.Tests.{eq-eqb}
-use Rattle.rulebook.specs.Lists.{if_then_else_, keep}
-use Rattle.rulebook.specs.Ledger.{Holdings, sameAccount, sumBelow}
+use Rattle.plain.specs.Lists.{if_then_else_, keep, sumBelow}
+use Rattle.rulebook.specs.Ledger.{Holdings}
 use Rattle.rulebook.specs.Movements.{account, cashOf, Movement, credit, debit, credits, debits}
 use Rattle.rulebook.specs.Cycle.{Marked, seller, buyer, bringsShares, takesShares, bringsCash, takesCash, withMark, withoutMark, legs}
 use Rattle.rulebook.specs.declared.Account.{Account}
 use Rattle.rulebook.specs.declared.Item.{Item}
+use Rattle.rulebook.proofs.Held.{same-self}
 use Rattle.rulebook.proofs.Places.{credit-balance, debit-balance, credit-cash, debit-cash}
 use Rattle.words.specs.Places.{listFrom}
 use Rattle.words.proofs.Places.{from-push}
@@ -122,10 +123,6 @@ module _ (t : Item) (h : Holdings) where
   debit-one-cash false m c = omega arith
 
 -- a trade's own account and cash get what it brings, and lose what it takes
-
-same-self : (a : Account) → sameAccount a a ≡ true
-unfolding sameAccount
-same-self a = simp (eq-eqb a.security a.security refl, eq-eqb a.member a.member refl, eq-eqb a.typ a.typ refl, eq-eqb a.shareholder a.shareholder refl)
 
 pub own-taken : (t : Item) → takesShares (seller t) t ≡ t.quantity.0
 unfolding takesShares

@@ -4,7 +4,7 @@ use native.Mathlib.Omega.{arith}
 use mathlib.Core.Bool.{Bool, true, false}
 use mathlib.Core.List.{[], _∷_}
 use lib.ListN.{length}
-use Rattle.rulebook.specs.Lists.{if_then_else_, _is_}
+use Rattle.plain.specs.Lists.{if_then_else_, _is_}
 use Rattle.rulebook.specs.Cycle.{seller, buyer}
 use Rattle.rulebook.specs.Ledger.{Ledger, accountOf}
 use Rattle.rulebook.specs.Premise.{ItemFits, today, Premise}

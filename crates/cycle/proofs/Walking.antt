@@ -5,8 +5,9 @@ use mathlib.Core.Bool.{Bool, true, false, _&&_}
 use mathlib.Core.List.{List, [], _∷_}
 use mathlib.Core.Path.{_≡_, refl, sym, ap, subst, _∙_}
 use lib.ListN.{length}
-use Rattle.rulebook.specs.Lists.{if_then_else_, _is_}
-use Rattle.rulebook.specs.Ledger.{Ledger, Holdings, sameAccount, putHoldings, sumBelow}
+use Rattle.plain.specs.Lists.{if_then_else_, _is_, sumBelow}
+use Rattle.plain.proofs.Sums.{sum-last, sum-grows}
+use Rattle.rulebook.specs.Ledger.{Ledger, Holdings, sameAccount, putHoldings}
 use Rattle.rulebook.specs.Movements.{Movement, credits, debits}
 use Rattle.rulebook.specs.Cycle.{seller, buyer, over, bringsShares, takesShares, bringsCash, takesCash}
 use Rattle.rulebook.specs.Cycle.{sharesBrought, sharesTaken, cashBrought, cashTaken, anyShort, withMark, legs}
@@ -14,7 +15,6 @@ use Rattle.rulebook.specs.declared.Account.{Account}
 use Rattle.rulebook.specs.declared.Item.{Item}
 use Rattle.rulebook.proofs.Rounds.{enough-shares, enough-cash}
 use Rattle.rulebook.proofs.Sizes.{credits-accounts, legs-opened}
-use Rattle.words.proofs.Sums.{sum-last, sum-grows}
 use Rattle.book.specs.Meaning.{ledgerOf}
 use Rattle.book.specs.Stored.{Stored, Means, HoldingsBecome}
 use Rattle.book.proofs.Parts.{next}

@@ -11,7 +11,7 @@ use Rattle.rulebook.specs.Rows.{postingRows}
 use Rattle.rulebook.specs.Waiting.{isTrade, sidesOf, sides}
 use Rattle.rulebook.specs.Cycle.{Marked, taken, anyShort, settling, withMark, withoutMark, settled, notSettled, dropped, legs}
 use Rattle.rulebook.specs.Forms.{counts, outcome, cycle}
-use Rattle.rulebook.specs.Premise.{Each}
+use Rattle.plain.specs.Lists.{Each}
 use Rattle.rulebook.specs.declared.Counts.{Counts}
 use Rattle.rulebook.specs.declared.Item.{Item}
 use Rattle.rulebook.specs.declared.Order.{Order}

@@ -6,15 +6,15 @@ use mathlib.Core.List.{List, [], _∷_, _++_, append-nil}
 use mathlib.Core.Path.{_≡_, refl, sym, ap, subst, _∙_}
 use lib.ListN.{length, drop, length-append, length-drop}
 use borrow.Rule.Slice.PartMut.{midOf, putMid}
-use Rattle.rulebook.specs.Lists.{if_then_else_}
-use Rattle.rulebook.specs.Ledger.{Ledger, sumBelow}
+use Rattle.plain.specs.Lists.{if_then_else_, sumBelow}
+use Rattle.plain.proofs.Sums.{sum-last}
+use Rattle.rulebook.specs.Ledger.{Ledger}
 use Rattle.rulebook.specs.Movements.{Movement, account, cashOf, move}
 use Rattle.rulebook.specs.Rows.{postingRows, rowsBytes}
 use Rattle.rulebook.specs.Cycle.{seller, buyer, withMark, legs}
 use Rattle.rulebook.specs.declared.Item.{Item}
 use Rattle.rulebook.proofs.RowCounts.{posting-length, legs-length}
 use Rattle.words.specs.Places.{listFrom}
-use Rattle.words.proofs.Sums.{sum-last}
 use Rattle.rows.specs.Widths.{TradeInRange}
 use Rattle.rows.proofs.RowBytes.{rows-append}
 use Rattle.rows.proofs.Area.{behind, movement-rows, trade-rows}

@@ -6,14 +6,14 @@ use mathlib.Core.List.{List, [], _∷_, _++_, map, map-append, append-nil}
 use mathlib.Core.Path.{_≡_, refl, ap, _∙_}
 use borrow.Author.Tests.{ne-eqb}
 use lib.ListN.{length, length-append, length-map}
-use Rattle.rulebook.specs.Lists.{if_then_else_, _is_, _atMost_, _oneOf_, total, keep}
+use Rattle.plain.specs.Lists.{if_then_else_, _is_, _atMost_, _oneOf_, total, keep}
+use Rattle.plain.proofs.Lists.{keep-length, total-append}
 use Rattle.rulebook.specs.Waiting.{sidesOf, sides, unmarked, withState}
 use Rattle.rulebook.specs.Close.{closeKind, leaves, deletedAtClose, suspendedAtClose, closeNotice}
 use Rattle.rulebook.specs.Forms.{counts}
 use Rattle.rulebook.specs.declared.Item.{Item}
 use Rattle.rulebook.specs.declared.State.{State}
 use Rattle.rulebook.specs.declared.State.the-variants.{Single, Pair, Trade}
-use Rattle.rulebook.proofs.Lists.{keep-length, total-append}
 use Rattle.day.specs.Closing.{kept, gone, notices, closeCounts, countedOne}
 
 -- ---- those that pass a test, with one element more

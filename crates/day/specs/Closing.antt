@@ -3,7 +3,7 @@ use Prim.Native.Nat.{ℕ, _+_, _<_, _^_}
 use mathlib.Core.Bool.{not}
 use mathlib.Core.List.{List, map}
 use lib.ListN.{length}
-use Rattle.rulebook.specs.Lists.{if_then_else_, _is_, keep}
+use Rattle.plain.specs.Lists.{if_then_else_, _is_, keep}
 use Rattle.rulebook.specs.Ledger.{Ledger, putWaiting}
 use Rattle.rulebook.specs.Waiting.{sidesOf, sides, unmarked}
 use Rattle.rulebook.specs.Close.{leaves, deletedAtClose, suspendedAtClose, closeNotice}

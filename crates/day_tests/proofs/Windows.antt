@@ -6,12 +6,12 @@ use mathlib.Core.List.{List, [], _∷_}
 use native.Mathlib.Omega.{arith}
 use borrow.Author.Tests.{ne-eqb}
 use lib.ListN.{getD}
-use Rattle.rulebook.specs.Lists.{if_then_else_, _is_, within}
+use Rattle.plain.specs.Lists.{if_then_else_, _is_, within}
+use Rattle.plain.proofs.Lists.{_and_}
 use Rattle.rulebook.specs.Windows.{byKind, officeEnd, cycleMinutes, paymentHours}
 use Rattle.rulebook.specs.Forms.{forms, windowOf}
 use Rattle.rulebook.specs.declared.Day.{Day}
 use Rattle.rulebook.specs.declared.Order.{Order}
-use Rattle.rulebook.proofs.Lists.{_and_}
 use Rattle.rulebook.proofs.ByCall.{HasForm, AllForms, window-at, by-form}
 use Rattle.day_tests.specs.Window.{paymentEnd}
 

@@ -1,7 +1,7 @@
 -- Parts of a form's window.
 use Prim.Native.Nat.{ℕ}
 use lib.ListN.{length}
-use Rattle.rulebook.specs.Lists.{if_then_else_, _is_}
+use Rattle.plain.specs.Lists.{if_then_else_, _is_}
 use Rattle.rulebook.specs.Windows.{byKind, officeEnd, cycleMinutes}
 use Rattle.rulebook.specs.declared.Day.{Day}
 

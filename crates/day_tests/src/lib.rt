@@ -2,7 +2,7 @@
 ghost use mathlib.Core.Path.{_≡_};
 ghost use lib.ListN.{getD, length};
 ghost use Prim.Native.Nat.{_≤_};
-ghost use Rattle.rulebook.specs.Lists.{first};
+ghost use Rattle.plain.specs.Lists.{first};
 ghost use Rattle.rulebook.specs.Windows.{cycleMinutes, officeEnd, byKind};
 ghost use Rattle.rulebook.specs.Forms.{forms, windowOf};
 ghost use Rattle.rulebook.specs.Refusals.{wrongDay, wrongCycle, goesBack, outsideWindow, dayTests};

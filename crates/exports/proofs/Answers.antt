@@ -7,7 +7,7 @@ use native.Mathlib.Omega.{arith}
 use lib.Dec.{eqb}
 use lib.ListN.{length, getD, set, drop}
 use borrow.Author.Tests.{eq-eqb, ne-eqb, eqb-true, lt-ltb, le-ltb}
-use Rattle.rulebook.specs.Lists.{if_then_else_, _is_}
+use Rattle.plain.specs.Lists.{if_then_else_, _is_}
 use Rattle.rulebook.specs.Record.{readNumber, orderOf, recordOf, writeRefusal, writtenOf, writtenNumber, areaWritten}
 use Rattle.rulebook.specs.Call.{answerNumber}
 use Rattle.rulebook.specs.declared.Answer.{Answer}

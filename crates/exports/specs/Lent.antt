@@ -3,7 +3,7 @@ use Prim.Native.Nat.{ℕ}
 use mathlib.Core.List.{List}
 use mathlib.Core.Path.{_≡_}
 use lib.ListN.{length}
-use Rattle.rulebook.specs.Lists.{if_then_else_, _is_}
+use Rattle.plain.specs.Lists.{if_then_else_, _is_}
 use Rattle.rulebook.specs.Ledger.{fresh}
 use Rattle.book.specs.Meaning.{bookLength, ledgerOf}
 use Rattle.book.specs.Stored.{Kept}

@@ -3,7 +3,7 @@ use Prim.Native.Nat.{ℕ}
 use mathlib.Core.List.{List}
 use mathlib.Core.Path.{_≡_}
 use lib.ListN.{length, getD}
-use Rattle.rulebook.specs.Lists.{if_then_else_, _isNot_, _below_}
+use Rattle.plain.specs.Lists.{if_then_else_, _isNot_, _below_}
 use Rattle.book.specs.Meaning.{bookLength}
 use Rattle.exports.specs.Lent.{wrongBook, wrongValues, noSuchPlace}
 

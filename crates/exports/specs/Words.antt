@@ -3,7 +3,7 @@ use Prim.Native.Nat.{ℕ}
 use mathlib.Core.List.{List}
 use mathlib.Core.Path.{_≡_}
 use lib.ListN.{length, take}
-use Rattle.rulebook.specs.Lists.{if_then_else_, _isNot_}
+use Rattle.plain.specs.Lists.{if_then_else_, _isNot_}
 use Rattle.rulebook.specs.Record.{readOf, readNumber, orderOf, writtenOf, writtenNumber, areaWritten, fieldsOf}
 use Rattle.rulebook.specs.Call.{callOf, answerNumber}
 use Rattle.rulebook.specs.declared.Answer.{Answer}

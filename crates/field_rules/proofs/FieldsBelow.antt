@@ -7,7 +7,8 @@ use borrow.Author.Tests.{eqb-true, not-false}
 use native.Mathlib.Omega.{arith}
 use native.Mathlib.Numerals.{add-one}
 use lib.ListN.{length, getD}
-use Rattle.rulebook.specs.Lists.{_is_, _isNot_, within, some, first}
+use Rattle.plain.proofs.Tests.{both}
+use Rattle.plain.specs.Lists.{_is_, _isNot_, within, some, first}
 use Rattle.rulebook.specs.Field.{places, always, ruleIn}
 use Rattle.rulebook.specs.Forms.{Form, forms, rowOf, used, least, most}
 use Rattle.rulebook.proofs.ByCall.{by-test}
@@ -71,10 +72,6 @@ module _ (form : ℕ) (fields : List ℕ) where
       let z = four (getD fields 15 0) (getD fields 16 0) (getD fields 17 0) (getD fields 18 0) t in
       zero-more 3 (omega arith) (z .2 .1) (zero-more 2 (omega arith) (z .2 .0) (zero-more 1 (omega arith) (z .1) (zero-more 0 (omega arith) (z .0) e)))
     where
-      both : (a b : Bool) → (a && b) ≡ true → (a ≡ true) × (b ≡ true)
-      both true b p = (refl, p)
-      both false b p = (cc, cc)
-
       four : (a b c d : ℕ) → (((a is 0 && b is 0) && c is 0) && d is 0) ≡ true → (a ≡ 0) × (b ≡ 0) × ((c ≡ 0) × (d ≡ 0))
       four a b c d p =
           let x = both ((a is 0 && b is 0) && c is 0) (d is 0) p in

@@ -5,7 +5,7 @@ use mathlib.Core.List.{List}
 use mathlib.Core.Path.{_≡_}
 use lib.Bits.{bitAnd}
 use lib.ListN.{length, getD}
-use Rattle.rulebook.specs.Lists.{if_then_else_, _is_, _below_, within, first}
+use Rattle.plain.specs.Lists.{if_then_else_, _is_, _below_, within, first}
 use Rattle.rulebook.specs.Field as Field
 use Rattle.rulebook.specs.Field.{places}
 use Rattle.rulebook.specs.Forms as Forms

@@ -5,7 +5,7 @@ ghost use mathlib.Core.List.{[], _∷_, map};
 ghost use Prim.Native.Nat.{_<_};
 ghost use lib.Bits.{bitOr};
 ghost use lib.ListN.{getD};
-ghost use Rattle.rulebook.specs.Lists.{_isNot_, within, first};
+ghost use Rattle.plain.specs.Lists.{_isNot_, within, first};
 ghost use Rattle.rulebook.specs.Field.{places};
 ghost use Rattle.rulebook.specs.Forms.{most};
 ghost use Rattle.rulebook.specs.Record.{unusedNotZero, usedOutOfRange};

@@ -7,7 +7,7 @@ use mathlib.Core.Path.{_≡_, refl, sym, ap, _∙_}
 use lib.ListN.{length, take, drop, length-drop, length-append}
 use lib.Seq.{take-all, drop-drop, take-append-le, drop-append-le}
 use borrow.Author.Tests.{ltb-true, ltb-false}
-use Rattle.rulebook.specs.Lists.{if_then_else_, _below_}
+use Rattle.plain.specs.Lists.{if_then_else_, _below_}
 use Rattle.file.specs.Records.{parts, recordsOf, endOf, nextAt, found, walk}
 use Rattle.file.specs.declared.Cursor.{Cursor}
 use Rattle.file.specs.declared.Next.{Next}

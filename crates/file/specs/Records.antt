@@ -2,7 +2,7 @@
 use Prim.Native.Nat.{ℕ, zero, suc, _+_, _-_, _/_}
 use mathlib.Core.List.{List, [], _∷_}
 use lib.ListN.{length, take, drop}
-use Rattle.rulebook.specs.Lists.{if_then_else_, _below_}
+use Rattle.plain.specs.Lists.{if_then_else_, _below_}
 use Rattle.file.specs.declared.Next.{Next}
 use Rattle.file.specs.declared.Next.the-variants.{Record, End}
 

@@ -7,7 +7,8 @@ use mathlib.Core.Path.{_≡_, refl, sym, ap, subst, _∙_}
 use borrow.Author.Tests.{ltb-false}
 use lib.ListN.{length, getD, length-append, length-drop}
 use lib.Seq.{length-take-le}
-use Rattle.rulebook.specs.Lists.{_is_, _below_, _oneOf_, some}
+use Rattle.plain.proofs.Tests.{neither}
+use Rattle.plain.specs.Lists.{_is_, _below_, _oneOf_, some}
 use Rattle.rulebook.specs.Ledger.{Ledger, putWaiting}
 use Rattle.rulebook.specs.Waiting.{itemOf}
 use Rattle.rulebook.specs.Matching.{tolerance, pairsWith, arrive}
@@ -30,7 +31,6 @@ use Rattle.search.proofs.Found.{found-some}
 use Rattle.checking.specs.Given.{Given}
 use Rattle.checking.proofs.Passed.{known}
 use Rattle.instructions.specs.Paired.{paired}
-use Rattle.instructions.proofs.Roomy.{first-false}
 
 module _ (limit : ℕ) (new : Item) (d : Item) where
   -- what arrives pairs with the one at place i
@@ -126,7 +126,7 @@ module _ (book : List ℕ) (order : Order) where
     alone-room t =
         let items : ℕ = length (b .waiting) in
         let space = sym (instruct-space b order (given.kept.premise.sizes) t) ∙ known given .space in
-        omega (arith, ltb-false 63 items (first-false (63 below items) _ (simp none at space)))
+        omega (arith, ltb-false 63 items (neither (63 below items) _ (simp none at space) .0))
 
     pub alone-made :
         (new : Item) (after : List ℕ) (r : Counts) → new ≡ arriving → Means after (putWaiting (b .waiting ++ (new ∷ [])) b) → r ≡ counts 0 0 0 0 0 0

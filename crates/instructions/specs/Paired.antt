@@ -1,5 +1,5 @@
 -- The pair that an arriving single makes with the one that waits.
-use Rattle.rulebook.specs.Lists.{if_then_else_}
+use Rattle.plain.specs.Lists.{if_then_else_}
 use Rattle.rulebook.specs.Waiting.{isDeliver}
 use Rattle.rulebook.specs.Matching.{pairOf}
 use Rattle.rulebook.specs.declared.Item.{Item}

@@ -4,7 +4,7 @@ ghost use mathlib.Core.Path.{_≡_};
 ghost use mathlib.Core.Bool.{true};
 ghost use mathlib.Core.List.{List, [], _∷_};
 ghost use Prim.Native.Nat.{ℕ};
-ghost use Rattle.rulebook.specs.Lists.{_oneOf_};
+ghost use Rattle.plain.specs.Lists.{_oneOf_};
 ghost use Rattle.rulebook.specs.Forms.{instruct, trade, cancel};
 ghost use Rattle.book.specs.Meaning.{ledgerOf};
 ghost use Rattle.book.specs.Handled.{Handled};

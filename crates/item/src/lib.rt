@@ -2,7 +2,7 @@
 ghost use mathlib.Core.Path.{_≡_};
 ghost use mathlib.Core.Bool.{_&&_};
 ghost use Prim.Native.Nat.{_+_, _-_, _<_, _^_};
-ghost use Rattle.rulebook.specs.Lists.{_is_, _atMost_};
+ghost use Rattle.plain.specs.Lists.{_is_, _atMost_};
 ghost use Rattle.rulebook.specs.Waiting.{itemOf, isDeliver, isReceive, ownReference, sidesOf, senderOf, sentBy, notCancellable, withState, marked, bothMarked, unmarked};
 ghost use Rattle.rulebook.specs.Matching.{tolerance, agree, pairsWith, pairOf};
 ghost use Rattle.rulebook.specs.Close.{closeKind};

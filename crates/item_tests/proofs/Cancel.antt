@@ -6,14 +6,14 @@ use mathlib.Core.List.{List, [], _∷_}
 use native.Mathlib.Omega.{arith}
 use borrow.Author.Tests.{eq-eqb}
 use lib.ListN.{length, getD}
-use Rattle.rulebook.specs.Lists.{some}
+use Rattle.plain.specs.Lists.{some}
+use Rattle.plain.proofs.Tests.{both}
 use Rattle.rulebook.specs.Ledger.{Ledger}
 use Rattle.rulebook.specs.Premise.{Premise}
 use Rattle.rulebook.specs.Waiting.{senderOf, sentBy, notCancellable}
 use Rattle.rulebook.specs.Refusals.{wrongCancel}
 use Rattle.rulebook.specs.declared.Order.{Order}
 use Rattle.rulebook.specs.declared.Item.{Item}
-use Rattle.rulebook.proofs.Lists.{both}
 use Rattle.rulebook.proofs.ByIndex.{reference-once}
 use Rattle.words.specs.Places.{isFound}
 use Rattle.words.specs.declared.Found.{Found}

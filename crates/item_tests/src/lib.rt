@@ -1,6 +1,6 @@
 // Refusals 14 and 15: what the order says of an item that waits.
 ghost use mathlib.Core.Path.{_≡_};
-ghost use Rattle.rulebook.specs.Lists.{first};
+ghost use Rattle.plain.specs.Lists.{first};
 ghost use Rattle.rulebook.specs.Refusals.{wrongReference, wrongCancel, itemTests};
 ghost use Rattle.book.specs.Meaning.{ledgerOf};
 ghost use Rattle.book.specs.Stored.{Stored, Kept};

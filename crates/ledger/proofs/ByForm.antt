@@ -5,13 +5,13 @@ use mathlib.Core.Bool.{Bool, true, false}
 use mathlib.Core.List.{List}
 use native.Mathlib.Omega.{arith}
 use borrow.Author.Tests.{eqb-true, eqb-false}
-use Rattle.rulebook.specs.Lists.{_is_}
+use Rattle.plain.specs.Lists.{_is_}
+use Rattle.plain.proofs.Lists.{_and_}
 use Rattle.rulebook.specs.Ledger.{Ledger}
 use Rattle.rulebook.specs.Forms.{Outcome, transfer, instruct, forms, rowOf, effect}
 use Rattle.rulebook.specs.declared.Counts.{Counts}
 use Rattle.rulebook.specs.declared.Order.{Order}
 use Rattle.rulebook.proofs.ByCall.{effect-at}
-use Rattle.rulebook.proofs.Lists.{_and_}
 use Rattle.book.specs.Handled.{Handled}
 
 -- what holds of a run of numbers holds of each of them

@@ -5,9 +5,8 @@ use mathlib.Core.Bool.{Bool, true, false}
 use mathlib.Core.List.{List}
 use mathlib.Core.Path.{_≡_, ap, _∙_}
 use lib.ListN.{length}
-use Rattle.rulebook.specs.Lists.{if_then_else_}
-use Rattle.rulebook.specs.Ledger.{sumBelow}
-use Rattle.words.proofs.Sums.{sum-last, sum-grows}
+use Rattle.plain.specs.Lists.{if_then_else_, sumBelow}
+use Rattle.plain.proofs.Sums.{sum-last, sum-grows}
 use Rattle.legs.specs.Figures.{hasAt, owesAt, brings, takes, bringsAll, takesAll, Figures, Room, RoomAll}
 
 -- the figures with the marked ones of the first j legs

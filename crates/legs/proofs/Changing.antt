@@ -7,7 +7,7 @@ use mathlib.Core.Path.{_≡_, refl, sym, ap, _∙_}
 use borrow.Author.Tests.{eq-eqb, eqb-true}
 use lib.ListN.{length, set, length-set}
 use lib.Seq.{getD-set-same}
-use Rattle.rulebook.specs.Lists.{if_then_else_, _is_, _below_}
+use Rattle.plain.specs.Lists.{if_then_else_, _is_, _below_}
 use Rattle.legs.specs.Figures.{OWES, fromAt, toAt, numberAt, hasAt, owesAt, brings, takes, Figures, shortAt}
 use Rattle.legs.specs.Slots.{Slots, viewed}
 use Rattle.legs.proofs.Slotted as slotted

@@ -4,8 +4,7 @@ use mathlib.Core.Bool.{Bool, _&&_, _||_}
 use mathlib.Core.List.{List}
 use mathlib.Core.Path.{_≡_}
 use lib.ListN.{length, getD}
-use Rattle.rulebook.specs.Lists.{if_then_else_, _is_, _below_}
-use Rattle.rulebook.specs.Ledger.{sumBelow}
+use Rattle.plain.specs.Lists.{if_then_else_, _is_, _below_, sumBelow}
 use Rattle.words.specs.declared.Found.{Found}
 use Rattle.words.specs.declared.Found.the-variants.{At, Nothing}
 

@@ -7,7 +7,7 @@ use mathlib.Core.List.{List, [], _∷_, _++_}
 use mathlib.Core.Path.{_≡_, refl, sym, ap, _∙_}
 use lib.ListN.{length, getD, length-append}
 use borrow.Author.Tests.{lt-ltb, le-ltb, ltb-true, ltb-false}
-use Rattle.rulebook.specs.Lists.{if_then_else_, _below_}
+use Rattle.plain.specs.Lists.{if_then_else_, _below_}
 use Rattle.lines.specs.Text.{digit, digits, decimal}
 
 -- what holds of one digit, and with those before the last of all, holds of a number's digits

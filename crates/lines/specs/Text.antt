@@ -6,7 +6,7 @@ use Prim.Native.String as Text
 use mathlib.Core.List.{List, [], _∷_, _++_}
 use mathlib.Core.Path.{_≡_}
 use lib.ListN.{length, take, drop}
-use Rattle.rulebook.specs.Lists.{if_then_else_, _below_}
+use Rattle.plain.specs.Lists.{if_then_else_, _below_}
 
 -- the bytes of a text of ASCII characters
 abbrev pub text : String → List ℕ

@@ -7,13 +7,12 @@ use mathlib.Core.Logic.{_≢_}
 use mathlib.Core.Path.{_≡_, refl, ap, _∙_}
 use lib.ListN.{length, length-map}
 use lib.Seq.{ext-getD}
-use Rattle.rulebook.specs.Lists.{if_then_else_, total, keep}
-use Rattle.rulebook.specs.Ledger.{sumBelow}
+use Rattle.plain.specs.Lists.{if_then_else_, total, keep, sumBelow}
+use Rattle.plain.proofs.Sums.{sum-change}
 use Rattle.rulebook.specs.Cycle.{Marked, over, withMark}
 use Rattle.rulebook.specs.declared.Item.{Item}
 use Rattle.words.specs.Places.{listFrom}
 use Rattle.words.proofs.Places.{from-same, from-total, from-get, length-from}
-use Rattle.words.proofs.Sums.{sum-change}
 use Rattle.marks.specs.Marks.{noItem, itemIn, countOn}
 
 -- n items with their marks

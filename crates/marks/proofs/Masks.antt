@@ -8,7 +8,7 @@ use mathlib.Core.Path.{_≡_, refl, sym, ap, _∙_}
 use lib.Pow.{shr-shr, shl-exact}
 use lib.Bits.{bitXor, xor-shr, xor-mod, xor-zero-r}
 use borrow.Author.Tests.{eq-eqb, ne-eqb}
-use Rattle.rulebook.specs.Lists.{if_then_else_, _is_}
+use Rattle.plain.specs.Lists.{if_then_else_, _is_}
 use Rattle.marks.specs.Marks.{isOn}
 
 pub none-on : (k : ℕ) → isOn 0 k ≡ false

@@ -3,8 +3,7 @@ use Prim.Native.Nat.{ℕ, _-_, _*_, _/_, _%_, _^_}
 use mathlib.Core.Bool.{Bool, false}
 use mathlib.Core.List.{List, _++_}
 use lib.ListN.{length, getD, drop}
-use Rattle.rulebook.specs.Lists.{if_then_else_, _is_}
-use Rattle.rulebook.specs.Ledger.{sumBelow}
+use Rattle.plain.specs.Lists.{if_then_else_, _is_, sumBelow}
 use Rattle.rulebook.specs.Cycle.{Marked, withMark, legs}
 use Rattle.rulebook.specs.Rows.{Row, postingRows, rowsBytes}
 use Rattle.rulebook.specs.declared.Item.{Item}

@@ -2,7 +2,7 @@
 ghost use mathlib.Core.Path.{_≡_};
 ghost use mathlib.Core.Bool.{not};
 ghost use Prim.Native.Nat.{ℕ, _<_, _≤_};
-ghost use Rattle.rulebook.specs.Lists.{if_then_else_, _is_};
+ghost use Rattle.plain.specs.Lists.{if_then_else_, _is_};
 ghost use Rattle.marks.specs.Marks.{isOn, countOn};
 
 // One word.

@@ -1,12 +1,13 @@
 -- What is known of a book and an order that no refusal applies to, as the book's functions ask for it. Assumes nothing.
 use Prim.Native.Nat.{ℕ, _+_, _-_, _≤_, _<_, _^_}
 use mathlib.Core.Path.{_≡_, refl, sym, ap, _∙_}
-use mathlib.Core.Bool.{Bool, true, false, _&&_, false≢true}
+use mathlib.Core.Bool.{Bool, true, false, _&&_}
 use mathlib.Core.List.{List}
 use native.Mathlib.Omega.{arith}
 use lib.ListN.{length}
 use borrow.Author.Tests.{ltb-false, eq-eqb, eqb-true}
-use Rattle.rulebook.specs.Lists.{_is_, _isNot_, _below_, within}
+use Rattle.plain.proofs.Tests.{not-second}
+use Rattle.plain.specs.Lists.{_is_, _isNot_, _below_, within}
 use Rattle.rulebook.specs.Ledger.{Ledger, Holdings, accountOf, sameAccount, admitted, outsideOf, counted, putBalance, putHoldings}
 use Rattle.rulebook.specs.Movements.{account, credit, debit}
 use Rattle.rulebook.specs.Premise.{CashFits}
@@ -39,10 +40,6 @@ cash-row m c f = (
   record { member-fits = omega arith; currency-fits = omega (arith, f .currency-most) },
 )
 
-both-false : (x y : Bool) → (x && y) ≡ false → x ≡ true → y ≡ false
-both-false true y e t = e
-both-false false y e t = absurd (false≢true t)
-
 module _ (book : List ℕ) (o : Order) (g : Given book o) where
   abbrev b : Ledger
   b = ledgerOf book
@@ -67,7 +64,7 @@ module _ (book : List ℕ) (o : Order) (g : Given book o) where
   -- ---- forms 3 and 4
 
   pub deposit-enough : o.form ≡ 3 → o.quantity.0 ≤ outsideOf o.security b.holdings
-  deposit-enough e = ltb-false _ _ (both-false _ _ (little-parts b o (known g .little) .0) (eq-eqb o.form 3 e))
+  deposit-enough e = ltb-false _ _ (not-second _ _ (little-parts b o (known g .little) .0) (eq-eqb o.form 3 e))
 
   pub deposit-fits : o.form ≡ 3 → CreditFits to (b.holdings.balance to) b.holdings.accounts o.quantity.0
   deposit-fits e =
@@ -79,7 +76,7 @@ module _ (book : List ℕ) (o : Order) (g : Given book o) where
         named = credited-named o g.read;
         some = q;
         word = omega (arith, balance-fits b g.kept.premise to, fits o g.read .quantity);
-        room = λ z. omega (arith, ltb-false 255 room (both-false (b.holdings.balance to is 0) (255 below room) full (eq-eqb _ 0 z)));
+        room = λ z. omega (arith, ltb-false 255 room (not-second (b.holdings.balance to is 0) (255 below room) full (eq-eqb _ 0 z)));
       }
 
   pub outside-fits-word : outsideOf o.security b.holdings + o.quantity.0 < 2 ^ 64
@@ -141,7 +138,7 @@ module _ (book : List ℕ) (o : Order) (g : Given book o) where
             omega (arith, ap counted gone ∙ counted-zero, some, listed, g.kept.premise.sizes.accounts)
         left false e z =
             let some = counted-some (b.holdings.balance from) (omega (arith, debits-enough refl t, quantity)) in
-            let space = ltb-false 255 room (both-false opens (255 below room) full (rw (z, e))) in
+            let space = ltb-false 255 room (not-second opens (255 below room) full (rw (z, e))) in
             omega (arith, space, counted-most (b.holdings.balance from - o.quantity.0), some)
 
     -- once the debited account is debited
@@ -164,4 +161,4 @@ module _ (book : List ℕ) (o : Order) (g : Given book o) where
   pay-in-fits = omega (arith, cash-fits b g.kept.premise o.credited.member o.currency, fits o g.read .amount)
 
   pub pay-out-enough : o.form ≡ 11 → o.amount.0 ≤ b.holdings.cash o.debited.member o.currency
-  pay-out-enough e = ltb-false _ _ (both-false _ _ (little-parts b o (known g .little) .2) (eq-eqb o.form 11 e))
+  pay-out-enough e = ltb-false _ _ (not-second _ _ (little-parts b o (known g .little) .2) (eq-eqb o.form 11 e))

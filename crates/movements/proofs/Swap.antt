@@ -4,8 +4,8 @@ use mathlib.Core.Path.{_≡_, refl, sym, ap, _∙_}
 use mathlib.Core.Bool.{Bool, true, false, false≢true}
 use native.Mathlib.Omega.{arith}
 use borrow.Author.Tests.{ne-eqb}
-use Rattle.rulebook.specs.Lists.{if_then_else_, _is_}
-use Rattle.rulebook.specs.Ledger.{Holdings, sameAccount, counted, putBalance, sumBelow}
+use Rattle.plain.specs.Lists.{if_then_else_, _is_, sumBelow}
+use Rattle.rulebook.specs.Ledger.{Holdings, sameAccount, counted, putBalance}
 use Rattle.rulebook.specs.Movements.{account, credit, debit}
 use Rattle.rulebook.specs.Premise.{accountCount}
 use Rattle.rulebook.specs.declared.Account.{Account}

@@ -5,7 +5,7 @@ use mathlib.Core.Bool.{Bool, true, false, or-true, _&&_}
 use mathlib.Core.List.{List, [], _∷_}
 use mathlib.Core.Path.{_≡_, refl}
 use lib.ListN.{length, getD, set}
-use Rattle.rulebook.specs.Lists.{some}
+use Rattle.plain.specs.Lists.{some}
 use Rattle.rulebook.specs.Ledger.{Holdings}
 use Rattle.rulebook.specs.Cycle.{Marked, debitsShort, anyShort, dropLast, rounds}
 use Rattle.rulebook.specs.declared.Item.{Item}

@@ -5,12 +5,10 @@ use mathlib.Core.Bool.{Bool, true, false}
 use mathlib.Core.List.{List}
 use mathlib.Core.Logic.{_≢_}
 use mathlib.Core.Path.{_≡_, sym, ap, _∙_}
-use Rattle.rulebook.specs.Lists.{if_then_else_}
-use Rattle.rulebook.specs.Ledger.{sumBelow}
+use Rattle.plain.specs.Lists.{if_then_else_, sumBelow}
+use Rattle.plain.proofs.Sums.{sum-same, sum-least}
 use Rattle.rulebook.specs.Cycle.{over}
 use Rattle.rulebook.specs.declared.Item.{Item}
-use Rattle.rulebook.proofs.Held.{sum-same}
-use Rattle.words.proofs.Sums.{sum-least}
 use Rattle.legs.specs.Figures.{hasAt, owesAt, brings, takes, bringsAll, takesAll, Figures, Cover, RoomAll}
 use Rattle.marks.proofs.Marking.{marking, over-sum, over-more}
 

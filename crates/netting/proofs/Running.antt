@@ -1,5 +1,5 @@
 -- The rounds as code runs them: the marks, and beside them the figures of every item. Assumes nothing.
-use Prim.Native.Nat.{ℕ, suc, _+_, _-_, _^_, _≤_, _<_}
+use Prim.Native.Nat.{ℕ, suc, _+_, _-_, _≤_, _<_}
 use native.Mathlib.Omega.{arith}
 use mathlib.Core.Bool.{Bool, true, false, not, _&&_, _||_, false≢true}
 use mathlib.Core.List.{List}
@@ -8,7 +8,9 @@ use mathlib.Core.Path.{_≡_, refl, sym, ap, subst, _∙_}
 use borrow.Author.Tests.{eq-eqb, ne-eqb, eqb-true, eqb-false, ltb-true, ltb-false, le-ltb}
 use lib.Dec.{ltb}
 use lib.ListN.{length, getD, set}
-use Rattle.rulebook.specs.Lists.{if_then_else_, _is_, _isNot_, _below_}
+use Rattle.plain.specs.Lists.{if_then_else_, _is_, _isNot_, _below_}
+use Rattle.plain.proofs.Sums.{sum-change}
+use Rattle.plain.proofs.Tests.{both}
 use Rattle.rulebook.specs.Ledger.{Ledger, sameAccount}
 use Rattle.rulebook.specs.Premise.{CashFits}
 use Rattle.rulebook.specs.Cycle.{Marked, seller, buyer, over, anyShort, dropLast, rounds}
@@ -17,8 +19,6 @@ use Rattle.rulebook.specs.Cycle.{sharesMissing, cashMissing, debitsShort}
 use Rattle.rulebook.specs.declared.Item.{Item}
 use Rattle.words.specs.declared.Found.the-variants.{At, Nothing}
 use Rattle.words.proofs.Places.{from-get, from-set, length-from}
-use Rattle.words.proofs.Sums.{sum-change}
-use Rattle.rulebook.proofs.Lists.{both}
 use Rattle.book.specs.Keys.{keyOf}
 use Rattle.book.proofs.Keys.{key-test, key-once}
 use Rattle.marks.specs.Marks.{itemIn, isOn, markedOf, countOn}
@@ -29,7 +29,7 @@ use Rattle.legs.specs.Ready.{Ready}
 use Rattle.legs.proofs.Searches.{Last, last-at, last-none, last-same}
 use Rattle.legs.proofs.Slotted.{has-viewed, owes-viewed, viewed-long, slot-leg, slot-own}
 use Rattle.marks.proofs.Marking.{marking, count-most}
-use Rattle.netting.proofs.Netting.{Are, Small, Lined, lined-room, lined-start, lined-cover, lined-less}
+use Rattle.netting.proofs.Netting.{if-below, Are, Small, Lined, lined-room, lined-start, lined-cover, lined-less}
 use Rattle.netting.proofs.Drops.{noMark, at, none-at, some-at, drop-at, rounds-stop, rounds-step}
 
 -- ---- keys tell members' cash apart
@@ -49,10 +49,6 @@ missing-test has owes = go (has below owes) refl
     go : (b : Bool) → (has below owes) ≡ b → b ≡ ((owes - has) isNot 0)
     go true e = sym (ap not (ne-eqb (owes - has) 0 (λ z. omega (arith, z, ltb-true has owes e))))
     go false e = sym (ap not (eq-eqb (owes - has) 0 (omega (arith, ltb-false has owes e))))
-
-if-most : (t : Bool) (q : ℕ) → q < 2 ^ 40 → (if t then q else 0) < 2 ^ 40
-if-most true q l = l
-if-most false q l = omega arith
 
 -- what was not short stays so where a leg is taken away, but for what that leg credits
 still :
@@ -131,16 +127,16 @@ module _ (b : Ledger) (r : Ready b) where
   share-small : (legs : List ℕ) → Small item n shareInto shareOut legs
   unfolding bringsShares takesShares
   share-small legs = record {
-    into-small = λ j k h g. if-most (sameAccount (buyer (item j)) (seller (item k))) _ (r .bookable j h .quantity);
-    out-small = λ j k h g. if-most (sameAccount (seller (item j)) (seller (item k))) _ (r .bookable j h .quantity);
+    into-small = λ j k h g. if-below (sameAccount (buyer (item j)) (seller (item k))) _ (r .bookable j h .quantity);
+    out-small = λ j k h g. if-below (sameAccount (seller (item j)) (seller (item k))) _ (r .bookable j h .quantity);
   }
 
   cash-small : (legs : List ℕ) → Small item n cashInto cashOut legs
   unfolding bringsCash takesCash
   cash-small legs = record {
-    into-small = λ j k h g. if-most (item j .debited .member is item k .credited .member && item j .currency is item k .currency) _ (r .bookable j h .amount);
+    into-small = λ j k h g. if-below (item j .debited .member is item k .credited .member && item j .currency is item k .currency) _ (r .bookable j h .amount);
     out-small = λ j k h g.
-        if-most (item j .credited .member is item k .credited .member && item j .currency is item k .currency) _ (r .bookable j h .amount);
+        if-below (item j .credited .member is item k .credited .member && item j .currency is item k .currency) _ (r .bookable j h .amount);
   }
 
   -- the marked legs can be added

@@ -6,7 +6,7 @@ use mathlib.Core.Logic.{inl, inr}
 use mathlib.Core.List.{List, [], _∷_, map}
 use borrow.Author.Tests.{ne-eqb}
 use types.Run.{OneOf}
-use Rattle.rulebook.specs.Lists.{_oneOf_}
+use Rattle.plain.specs.Lists.{_oneOf_}
 
 -- what holds at each key of an arm, which is one computed test, holds in the arm
 pub by-arm : {A : Type 0} (f g : ℕ → A) (keys : List ℕ) → map f keys ≡ map g keys → (x : ℕ) → OneOf keys x → f x ≡ g x

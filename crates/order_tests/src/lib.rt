@@ -1,7 +1,7 @@
 // Refusals 10 to 13: what the order says of its security, types, parties and days.
 ghost use mathlib.Core.Path.{_≡_};
 ghost use Prim.Native.Nat.{_<_, _^_};
-ghost use Rattle.rulebook.specs.Lists.{first};
+ghost use Rattle.plain.specs.Lists.{first};
 ghost use Rattle.rulebook.specs.Refusals.{wrongSecurity, wrongPair, wrongParties, wrongDays, orderTests};
 ghost use Rattle.book.specs.Meaning.{ledgerOf};
 ghost use Rattle.book.specs.Stored.{Stored};

@@ -1,6 +1,6 @@
 // What an order, an item and a party name: the accounts on both sides, and those that count a security.
 ghost use mathlib.Core.Path.{_≡_};
-ghost use Rattle.rulebook.specs.Lists.{within};
+ghost use Rattle.plain.specs.Lists.{within};
 ghost use Rattle.rulebook.specs.Ledger.{accountOf, sameAccount};
 ghost use Rattle.rulebook.specs.Cycle.{seller, buyer};
 ghost use Rattle.parties.specs.Counted.{outsideAccount};

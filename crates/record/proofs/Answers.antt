@@ -6,7 +6,7 @@ use Prim.Native.Nat.{ℕ, _≤_}
 use borrow.Author.Tests.{eq-eqb, ne-eqb, le-ltb}
 use lib.ListN.{length, drop}
 use Rattle.bits.specs.Layout.{Fit}
-use Rattle.rulebook.specs.Lists.{first}
+use Rattle.plain.specs.Lists.{first}
 use Rattle.rulebook.specs.Field.{widths}
 use Rattle.rulebook.specs.Record.{fieldsIn, fieldsOf, orderOf, recordOf, noForm, unusedNotZero, usedOutOfRange}
 use Rattle.rulebook.specs.Record.{readRefusal, readOf, readNumber, writeRefusal, writtenOf, writtenNumber, areaWritten}

@@ -1,6 +1,6 @@
 // Refusals 6 to 18 of an order on a book: the first that applies, in checking order, stage by stage.
 ghost use mathlib.Core.Path.{_≡_};
-ghost use Rattle.rulebook.specs.Lists.{first};
+ghost use Rattle.plain.specs.Lists.{first};
 ghost use Rattle.rulebook.specs.Refusals.{refusals};
 ghost use Rattle.book.specs.Meaning.{ledgerOf};
 ghost use Rattle.book.specs.Stored.{Kept};

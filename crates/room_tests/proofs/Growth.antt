@@ -3,7 +3,7 @@ use Prim.Native.Nat.{ℕ}
 use mathlib.Core.Path.{_≡_, refl}
 use mathlib.Core.Bool.{Bool, true, false, not, _||_}
 use borrow.Author.Tests.{not-false}
-use Rattle.rulebook.specs.Lists.{_is_, _oneOf_, within}
+use Rattle.plain.specs.Lists.{_is_, _oneOf_, within}
 use Rattle.rulebook.specs.Forms.{Form, forms}
 use Rattle.rulebook.proofs.Sizes.{neverGrows}
 use Rattle.rulebook.proofs.ByCall.{HasForm, by-row}

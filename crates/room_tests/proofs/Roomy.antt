@@ -1,11 +1,12 @@
 -- A book with room for one more item, and so for one more account, lacks space for no form but an admission. Assumes nothing.
 use Prim.Native.Nat.{_≤_}
 use mathlib.Core.Path.{_≡_, refl, sym, _∙_}
-use mathlib.Core.Bool.{Bool, true, false, not, _||_, and-false, false≢true}
+use mathlib.Core.Bool.{Bool, true, false, and-false}
 use native.Mathlib.Omega.{arith}
 use borrow.Author.Tests.{eqb-true}
 use lib.ListN.{length}
-use Rattle.rulebook.specs.Lists.{_is_, _below_, within}
+use Rattle.plain.proofs.Tests.{neither}
+use Rattle.plain.specs.Lists.{_is_, _below_, within}
 use Rattle.rulebook.specs.Ledger.{Ledger}
 use Rattle.rulebook.specs.Premise.{Premise}
 use Rattle.rulebook.specs.Refusals.{noSpace}
@@ -20,14 +21,6 @@ use Rattle.rulebook.proofs.Within.{within-parts}
 use Rattle.rulebook.proofs.Within.{wider, instruction}
 use Rattle.room_tests.proofs.Growth.{never}
 use Rattle.checking.proofs.Orders.{ranges, some-quantity}
-
-or-none : (a b : Bool) → (a || b) ≡ false → b ≡ false
-or-none true b e = absurd (false≢true (sym e))
-or-none false b e = e
-
-pub not-false : (a : Bool) → not a ≡ false → a ≡ true
-not-false true e = refl
-not-false false e = sym e
 
 -- the last form that can lack space, in a book without room for one more item
 pub last :
@@ -45,7 +38,7 @@ module _ (b : Ledger) (o : Order) (w : WasRead o) (p : Premise b) (passed : Side
   roomy two room = on-3 (o.form is 3) refl
     where
       full : isFull b ≡ false
-      full = or-none (63 below length b.waiting) (isFull b) room
+      full = neither (63 below length b.waiting) (isFull b) room .1
 
       on-14 : (t : Bool) → (o.form is 14) ≡ t → (o.form is 3) ≡ false → within 5 9 o.form ≡ false → within 12 13 o.form ≡ false → noSpace b o ≡ false
       on-14 true e three five twelve = trade-space b o (p .sizes) (eqb-true o.form 14 e) ∙ room

@@ -4,7 +4,7 @@ use mathlib.Core.Path.{_≡_}
 use mathlib.Core.Bool.{Bool, false, _||_}
 use mathlib.Core.List.{List}
 use lib.ListN.{length}
-use Rattle.rulebook.specs.Lists.{_is_, _below_, some, first}
+use Rattle.plain.specs.Lists.{_is_, _below_, some, first}
 use Rattle.rulebook.specs.Ledger.{Ledger}
 use Rattle.rulebook.specs.Waiting.{itemOf}
 use Rattle.rulebook.specs.Matching.{tolerance, pairsWith}

@@ -1,6 +1,6 @@
 // Refusals 16 to 18: whether the book has enough, and room.
 ghost use mathlib.Core.Path.{_≡_};
-ghost use Rattle.rulebook.specs.Lists.{first};
+ghost use Rattle.plain.specs.Lists.{first};
 ghost use Rattle.rulebook.specs.Refusals.{tooLittle, overCeiling, noSpace, roomTests};
 ghost use Rattle.book.specs.Meaning.{ledgerOf};
 ghost use Rattle.book.specs.Stored.{Kept};

@@ -4,6 +4,7 @@ use mathlib.Core.Bool.{Bool, true, false, not, _||_, or-false, or-assoc}
 use mathlib.Core.List.{List, [], _∷_}
 use Prim.Native.Nat.{ℕ, zero, suc, _<_}
 use native.Mathlib.Omega.{arith}
+use Rattle.plain.proofs.Tests.{neither}
 
 -- some number below n passes the test
 abbrev pub any : ℕ → (ℕ → Bool) → Bool
@@ -18,16 +19,8 @@ any-more (suc n) test = ap (λ (b : Bool). test 0 || b) (any-more n (λ k. test 
 -- where none passes, this one does not
 pub none-passes : (n : ℕ) (test : ℕ → Bool) → any n test ≡ false → (k : ℕ) → k < n → test k ≡ false
 none-passes zero test e k l = absurd (omega arith)
-none-passes (suc n) test e zero l = left (test 0) (any n (λ j. test (suc j))) e
-  where
-    left : (a b : Bool) → (a || b) ≡ false → a ≡ false
-    left true b h = h
-    left false b h = refl
-none-passes (suc n) test e (suc k) l = none-passes n (λ j. test (suc j)) (right (test 0) (any n (λ j. test (suc j))) e) k (omega arith)
-  where
-    right : (a b : Bool) → (a || b) ≡ false → b ≡ false
-    right true b h = cc
-    right false b h = h
+none-passes (suc n) test e zero l = neither (test 0) (any n (λ j. test (suc j))) e .0
+none-passes (suc n) test e (suc k) l = none-passes n (λ j. test (suc j)) (neither (test 0) (any n (λ j. test (suc j))) e .1) k (omega arith)
 
 -- the values of a table at the numbers below n
 abbrev pub tabled : {A : Type 0} → ℕ → (ℕ → A) → List A

@@ -7,12 +7,12 @@ use native.Mathlib.Decide.{ℕ-discrete}
 use native.Mathlib.Omega.{arith}
 use borrow.Author.Tests.{eqb-true, eq-eqb}
 use Rattle.rulebook.specs.declared.Security.{Security}
-use Rattle.rulebook.specs.Lists.{if_then_else_, _is_, some, total}
-use Rattle.rulebook.specs.Ledger.{Holdings, Ledger, issuedOf, outsideOf, sumBelow, cashTotal, held}
+use Rattle.plain.specs.Lists.{if_then_else_, _is_, some, total, sumBelow, Each}
+use Rattle.plain.proofs.Lists.{each-so, each-both}
+use Rattle.rulebook.specs.Ledger.{Holdings, Ledger, issuedOf, outsideOf, cashTotal, held}
 use Rattle.rulebook.specs.declared.Account.{Account}
-use Rattle.rulebook.specs.Premise.{Each, withCode, SecurityFits, CashFits, Premise}
+use Rattle.rulebook.specs.Premise.{withCode, SecurityFits, CashFits, Premise}
 use Rattle.rulebook.proofs.Securities.{outs}
-use Rattle.rulebook.proofs.Lists.{each-so, each-both}
 use Rattle.rulebook.proofs.Types.{type-fits}
 
 -- a part is at most the sum

@@ -1,6 +1,6 @@
 -- From the effect of each form to lists of calls: what a claim of demand 3 has to show is its step, one form at a time. Assumes nothing.
-use mathlib.Core.Path.{_≡_, refl, sym, ap, subst}
-use mathlib.Core.Bool.{Bool, true, false, _||_, false≢true}
+use mathlib.Core.Path.{_≡_, refl, ap, subst}
+use mathlib.Core.Bool.{Bool, true, false, _||_}
 use mathlib.Core.List.{List, [], _∷_}
 use Prim.Native.Nat.{ℕ, zero, suc, _+_, _≤_}
 use native.Mathlib.Nat.{add-zero, add-suc, suc-add}
@@ -8,17 +8,18 @@ use native.Mathlib.Numerals.{one-add}
 use native.Mathlib.Omega.{arith}
 use borrow.Author.Tests.{eqb-true}
 use lib.ListN.{length, getD}
+use Rattle.plain.proofs.Tests.{neither}
 use Rattle.rulebook.specs.declared.Order.{Order}
 use Rattle.rulebook.specs.declared.Day.{Day}
 use Rattle.rulebook.specs.declared.Read.{Read}
-use Rattle.rulebook.specs.Lists.{_is_, _below_, total, first}
+use Rattle.plain.specs.Lists.{_is_, _below_, total, first}
+use Rattle.plain.proofs.Lists.{total-append}
 use Rattle.rulebook.specs.Ledger.{Ledger}
 use Rattle.rulebook.specs.Record.{readOf}
 use Rattle.rulebook.specs.Forms.{Outcome, Form, forms, noRow, rowOf, windowOf, effect}
 use Rattle.rulebook.specs.Refusals.{refusals}
 use Rattle.rulebook.specs.Call.{Result, putMinute, accepted, refused, orderCall, readCall, callOf}
 use Rattle.rulebook.specs.Calls.{Call, call, Made, resultOf, recordIn, callsOn, bookAfter, Accepted, acceptedOf, acceptedCalls, sum}
-use Rattle.rulebook.proofs.Lists.{total-append}
 
 -- what a form does
 abbrev pub Effect : Type 0
@@ -68,10 +69,6 @@ module _ (wrong : ℕ → Form → Bool) where
   all-right : (Q : ℕ → Type 0) (fs : List Form) (n : ℕ) → anyForm wrong n fs ≡ false → AllForms (λ n f. Q n → wrong n f ≡ false) n fs
   all-right Q [] n e = tt
   all-right Q (f ∷ rest) n e = let t = neither (wrong n f) (anyForm wrong (suc n) rest) e in ((λ _. t .0), all-right Q rest (suc n) (t .1))
-    where
-      neither : (x y : Bool) → (x || y) ≡ false → (x ≡ false) × (y ≡ false)
-      neither true y p = absurd (false≢true (sym p))
-      neither false y p = (refl, p)
 
   pub by-row : anyForm wrong 1 forms ≡ false → (n : ℕ) → HasForm n → wrong n (rowOf n) ≡ false
   by-row e = by-form (λ n f. HasForm n → wrong n f ≡ false) (all-right HasForm forms 1 e) (λ m none has. absurd (none has))

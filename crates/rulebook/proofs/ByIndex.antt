@@ -8,10 +8,10 @@ use lib.ListN.{length, getD, take, drop, set, take-append-drop}
 use lib.Seq.{drop-cons, set-split}
 use Rattle.rulebook.specs.declared.Item.{Item}
 use Rattle.rulebook.specs.declared.Security.{Security}
-use Rattle.rulebook.specs.Lists.{if_then_else_, total}
+use Rattle.plain.specs.Lists.{if_then_else_, total, Each}
 use Rattle.rulebook.specs.Ledger.{Ledger}
 use Rattle.rulebook.specs.Waiting.{sentBy, marked, bothMarked, marking, cancelled, staying}
-use Rattle.rulebook.specs.Premise.{Each, SecurityFits, ItemFits, today, Premise}
+use Rattle.rulebook.specs.Premise.{SecurityFits, ItemFits, today, Premise}
 use Rattle.rulebook.proofs.Cancelling.{cancel-stays, cancel-leaves}
 
 pub each-at : {A : Type 0} (P : A → Type 0) (xs : List A) (i : ℕ) (d : A) → Each P xs → i < length xs → P (getD xs i d)

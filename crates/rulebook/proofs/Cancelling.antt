@@ -4,10 +4,10 @@ use mathlib.Core.Bool.{Bool, true, false, not}
 use mathlib.Core.List.{List, [], _∷_, _++_}
 use Prim.Native.Nat.{ℕ, _≤_}
 use Rattle.rulebook.specs.declared.Item.{Item}
-use Rattle.rulebook.specs.Lists.{if_then_else_, keep}
+use Rattle.plain.specs.Lists.{if_then_else_, keep, Each}
 use Rattle.rulebook.specs.Ledger.{Ledger}
 use Rattle.rulebook.specs.Waiting.{sentBy, marked, bothMarked, marking, cancelled, staying}
-use Rattle.rulebook.specs.Premise.{Each, sent, Premise}
+use Rattle.rulebook.specs.Premise.{sent, Premise}
 use Rattle.rulebook.proofs.Halves.{Half}
 use Rattle.rulebook.proofs.EveryCall.References.{marks-one}
 

@@ -5,7 +5,7 @@ use mathlib.Core.List.{List, [], _∷_, _++_}
 use Prim.Native.Nat.{ℕ, _≤_}
 use native.Mathlib.Omega.{arith}
 use borrow.Author.Tests.{ne-eqb}
-use Rattle.rulebook.specs.Lists.{if_then_else_, _is_, first}
+use Rattle.plain.specs.Lists.{if_then_else_, _is_, first}
 use Rattle.rulebook.specs.Ledger.{Holdings}
 use Rattle.rulebook.specs.Refusals.{dayTests, orderTests, itemTests}
 use Rattle.rulebook.specs.declared.Day.{Day}

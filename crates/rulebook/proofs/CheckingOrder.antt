@@ -5,7 +5,7 @@ use mathlib.Core.List.{List, _++_}
 use Prim.Native.Nat.{ℕ}
 use native.Mathlib.Omega.{arith}
 use borrow.Author.Tests.{eqb-true}
-use Rattle.rulebook.specs.Lists.{if_then_else_, _is_, first}
+use Rattle.plain.specs.Lists.{if_then_else_, _is_, first}
 use Rattle.rulebook.specs.Ledger.{Ledger}
 use Rattle.rulebook.specs.Record.{readTests, readRefusal, readOf, orderOf, fieldsIn}
 use Rattle.rulebook.specs.Refusals.{refusals}

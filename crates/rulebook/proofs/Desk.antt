@@ -4,7 +4,8 @@ use Rattle.bits.specs.Bits.{number, bytes, leading, field}
 use Rattle.rulebook.specs.AccountTypes.{bookEntry, physical, free, alike, pledgePairs, blockPairs, listed, pledgedOrBlocked, wrongTypes}
 use Rattle.rulebook.specs.Field.{widths, places, ceiling}
 use Rattle.rulebook.specs.Record.{fieldsOf, orderOf, noForm, unusedNotZero, usedOutOfRange, fieldsIn, readRefusal, readOf, recordOf, writeRefusal, writtenOf, areaWritten}
-use Rattle.rulebook.specs.Ledger.{fresh, putDay, putHoldings, putWaiting, accountOf, sameAccount, counted, putBalance, putCash, putSecurities, putOutside, admitted, issuedOf, outsideOf, sumBelow, cashTotal}
+use Rattle.plain.specs.Lists.{sumBelow}
+use Rattle.rulebook.specs.Ledger.{fresh, putDay, putHoldings, putWaiting, accountOf, sameAccount, counted, putBalance, putCash, putSecurities, putOutside, admitted, issuedOf, outsideOf, cashTotal}
 use Rattle.rulebook.specs.Movements.{credit, debit, credits, debits, booked}
 use Rattle.rulebook.specs.Windows.{byKind, cycleMinutes, officeEnd}
 use Rattle.rulebook.specs.Rows.{postingWidths, noticeWidths, postingBytes, postingIn, postingOf, noticeBytes, deliverReference, receiveReference, noticeOf, postingRows, rowBytes, rowsBytes}

@@ -8,7 +8,7 @@ use Rattle.rulebook.specs.declared.State.{State}
 use Rattle.rulebook.specs.declared.State.the-variants.{Single, Pair, Trade}
 use Rattle.rulebook.specs.Waiting.{withState, bothMarked, staying, unmarked}
 use Rattle.rulebook.specs.Matching.{pairOf, arrive}
-use Rattle.rulebook.specs.Premise.{Each}
+use Rattle.plain.specs.Lists.{Each}
 use Rattle.rulebook.proofs.EveryCall.Items.{arrive-each}
 
 abbrev pub Half : Item → Type 0

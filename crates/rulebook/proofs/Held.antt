@@ -1,48 +1,15 @@
 -- One change of a balance changes what is held by the difference. Assumes nothing.
-use mathlib.Core.Path.{_≡_, refl, sym, ap, ap₂, _∙_}
+use mathlib.Core.Path.{_≡_, refl, sym, ap, _∙_}
 use mathlib.Core.Logic.{_≢_}
 use mathlib.Core.Bool.{true, false, and-false}
-use Prim.Native.Nat.{ℕ, zero, suc, _+_, _-_, _<_, _^_}
-use native.Mathlib.Nat.{not-suc-le-zero, add-comm}
-use native.Mathlib.Decide.{ℕ-discrete}
+use Prim.Native.Nat.{ℕ, _+_, _-_, _<_, _^_}
+use native.Mathlib.Nat.{add-comm}
 use native.Mathlib.Omega.{arith}
 use borrow.Author.Tests.{eq-eqb, ne-eqb}
-use Rattle.rulebook.specs.Ledger.{Holdings, sameAccount, counted, putBalance, sumBelow, held}
+use Rattle.plain.proofs.Sums.{sum-same, sum-differs}
+use Rattle.rulebook.specs.Ledger.{Holdings, sameAccount, counted, putBalance, held}
 use Rattle.rulebook.specs.declared.Account.{Account}
 use Rattle.rulebook.specs.Premise.{accountCount}
-
--- the same figures have the same sum
-pub sum-same : (n : ℕ) (f g : ℕ → ℕ) → ((j : ℕ) → j < n → g j ≡ f j) → sumBelow n g ≡ sumBelow n f
-unfolding sumBelow
-sum-same zero f g e = refl
-sum-same (suc n) f g e = ap₂ _+_ (sum-same n f g (λ j h. e j (omega arith))) (e n (omega arith))
-
-pub sum-zero : (n : ℕ) (f : ℕ → ℕ) → ((j : ℕ) → f j ≡ 0) → sumBelow n f ≡ 0
-unfolding sumBelow
-sum-zero zero f e = refl
-sum-zero (suc n) f e = omega (arith, sum-zero n f e, e n)
-
-pub sum-add : (n : ℕ) (f g : ℕ → ℕ) → sumBelow n (λ i. f i + g i) ≡ sumBelow n f + sumBelow n g
-unfolding sumBelow
-sum-add zero f g = refl
-sum-add (suc n) f g = omega (arith, sum-add n f g)
-
--- a change of one figure is a change of the sum
-pub sum-change :
-    (n i x y : ℕ) (f g : ℕ → ℕ) → i < n → ((j : ℕ) → j ≢ i → g j ≡ f j) → g i + x ≡ f i + y → sumBelow n g + x ≡ sumBelow n f + y
-unfolding sumBelow
-sum-change zero i x y f g h e d = absurd (not-suc-le-zero h)
-sum-change (suc n) i x y f g h e d = go (ℕ-discrete i n) (λ l. sum-change n i x y f g l e d)
-  where
-    go : Dec (i ≡ n) → (i < n → sumBelow n g + x ≡ sumBelow n f + y) → sumBelow n g + g n + x ≡ sumBelow n f + f n + y
-    go (yes p) earlier =
-        let s : sumBelow n g ≡ sumBelow n f = sum-same n f g (λ j l. e j (λ q. absurd (omega arith))) in
-        let d′ : g n + x ≡ f n + y = rw p at d in
-        omega arith
-    go (no p) earlier =
-        let s : sumBelow n g + x ≡ sumBelow n f + y = earlier (omega arith) in
-        let d′ : g n ≡ f n = e n (λ q. p (sym q)) in
-        omega arith
 
 -- the account of four numbers
 abbrev at : (security member typ shareholder : ℕ) → Account
@@ -85,10 +52,10 @@ module _ (h : Holdings) (a : Account) (v : ℕ) where
       a.member < 2 ^ 10 → a.typ < 2 ^ 8 → a.shareholder < 2 ^ 30 → held a.security (putBalance a v h) + h.balance a ≡ held a.security h + v
   unfolding held
   held-put m t k =
-      sum-change (2 ^ 10) a.member (h.balance a) v _ _ m
+      sum-differs (2 ^ 10) a.member (h.balance a) v _ _ m
       (λ j p. sum-same (2 ^ 8) _ _ (λ i _. sum-same (2 ^ 30) _ _ (λ l _. put-other _ (other-member a a.security j i l p))))
-      (sum-change (2 ^ 8) a.typ (h.balance a) v _ _ t (λ j p. sum-same (2 ^ 30) _ _ (λ l _. put-other _ (other-type a a.security a.member j l p)))
-      (sum-change (2 ^ 30) a.shareholder (h.balance a) v _ _ k (λ j p. put-other _ (other-shareholder a a.security a.member a.typ j p))
+      (sum-differs (2 ^ 8) a.typ (h.balance a) v _ _ t (λ j p. sum-same (2 ^ 30) _ _ (λ l _. put-other _ (other-type a a.security a.member j l p)))
+      (sum-differs (2 ^ 30) a.shareholder (h.balance a) v _ _ k (λ j p. put-other _ (other-shareholder a a.security a.member a.typ j p))
       (ap (λ (n : ℕ). n + h.balance a) put-same ∙ add-comm v (h.balance a))))
 
   -- the held counts of other securities stay
@@ -103,12 +70,12 @@ module _ (h : Holdings) (a : Account) (v : ℕ) where
       → accountCount (putBalance a v h) + counted (h.balance a) ≡ accountCount h + counted v
   unfolding accountCount
   count-put s m t k =
-      sum-change (2 ^ 14) a.security old new _ _ s
+      sum-differs (2 ^ 14) a.security old new _ _ s
       (λ j p. sum-same (2 ^ 10) _ _ (λ m _. sum-same (2 ^ 8) _ _ (λ t _. sum-same (2 ^ 30) _ _ (λ l _. same _ (other-security a j m t l p)))))
-      (sum-change (2 ^ 10) a.member old new _ _ m
+      (sum-differs (2 ^ 10) a.member old new _ _ m
       (λ j p. sum-same (2 ^ 8) _ _ (λ i _. sum-same (2 ^ 30) _ _ (λ l _. same _ (other-member a a.security j i l p))))
-      (sum-change (2 ^ 8) a.typ old new _ _ t (λ j p. sum-same (2 ^ 30) _ _ (λ l _. same _ (other-type a a.security a.member j l p)))
-      (sum-change (2 ^ 30) a.shareholder old new _ _ k (λ j p. same _ (other-shareholder a a.security a.member a.typ j p))
+      (sum-differs (2 ^ 8) a.typ old new _ _ t (λ j p. sum-same (2 ^ 30) _ _ (λ l _. same _ (other-type a a.security a.member j l p)))
+      (sum-differs (2 ^ 30) a.shareholder old new _ _ k (λ j p. same _ (other-shareholder a a.security a.member a.typ j p))
       (ap (λ (n : ℕ). counted n + old) (put-same h a v) ∙ add-comm new old))))
     where
       old : ℕ

@@ -34,8 +34,7 @@ pub mod Cancelling
 pub mod Within
 -- WHAT THESE REST ON
 
--- lists, account types, sums over accounts, securities, rows that are read back, what movements do to sums
-pub mod Lists
+-- account types, sums over accounts, securities, rows that are read back, what movements do to sums
 -- a test on every number below another: a table's rule by one computed test
 pub mod Below
 pub mod Types

@@ -12,7 +12,7 @@ use borrow.Author.Tests.{eqb-true, leb-true, leb-false, ltb-false, not-false}
 use Rattle.bits.specs.Bits.{leading, field}
 use Rattle.rulebook.specs.declared.Order.{Order}
 use Rattle.rulebook.specs.declared.Read.{Read}
-use Rattle.rulebook.specs.Lists.{if_then_else_, _is_, _isNot_, _below_, _atMost_, _oneOf_, within, some, first}
+use Rattle.plain.specs.Lists.{if_then_else_, _is_, _isNot_, _below_, _atMost_, _oneOf_, within, some, first}
 use Rattle.rulebook.specs.AccountTypes.{wrongTypes}
 use Rattle.rulebook.specs.Field as Field
 use Rattle.rulebook.specs.Field.{places, widths, ceiling, always, ruleIn}

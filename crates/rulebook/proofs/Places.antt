@@ -6,12 +6,12 @@ use Prim.Native.Nat.{ℕ, _+_, _-_, _≤_}
 use native.Mathlib.Omega.{arith}
 use borrow.Author.Tests.{eqb-true, eqb-false, ne-eqb}
 use Rattle.rulebook.specs.declared.Security.{Security}
-use Rattle.rulebook.specs.Lists.{if_then_else_, _is_, total}
+use Rattle.plain.specs.Lists.{if_then_else_, _is_, total}
+use Rattle.plain.proofs.Tests.{both}
 use Rattle.rulebook.specs.Ledger.{Holdings, sameAccount, outsideOf, putBalance, putCash, putSecurities, putOutside}
 use Rattle.rulebook.specs.declared.Account.{Account}
 use Rattle.rulebook.specs.Movements.{Place, account, type91, type90, cashOf, member0, Movement, move, credit, debit, credits, debits, booked, bookHas, putAt}
 use Rattle.rulebook.specs.Premise.{withCode}
-use Rattle.rulebook.proofs.Lists.{both}
 use Rattle.rulebook.proofs.Rounds.{same-eq}
 use Rattle.rulebook.proofs.Securities.{outs, changed, count-same, outs-one, outs-other}
 

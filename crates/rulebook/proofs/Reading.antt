@@ -1,6 +1,6 @@
 -- Posting rows that are written are read back, and count for the places of their movements. Assumes nothing.
 use mathlib.Core.Path.{_≡_, refl, ap, ap₂, _∙_}
-use mathlib.Core.Bool.{Bool, true, false, _&&_, _||_}
+use mathlib.Core.Bool.{false, _&&_, _||_}
 use mathlib.Core.List.{List, [], _∷_, _++_, append-assoc, append-nil}
 use Prim.Native.Nat.{ℕ, suc, _^_, _≤_, _<_}
 use native.Mathlib.Omega.{arith}
@@ -8,7 +8,8 @@ use borrow.Author.Tests.{ne-eqb}
 use lib.Dec.{lit<}
 use lib.ListN.{length}
 use lib.Seq.{take-at, drop-at}
-use Rattle.rulebook.specs.Lists.{if_then_else_, _is_, _oneOf_, total}
+use Rattle.plain.proofs.Tests.{neither}
+use Rattle.plain.specs.Lists.{if_then_else_, _is_, _oneOf_, total}
 use Rattle.bits.specs.Layout.{pack, cut, Fit}
 use Rattle.bits.proofs.Numbers.{length-bytes}
 use Rattle.bits.proofs.Packing.{values-back}
@@ -91,15 +92,10 @@ rows-back (m ∷ ms) rest f =
 
 -- a row names the place of its movement
 
-or-split : (x y : Bool) → (x || (y || false)) ≡ false → (x ≡ false) × (y ≡ false)
-or-split true y e = (cc, cc)
-or-split false true e = (refl, e)
-or-split false false e = (refl, refl)
-
 names-at : (credit n : ℕ) (q place : Place) → Proper q → names (postingOf credit q n) place ≡ isAt place q
 unfolding names postingOf sameAccount
 names-at k n (account b) (account a) f = simp (f .4)
-names-at k n (account b) (type91 s) f = simp (or-split (b.typ is 90) (b.typ is 91) (f .4) .1)
+names-at k n (account b) (type91 s) f = simp (neither (b.typ is 91) false (neither (b.typ is 90) (b.typ is 91 || false) (f .4) .1) .0)
 names-at k n (account b) (type90 s) f = refl
 names-at k n (account b) (cashOf m c) f = refl
 names-at k n (account b) (member0 c) f = refl

@@ -14,12 +14,12 @@ use Rattle.bits.proofs.Numbers.{length-bytes}
 use Rattle.bits.proofs.Packing.{values-back, bytes-back, take-bytes, pack-high}
 use Rattle.rulebook.specs.declared.Order.{Order}
 use Rattle.rulebook.specs.declared.Read.{Read}
-use Rattle.rulebook.specs.Lists.{_is_, _isNot_, _below_, within, some}
+use Rattle.plain.specs.Lists.{_is_, _isNot_, _below_, within, some}
+use Rattle.plain.proofs.Lists.{_and_}
 use Rattle.rulebook.specs.Field as Field
 use Rattle.rulebook.specs.Field.{places, widths, ceiling, always}
 use Rattle.rulebook.specs.Forms.{Form, forms, used, least, most}
 use Rattle.rulebook.specs.Record.{fieldsOf, orderOf, unusedNotZero, usedOutOfRange, fieldTests, fieldsIn, readRefusal, readOf, recordOf, writeRefusal}
-use Rattle.rulebook.proofs.Lists.{_and_}
 use Rattle.rulebook.proofs.ByCall.{by-test}
 use Rattle.rulebook.proofs.Checking.{none-applies}
 use Rattle.rulebook.proofs.Orders.{none-at, most-ceiling, in-range, is-zero, read-is, Passed, read-tests}

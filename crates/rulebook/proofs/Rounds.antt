@@ -9,12 +9,12 @@ use lib.Dec.{eqb}
 use lib.ListN.{length}
 use Rattle.rulebook.specs.declared.Account.{Account}
 use Rattle.rulebook.specs.declared.Item.{Item}
-use Rattle.rulebook.specs.Lists.{if_then_else_, _is_, _isNot_, _atMost_, some, total, keep}
+use Rattle.plain.specs.Lists.{if_then_else_, _is_, _isNot_, _atMost_, some, total, keep, Each}
+use Rattle.plain.proofs.Tests.{both}
+use Rattle.plain.proofs.Lists.{keep-split, total-map, length-total, each-map, each-kept}
 use Rattle.rulebook.specs.Ledger.{Ledger, Holdings, sameAccount}
 use Rattle.rulebook.specs.Waiting.{isTrade}
 use Rattle.rulebook.specs.Cycle.{Marked, due, taken, over, seller, sharesTaken, sharesBrought, cashTaken, cashBrought, takesShares, takesCash, sharesMissing, cashMissing, debitsShort, anyShort, dropLast, rounds, settlingOf, settling, withMark, withoutMark, settled, notSettled}
-use Rattle.rulebook.specs.Premise.{Each}
-use Rattle.rulebook.proofs.Lists.{both, keep-split, total-map, length-total, each-map, each-kept}
 
 -- ---- nothing is short at the end
 

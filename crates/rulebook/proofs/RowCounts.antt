@@ -6,7 +6,8 @@ use native.Mathlib.Omega.{arith}
 use lib.ListN.{length, length-map}
 use Rattle.rulebook.specs.declared.Item.{Item}
 use Rattle.rulebook.specs.declared.Order.{Order}
-use Rattle.rulebook.specs.Lists.{keep}
+use Rattle.plain.specs.Lists.{keep}
+use Rattle.plain.proofs.Lists.{_and_, keep-length}
 use Rattle.rulebook.specs.Ledger.{Ledger}
 use Rattle.rulebook.specs.Movements.{Movement}
 use Rattle.rulebook.specs.Rows.{postingRows}
@@ -16,7 +17,6 @@ use Rattle.rulebook.specs.Close.{leaves}
 use Rattle.rulebook.specs.Forms.{outcome, moving, silent, openDay, admit, deposit, withdraw, transfer, payIn, payOut, instruct, trade, cancel, cycle, close, forms, effect}
 use Rattle.rulebook.specs.Premise.{Sizes}
 use Rattle.rulebook.proofs.ByCall.{Effect, AllForms, by-form}
-use Rattle.rulebook.proofs.Lists.{_and_, keep-length}
 use Rattle.rulebook.proofs.Rounds.{cycle-length}
 
 pub posting-length : (ms : List Movement) → length (postingRows ms) ≡ 2 * length ms

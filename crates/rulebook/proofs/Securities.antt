@@ -6,11 +6,11 @@ use Prim.Native.Nat.{ℕ, _+_, _≤_}
 use native.Mathlib.Omega.{arith}
 use borrow.Author.Tests.{eqb-true}
 use Rattle.rulebook.specs.declared.Security.{Security}
-use Rattle.rulebook.specs.Lists.{if_then_else_, _is_, some, total}
+use Rattle.plain.specs.Lists.{if_then_else_, _is_, some, total}
+use Rattle.plain.proofs.Lists.{total-append, total-map}
 use Rattle.rulebook.specs.Ledger.{Holdings, issuedOf, putBalance, putCash, putSecurities, putOutside}
 use Rattle.rulebook.specs.Movements.{Movement, booked}
 use Rattle.rulebook.specs.Premise.{withCode}
-use Rattle.rulebook.proofs.Lists.{total-append, total-map}
 use Rattle.rulebook.proofs.Booking.{booked-puts}
 
 -- the outside counts of a code

@@ -6,9 +6,11 @@ use Prim.Native.Nat.{ℕ, zero, suc, _+_, _-_, _≤_}
 use native.Mathlib.Omega.{arith}
 use borrow.Author.Tests.{ltb-false, le-ltb, ne-eqb}
 use lib.ListN.{length, length-map}
+use Rattle.plain.proofs.Tests.{neither}
 use Rattle.rulebook.specs.declared.Item.{Item}
 use Rattle.rulebook.specs.declared.Order.{Order}
-use Rattle.rulebook.specs.Lists.{if_then_else_, _is_, _below_, _oneOf_, total, keep}
+use Rattle.plain.specs.Lists.{if_then_else_, _is_, _below_, _oneOf_, total, keep}
+use Rattle.plain.proofs.Lists.{_and_, keep-length}
 use Rattle.rulebook.specs.Ledger.{Ledger, Holdings, fresh, counted, putBalance, putCash, putSecurities, putOutside, putDay, putHoldings, putWaiting}
 use Rattle.rulebook.specs.Movements.{Place, account, type91, type90, cashOf, member0, Movement, credit, debit, credits, debits, booked}
 use Rattle.rulebook.specs.Waiting.{senderOf, marking, staying, unmarked}
@@ -19,7 +21,6 @@ use Rattle.rulebook.specs.Refusals.{noSpace}
 use Rattle.rulebook.specs.Premise.{Sizes}
 use Rattle.rulebook.proofs.ByCall.{Effect, AllForms, by-form}
 use Rattle.rulebook.proofs.Booking.{booked-puts}
-use Rattle.rulebook.proofs.Lists.{_and_, keep-length}
 use Rattle.rulebook.proofs.Rounds.{cycle-length}
 
 pub fresh-sizes : Sizes fresh
@@ -29,9 +30,7 @@ fresh-sizes = record { securities = omega arith; items = omega arith; accounts =
 -- refusal 18 is that test, on the book that the effect leaves
 
 three : (x y z : Bool) → (x || y || z) ≡ false → (x ≡ false) × (y ≡ false) × (z ≡ false)
-three true y z e = absurd (false≢true (sym e))
-three false true z e = absurd (false≢true (sym e))
-three false false z e = (refl, refl, e)
+three x y z e = let last = neither (x || y) z e in let front = neither x y (last .0) in (front .0, front .1, last .1)
 
 pub space-sizes : (b : Ledger) (o : Order) → noSpace b o ≡ false → Sizes (effect b o .after)
 unfolding noSpace

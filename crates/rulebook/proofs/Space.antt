@@ -10,7 +10,7 @@ use Rattle.rulebook.specs.declared.Item.{Item}
 use Rattle.rulebook.specs.declared.Order.{Order}
 use Rattle.rulebook.specs.declared.Security.{Security}
 use Rattle.rulebook.specs.declared.State.the-variants.{Single, Trade}
-use Rattle.rulebook.specs.Lists.{if_then_else_, _is_, _isNot_, _below_, _oneOf_, some}
+use Rattle.plain.specs.Lists.{if_then_else_, _is_, _isNot_, _below_, _oneOf_, some}
 use Rattle.rulebook.specs.Ledger.{Ledger, accountOf, sameAccount, counted, putBalance, putSecurities, putOutside, putHoldings, putWaiting}
 use Rattle.rulebook.specs.declared.Account.{Account}
 use Rattle.rulebook.specs.Movements.{account, type91, type90, move, credit, debit, credits, debits, booked}

@@ -11,15 +11,15 @@ use native.Mathlib.Omega.{arith}
 use lib.ListN.{length}
 use Rattle.rulebook.specs.declared.Order.{Order}
 use Rattle.rulebook.specs.declared.Read.{Read}
-use Rattle.rulebook.specs.Lists.{_is_, _oneOf_, first}
+use Rattle.plain.specs.Lists.{_is_, _oneOf_, first, Each}
+use Rattle.plain.proofs.Lists.{_and_}
 use Rattle.rulebook.specs.Record.{readOf}
 use Rattle.rulebook.specs.Ledger.{Ledger, Holdings, putDay, putWaiting, putSecurities}
 use Rattle.rulebook.specs.Movements.{booked, credits, debits, bookHas}
 use Rattle.rulebook.specs.Rows.{postingRows}
 use Rattle.rulebook.specs.Forms.{Outcome, outcome, counts, silent, openDay, instruct, trade, cancel, close, forms, rowOf, effect}
 use Rattle.rulebook.specs.Refusals.{refusals}
-use Rattle.rulebook.specs.Premise.{Each, Premise}
-use Rattle.rulebook.proofs.Lists.{_and_}
+use Rattle.rulebook.specs.Premise.{Premise}
 use Rattle.rulebook.proofs.ByCall.{AllForms, not-read, by-form}
 use Rattle.rulebook.proofs.Orders.{accepted}
 use Rattle.rulebook.proofs.Steps.OneCall.{writesAt, Figures, admits-none, Step, Steps}

@@ -6,11 +6,12 @@ use mathlib.Core.List.{List, [], _∷_}
 use Prim.Native.Nat.{ℕ, _+_, _-_, _≤_, _<_, _^_}
 use native.Mathlib.Omega.{arith}
 use borrow.Author.Tests.{eqb-true, eqb-false, eq-eqb, ne-eqb}
-use Rattle.rulebook.specs.Lists.{if_then_else_, _is_, total}
-use Rattle.rulebook.specs.Ledger.{Holdings, fresh, sumBelow, sameAccount, putBalance, cashTotal, held}
+use Rattle.plain.specs.Lists.{if_then_else_, _is_, total, sumBelow}
+use Rattle.plain.proofs.Sums.{sum-same, sum-none, sum-add, sum-differs}
+use Rattle.rulebook.specs.Ledger.{Holdings, fresh, sameAccount, putBalance, cashTotal, held}
 use Rattle.rulebook.specs.declared.Account.{Account}
 use Rattle.rulebook.specs.Movements.{Place, account, type91, type90, cashOf, member0, Movement, bookHas}
-use Rattle.rulebook.proofs.Held.{sum-same, sum-zero, sum-add, sum-change, held-put, held-put-other}
+use Rattle.rulebook.proofs.Held.{held-put, held-put-other}
 use Rattle.rulebook.proofs.Places.{isAt, brought, taken}
 use Rattle.rulebook.proofs.Reading.{Proper, AllProper}
 
@@ -41,7 +42,7 @@ module _ (s : ℕ) where
   over-same f g e = sum-same (2 ^ 10) _ _ (λ m _. sum-same (2 ^ 8) _ _ (λ t _. sum-same (2 ^ 30) _ _ (λ k _. e _)))
 
   over-zero : (f : Account → ℕ) → ((a : Account) → f a ≡ 0) → overAccounts f ≡ 0
-  over-zero f e = sum-zero (2 ^ 10) _ (λ m. sum-zero (2 ^ 8) _ (λ t. sum-zero (2 ^ 30) _ (λ k. e _)))
+  over-zero f e = sum-none (2 ^ 10) _ (λ m _. sum-none (2 ^ 8) _ (λ t _. sum-none (2 ^ 30) _ (λ k _. e _)))
 
   over-add : (f g : Account → ℕ) → overAccounts (λ a. f a + g a) ≡ overAccounts f + overAccounts g
   over-add f g =
@@ -124,30 +125,30 @@ spread-cash : (m c c′ k : ℕ) → 1 ≤ m → m ≤ 64 → sumBelow 64 (λ n.
 spread-cash m c c′ k l u = go (c′ is c) refl
   where
     go : (t : Bool) → (c′ is c) ≡ t → sumBelow 64 (λ n. if m is (n + 1) && c′ is c then k else 0) ≡ (if c′ is c then k else 0)
-    go false e = simp (e, and-false) (sum-zero 64 _ (λ j. refl))
+    go false e = simp (e, and-false) (sum-none 64 _ (λ j _. refl))
     go true e =
         let g : ℕ → ℕ = λ n. if m is (n + 1) && true then k else 0 in
         let at : g (m - 1) ≡ k = simp (eq-eqb m (m - 1 + 1) (omega arith)) in
         let off : (j : ℕ) → j ≢ m - 1 → g j ≡ 0 = λ j p. simp (ne-eqb m (j + 1) (λ q. p (omega arith))) in
-        let s = sum-change 64 (m - 1) 0 k (λ n. 0) g (omega arith) off (omega (arith, at)) in
-        let z = sum-zero 64 (λ n. 0) (λ j. refl) in
+        let s = sum-differs 64 (m - 1) 0 k (λ n. 0) g (omega arith) off (omega (arith, at)) in
+        let z = sum-none 64 (λ n. 0) (λ j _. refl) in
         simp e (omega (arith, s, z))
 
 spread-to : (c : ℕ) (q : Place) (k : ℕ) → Proper q → sumBelow 64 (λ n. if isAt (cashOf (n + 1) c) q then k else 0) ≡ intoCash c q k
-spread-to c (account a) k f = sum-zero 64 _ (λ j. refl)
-spread-to c (type91 s) k f = sum-zero 64 _ (λ j. refl)
-spread-to c (type90 s) k f = sum-zero 64 _ (λ j. refl)
+spread-to c (account a) k f = sum-none 64 _ (λ j _. refl)
+spread-to c (type91 s) k f = sum-none 64 _ (λ j _. refl)
+spread-to c (type90 s) k f = sum-none 64 _ (λ j _. refl)
 spread-to c (cashOf m c′) k f = spread-cash m c c′ k (f .0) (f .1)
-spread-to c (member0 c′) k f = sum-zero 64 _ (λ j. refl)
+spread-to c (member0 c′) k f = sum-none 64 _ (λ j _. refl)
 
 brought-cash : (c : ℕ) (ms : List Movement) → AllProper ms → sumBelow 64 (λ n. brought (cashOf (n + 1) c) ms) ≡ cashInto c ms
-brought-cash c [] f = sum-zero 64 _ (λ j. refl)
+brought-cash c [] f = sum-none 64 _ (λ j _. refl)
 brought-cash c (m ∷ rest) f =
     sum-add 64 (λ n. if isAt (cashOf (n + 1) c) m.to then m.number else 0) (λ n. brought (cashOf (n + 1) c) rest)
     ∙ ap₂ _+_ (spread-to c m.to m.number (f .1)) (brought-cash c rest (f .3))
 
 taken-cash : (c : ℕ) (ms : List Movement) → AllProper ms → sumBelow 64 (λ n. taken (cashOf (n + 1) c) ms) ≡ cashOut c ms
-taken-cash c [] f = sum-zero 64 _ (λ j. refl)
+taken-cash c [] f = sum-none 64 _ (λ j _. refl)
 taken-cash c (m ∷ rest) f =
     sum-add 64 (λ n. if isAt (cashOf (n + 1) c) m.from then m.number else 0) (λ n. taken (cashOf (n + 1) c) rest)
     ∙ ap₂ _+_ (spread-to c m.from m.number (f .0)) (taken-cash c rest (f .3))
@@ -168,4 +169,4 @@ cash-exact ms h k f e c =
 
 pub none-paid : (c : ℕ) → cashTotal c (fresh .holdings) ≡ 0
 unfolding cashTotal fresh
-none-paid c = sum-zero 64 _ (λ n. refl)
+none-paid c = sum-none 64 _ (λ n _. refl)

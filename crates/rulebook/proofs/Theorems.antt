@@ -9,7 +9,7 @@ use lib.ListN.{length, take, drop}
 use lib.Seq.{take-at, take-append-le}
 use Rattle.bits.proofs.Numbers.{length-bytes}
 use Rattle.bits.specs.Bits.{bytes}
-use Rattle.rulebook.specs.Lists.{if_then_else_, _is_, some}
+use Rattle.plain.specs.Lists.{if_then_else_, _is_, some}
 use Rattle.rulebook.specs.Ledger.{Holdings}
 use Rattle.bits.specs.Layout.{pack}
 use Rattle.rulebook.specs.Field.{widths}

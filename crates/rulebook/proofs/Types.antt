@@ -5,10 +5,11 @@ use mathlib.Core.List.{List, [], _∷_}
 use Prim.Native.Nat.{ℕ, _<_, _^_}
 use native.Mathlib.Omega.{arith}
 use borrow.Author.Tests.{eqb-true}
-use Rattle.rulebook.specs.Lists.{_is_, _oneOf_}
+use Rattle.plain.specs.Lists.{_is_, _oneOf_, Each}
+use Rattle.plain.proofs.Tests.{both, or-cases}
+use Rattle.plain.proofs.Lists.{_and_}
 use Rattle.rulebook.specs.AccountTypes.{bookEntry, physical, free, alike, pledgePairs, blockPairs, listed, pledgedOrBlocked, wrongTypes}
-use Rattle.rulebook.specs.Premise.{Each, accountType}
-use Rattle.rulebook.proofs.Lists.{both, or-cases, _and_}
+use Rattle.rulebook.specs.Premise.{accountType}
 
 -- no type of 90 or 91, which rows use for counts
 abbrev pub Account·type : ℕ → Type 0

@@ -6,8 +6,8 @@ use mathlib.Core.List.{[], _∷_}
 use native.Mathlib.Omega.{arith}
 use borrow.Author.Tests.{eq-eqb, ne-eqb, eqb-false, le-leb, leb-true, leb-false, lt-leb}
 use lib.Dec.{leb}
-use Rattle.rulebook.specs.Lists.{_is_, _oneOf_, within}
-use Rattle.rulebook.proofs.Lists.{both}
+use Rattle.plain.specs.Lists.{_is_, _oneOf_, within}
+use Rattle.plain.proofs.Tests.{both}
 
 pub within-parts : (a b n : ℕ) → within a b n ≡ true → (a ≤ n) × (n ≤ b)
 within-parts a b n e = (leb-true a n (both (leb a n) (leb n b) e .0), leb-true n b (both (leb a n) (leb n b) e .1))

@@ -2,7 +2,7 @@
 use Prim.Native.Nat.{ℕ}
 use mathlib.Core.Bool.{Bool, not, _||_, _&&_}
 use mathlib.Core.List.{List, [], _∷_}
-use Rattle.rulebook.specs.Lists.{_is_, _oneOf_, some}
+use Rattle.plain.specs.Lists.{_is_, _oneOf_, some}
 
 -- RULES 5.1, 5.2: the free types, by nature
 unfoldable pub bookEntry : List ℕ

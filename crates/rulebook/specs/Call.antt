@@ -3,7 +3,7 @@ use Prim.Native.Nat.{ℕ, _*_}
 use mathlib.Core.Bool.{Bool}
 use mathlib.Core.List.{List, _++_}
 use lib.ListN.{length, drop}
-use Rattle.rulebook.specs.Lists.{if_then_else_, _is_, _below_, first}
+use Rattle.plain.specs.Lists.{if_then_else_, _is_, _below_, first}
 use Rattle.rulebook.specs.Ledger.{Ledger, putDay, withMinute}
 use Rattle.rulebook.specs.Record.{readOf}
 use Rattle.rulebook.specs.Rows.{rowsBytes}

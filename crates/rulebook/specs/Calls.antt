@@ -5,7 +5,7 @@ use mathlib.Core.List.{List, [], _∷_, _++_}
 use mathlib.Core.Path.{_≡_}
 use lib.ListN.{take, drop}
 use lib.Dec.{T}
-use Rattle.rulebook.specs.Lists.{if_then_else_, _is_, _isNot_, _oneOf_, total}
+use Rattle.plain.specs.Lists.{if_then_else_, _is_, _isNot_, _oneOf_, total}
 use Rattle.rulebook.specs.AccountTypes.{pledgedOrBlocked}
 use Rattle.rulebook.specs.Record.{readOf}
 use Rattle.rulebook.specs.Ledger.{Ledger, fresh, accountOf, sameAccount, issuedOf, outsideOf, cashTotal, held}

@@ -3,7 +3,7 @@ use Prim.Native.Nat.{ℕ}
 use mathlib.Core.Path.{_≡_}
 use mathlib.Core.Bool.{Bool}
 use mathlib.Core.List.{List, _∷_, _++_}
-use Rattle.rulebook.specs.Lists.{first}
+use Rattle.plain.specs.Lists.{first}
 use Rattle.rulebook.specs.Ledger.{Ledger}
 use Rattle.rulebook.specs.Record.{readTests, orderOf, fieldsIn}
 use Rattle.rulebook.specs.Refusals.{refusals}

@@ -1,7 +1,7 @@
 -- Which items leave at the close of a day (RULES 4.12).
 use Prim.Native.Nat.{ℕ, _+_}
 use mathlib.Core.Bool.{Bool}
-use Rattle.rulebook.specs.Lists.{if_then_else_, _is_, _isNot_, _atMost_, _oneOf_}
+use Rattle.plain.specs.Lists.{if_then_else_, _is_, _isNot_, _atMost_, _oneOf_}
 use mathlib.Core.List.{[], _∷_}
 use Rattle.rulebook.specs.Rows.{Row, notice, noticeOf}
 use Rattle.rulebook.specs.declared.Item.{Item}

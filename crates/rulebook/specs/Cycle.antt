@@ -5,7 +5,7 @@ use mathlib.Core.List.{List, [], _∷_, map}
 use mathlib.Core.Path.{_≡_}
 use lib.ListN.{length}
 use Rattle.rulebook.specs.declared.Account.{Account}
-use Rattle.rulebook.specs.Lists.{if_then_else_, _is_, _isNot_, _atMost_, some, total, keep}
+use Rattle.plain.specs.Lists.{if_then_else_, _is_, _isNot_, _atMost_, some, total, keep}
 use Rattle.rulebook.specs.declared.Item.{Item}
 use Rattle.rulebook.specs.Ledger.{Ledger, Holdings, accountOf, sameAccount}
 use Rattle.rulebook.specs.Movements.{account, cashOf, Movement, move}

@@ -2,7 +2,7 @@
 use Prim.Native.Nat.{ℕ, _-_, _^_}
 use mathlib.Core.List.{List, [], _∷_, _++_}
 use lib.ListN.{getD}
-use Rattle.rulebook.specs.Lists.{if_then_else_, _is_, _isNot_, _oneOf_, keep}
+use Rattle.plain.specs.Lists.{if_then_else_, _is_, _isNot_, _oneOf_, keep}
 
 -- RULES 2.1: the places of the fields, one behind the other
 abbrev pub form : ℕ

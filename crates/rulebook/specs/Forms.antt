@@ -4,7 +4,7 @@ use Prim.Native.String.{String}
 use mathlib.Core.Bool.{Bool, true, false, not}
 use mathlib.Core.List.{List, [], _∷_, _++_, map}
 use lib.ListN.{length, getD}
-use Rattle.rulebook.specs.Lists.{if_then_else_, _is_, keep, some}
+use Rattle.plain.specs.Lists.{if_then_else_, _is_, keep, some}
 use Rattle.rulebook.specs.Field.{Rule, from1, from1To, always, ruleIn, D, C, all, allBut, security, currency, debited-member, debited-type, credited-member, credited-type, quantity, amount, settlement-day, reference}
 use Rattle.rulebook.specs.Ledger.{Ledger, accountOf, putDay, putHoldings, putWaiting, putSecurities, oneMoreCycle, opening, closing}
 use Rattle.rulebook.specs.declared.Day.{Day}

@@ -1,8 +1,8 @@
 -- The book (RULES 3), and the day (RULES 4).
-use Prim.Native.Nat.{ℕ, zero, suc, _+_, _-_, _^_}
+use Prim.Native.Nat.{ℕ, _+_, _-_, _^_}
 use mathlib.Core.Bool.{Bool, true, false, _&&_}
 use mathlib.Core.List.{List, [], map}
-use Rattle.rulebook.specs.Lists.{if_then_else_, _is_, some, total}
+use Rattle.plain.specs.Lists.{if_then_else_, _is_, some, total, sumBelow}
 use Rattle.rulebook.specs.declared.Party.{Party}
 use Rattle.rulebook.specs.declared.Account.{Account}
 use Rattle.rulebook.specs.declared.Day.{Day}
@@ -102,11 +102,6 @@ issuedOf security h = total (λ s. if s.code is security then s.issued.0 else 0)
 
 unfoldable pub outsideOf : ℕ → Holdings → ℕ
 outsideOf security h = total (λ s. if s.code is security then s.outside.0 else 0) h.securities
-
--- the sum of a figure over the numbers below n
-unfoldable pub sumBelow : ℕ → (ℕ → ℕ) → ℕ
-sumBelow zero figure = 0
-sumBelow (suc n) figure = sumBelow n figure + figure n
 
 -- over all members
 unfoldable pub cashTotal : ℕ → Holdings → ℕ

@@ -1,5 +1,4 @@
 -- The rules (docs/RULES.md) as definitions, in the order in which they are read. `Theorems` states what is proved of them.
-pub mod Lists
 pub mod AccountTypes
 pub mod Field
 pub mod Ledger

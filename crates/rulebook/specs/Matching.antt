@@ -2,7 +2,7 @@
 use Prim.Native.Nat.{ℕ, _-_}
 use mathlib.Core.Bool.{Bool, false, _||_, _&&_}
 use mathlib.Core.List.{List, [], _∷_, _++_}
-use Rattle.rulebook.specs.Lists.{if_then_else_, _is_, _atMost_}
+use Rattle.plain.specs.Lists.{if_then_else_, _is_, _atMost_}
 use Rattle.rulebook.specs.declared.Item.{Item}
 use Rattle.rulebook.specs.declared.State.the-variants.{Pair}
 use Rattle.rulebook.specs.AccountTypes.{alike}

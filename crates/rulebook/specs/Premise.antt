@@ -1,12 +1,12 @@
 -- What the fresh book meets and every call keeps, as `Theorems` says: the one premise of a call, which no caller has to show (RULES 12.15 to 12.17).
 use Prim.Native.Nat.{ℕ, _+_, _≤_, _<_, _^_}
 use mathlib.Core.Bool.{Bool, true, false, _||_}
-use mathlib.Core.List.{List, [], _∷_}
+use mathlib.Core.List.{List}
 use mathlib.Core.Path.{_≡_}
 use lib.ListN.{length}
-use Rattle.rulebook.specs.Lists.{if_then_else_, _is_, total}
+use Rattle.plain.specs.Lists.{if_then_else_, _is_, total, Each, sumBelow}
 use Rattle.rulebook.specs.AccountTypes.{free, alike, pledgedOrBlocked}
-use Rattle.rulebook.specs.Ledger.{Holdings, Ledger, accountOf, sameAccount, counted, admitted, issuedOf, outsideOf, sumBelow, cashTotal, held}
+use Rattle.rulebook.specs.Ledger.{Holdings, Ledger, accountOf, sameAccount, counted, admitted, issuedOf, outsideOf, cashTotal, held}
 use Rattle.rulebook.specs.declared.Day.{Day}
 use Rattle.rulebook.specs.declared.Account.{Account}
 use Rattle.rulebook.specs.Windows.{cycleMinutes, officeEnd}
@@ -16,11 +16,6 @@ use Rattle.rulebook.specs.declared.Security.{Security}
 use Rattle.rulebook.specs.declared.Item.{Item}
 use Rattle.rulebook.specs.declared.State.{State}
 use Rattle.rulebook.specs.declared.State.the-variants.{Single, Pair, Trade}
-
--- each element of a list is such
-abbrev pub Each : {A : Type 0} → (A → Type 0) → List A → Type 0
-Each P [] = Unit {0}
-Each P (x ∷ rest) = P x × Each P rest
 
 -- RULES 3.1: the limits
 pub record Sizes (b : Ledger) : Type 0 where

@@ -3,7 +3,7 @@ use Prim.Native.Nat.{ℕ}
 use mathlib.Core.Bool.{Bool, not, _&&_}
 use mathlib.Core.List.{List, [], _∷_, _++_}
 use lib.ListN.{length, getD, drop}
-use Rattle.rulebook.specs.Lists.{if_then_else_, _is_, _isNot_, _below_, within, some, first}
+use Rattle.plain.specs.Lists.{if_then_else_, _is_, _isNot_, _below_, within, some, first}
 use Rattle.rulebook.specs.Field as Field
 use Rattle.rulebook.specs.Field.{places, widths}
 use Rattle.rulebook.specs.Forms.{forms, used, least, most}

@@ -2,7 +2,7 @@
 use Prim.Native.Nat.{ℕ}
 use mathlib.Core.List.{List, [], _∷_, _++_}
 use lib.ListN.{getD}
-use Rattle.rulebook.specs.Lists.{if_then_else_}
+use Rattle.plain.specs.Lists.{if_then_else_}
 use Rattle.bits.specs.Bits.{bytes}
 use Rattle.bits.specs.Layout.{pack, cut}
 use Rattle.rulebook.specs.Movements.{Place, account, type91, type90, cashOf, member0, Movement}

@@ -2,7 +2,7 @@
 use Prim.Native.Nat.{ℕ}
 use mathlib.Core.Bool.{Bool, true, false, not, _||_, _&&_}
 use mathlib.Core.List.{List, map}
-use Rattle.rulebook.specs.Lists.{if_then_else_, _is_, total, keep}
+use Rattle.plain.specs.Lists.{if_then_else_, _is_, total, keep}
 use Rattle.rulebook.specs.declared.Order.{Order}
 use Rattle.rulebook.specs.declared.Item.{Item}
 use Rattle.rulebook.specs.declared.State.{State}

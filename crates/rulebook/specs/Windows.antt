@@ -2,7 +2,7 @@
 use Prim.Native.Nat.{ℕ}
 use mathlib.Core.List.{List, [], _∷_}
 use lib.ListN.{getD}
-use Rattle.rulebook.specs.Lists.{if_then_else_, _is_}
+use Rattle.plain.specs.Lists.{if_then_else_, _is_}
 use Rattle.rulebook.specs.declared.Day.{Day}
 use Rattle.rulebook.specs.declared.Order.{Order}
 

@@ -7,7 +7,7 @@ use native.Mathlib.Numerals.{add-one}
 use native.Mathlib.Omega.{arith}
 use lib.ListN.{length, getD, drop, drop-of-length-le}
 use lib.Seq.{drop-cons}
-use Rattle.rulebook.specs.Lists.{if_then_else_, some}
+use Rattle.plain.specs.Lists.{if_then_else_, some}
 use Rattle.words.specs.Places.{isFound}
 use Rattle.words.specs.declared.Found.the-variants.{At, Nothing}
 use Rattle.search.specs.Place.{placeFrom, placeIn}

@@ -10,18 +10,16 @@ use mathlib.Core.Path.{_≡_, refl, sym, ap, _∙_}
 use lib.ListN.{length, getD, set, length-set}
 use lib.Seq.{getD-set-same, getD-set-other}
 use borrow.Author.Tests.{eq-eqb, ne-eqb, eqb-true}
-use Rattle.rulebook.specs.Lists.{if_then_else_, _is_}
-use Rattle.rulebook.specs.Ledger.{Holdings, fresh, admitted, outsideOf, putOutside, putSecurities, sumBelow}
+use Rattle.plain.specs.Lists.{if_then_else_, _is_, sumBelow}
+use Rattle.plain.proofs.Sums.{sum-same, sum-none, sum-last}
+use Rattle.rulebook.specs.Ledger.{Holdings, fresh, admitted, outsideOf, putOutside, putSecurities}
 use Rattle.rulebook.specs.Movements.{credit, debit, type91}
-use Rattle.rulebook.specs.Premise.{withCode}
 use Rattle.rulebook.specs.declared.Security.{Security}
 use Rattle.words.specs.Places.{isFound, listFrom}
 use Rattle.words.specs.Tables.{rows, keyAt, placeOf, sumOf, valueOf, KeysOnce}
 use Rattle.words.specs.declared.Found.{Found}
 use Rattle.words.specs.declared.Found.the-variants.{At, Nothing}
 use Rattle.words.proofs.Places.{length-from, from-get, from-same, from-push, from-map, from-some, from-total}
-use Rattle.rulebook.proofs.Held.{sum-same}
-use Rattle.words.proofs.Sums.{sum-none, sum-last}
 use Rattle.words.proofs.Tables.{place-at, place-none, value-at, key-once}
 use Rattle.securities.specs.Admitted.{ISSUED, OUTSIDE, security, securityAt, securitiesOf, withSecurities, Kept}
 

@@ -3,7 +3,7 @@ use Prim.Native.Nat.{ℕ, _+_, _%_, _<_}
 use mathlib.Core.List.{List}
 use mathlib.Core.Path.{_≡_}
 use lib.ListN.{length, getD}
-use Rattle.rulebook.specs.Lists.{_is_}
+use Rattle.plain.specs.Lists.{_is_}
 use Rattle.legs.specs.Figures.{fromAt, lastBelow}
 use Rattle.legs.specs.Slots.{slotAt}
 

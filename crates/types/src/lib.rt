@@ -1,6 +1,6 @@
 // Account types, and the pairs of types between which shares may move.
 ghost use mathlib.Core.Path.{_≡_};
-ghost use Rattle.rulebook.specs.Lists.{_oneOf_};
+ghost use Rattle.plain.specs.Lists.{_oneOf_};
 ghost use Rattle.rulebook.specs.AccountTypes.{bookEntry, physical, free, alike, listed, pledgePairs, blockPairs};
 
 fn is_book_entry(typ: u64) -> bool

@@ -7,7 +7,7 @@ use native.Mathlib.Omega.{arith}
 use borrow.Author.Tests.{ne-eqb}
 use lib.ListN.{getD, drop}
 use lib.Seq.{getD-take, getD-drop}
-use Rattle.rulebook.specs.Lists.{if_then_else_, _is_}
+use Rattle.plain.specs.Lists.{if_then_else_, _is_}
 use Rattle.rulebook.specs.Waiting.{isDeliver, isReceive, sentBy}
 use Rattle.rulebook.specs.Matching.{agree, pairsWith}
 use Rattle.rulebook.specs.declared.Item.{Item}

@@ -1,5 +1,4 @@
--- Sums, lists by places, tables and regions of words.
-pub mod Sums
+-- Lists by places, tables and regions of words.
 pub mod Places
 pub mod Tables
 pub mod Regions

@@ -9,9 +9,8 @@ use lib.Dec.{eqb}
 use lib.ListN.{length, getD, set, drop-of-length-le}
 use borrow.Author.Tests.{eqb-true, eqb-false}
 use borrow.Rule.Slice.PartMut.{putMid}
-use Rattle.rulebook.specs.Lists.{if_then_else_, some, total}
-use Rattle.rulebook.specs.Ledger.{sumBelow}
-use Rattle.rulebook.proofs.Lists.{total-append}
+use Rattle.plain.specs.Lists.{if_then_else_, some, total, sumBelow}
+use Rattle.plain.proofs.Lists.{total-append}
 use Rattle.words.specs.Places.{isFound, firstFrom, listFrom, removeAt}
 use Rattle.words.specs.declared.Found.the-variants.{At, Nothing}
 

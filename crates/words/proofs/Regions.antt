@@ -10,7 +10,7 @@ use lib.ListN.{length, getD, set, take, drop, length-append, length-drop, take-a
 use lib.Seq.{length-take-le, take-at, drop-at, drop-drop, take-append-le, drop-append-le, paste, paste-zero, paste-suc, drop-paste, getD-take, getD-drop}
 use borrow.Author.Tests.{eqb-true, eqb-false, ltb-true, ltb-false}
 use borrow.Rule.Slice.PartMut.{putMid}
-use Rattle.rulebook.specs.Lists.{if_then_else_, _is_}
+use Rattle.plain.specs.Lists.{if_then_else_, _is_}
 use Rattle.words.specs.Regions.{startOf, whole, region, putRegion}
 
 -- ---- a part of a list, k elements from a on, after another part was put in

@@ -6,13 +6,13 @@ use mathlib.Core.List.{List}
 use mathlib.Core.Path.{_≡_, refl, ap, _∙_}
 use lib.ListN.{getD}
 use borrow.Author.Tests.{eq-eqb, ne-eqb, eqb-true}
-use Rattle.rulebook.specs.Lists.{if_then_else_, _is_}
+use Rattle.plain.specs.Lists.{if_then_else_, _is_}
+use Rattle.plain.proofs.Sums.{sum-none, one-passes, sum-one}
 use Rattle.words.specs.Places.{firstFrom}
 use Rattle.words.specs.Tables.{rows, keyAt, isKey, placeOf, sumOf, valueOf, KeysOnce}
 use Rattle.words.specs.declared.Found.{Found}
 use Rattle.words.specs.declared.Found.the-variants.{At, Nothing}
 use Rattle.words.proofs.Places.{hit, miss, first-next}
-use Rattle.words.proofs.Sums.{sum-none, one-passes, sum-one}
 
 module _ (table : List ℕ) (key : ℕ) where
   pub place-at : (j : ℕ) → placeOf key table ≡ At j → (j < rows table) × (keyAt table j ≡ key)

@@ -3,8 +3,7 @@ use Prim.Native.Nat.{ℕ, _+_, _≤_}
 use mathlib.Core.Bool.{Bool}
 use mathlib.Core.List.{List}
 use lib.ListN.{getD}
-use Rattle.rulebook.specs.Lists.{if_then_else_, _is_}
-use Rattle.rulebook.specs.Ledger.{sumBelow}
+use Rattle.plain.specs.Lists.{if_then_else_, _is_, sumBelow}
 use Rattle.words.specs.Places.{firstFrom}
 use Rattle.words.specs.declared.Found.{Found}
 

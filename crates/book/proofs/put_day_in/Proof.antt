@@ -5,7 +5,7 @@ use mathlib.Core.Path.{_≡_, sym, subst}
 use mathlib.Core.List.{List}
 use borrow.Author.Needs.{needs}
 use lib.ListN.{getD}
-use Rattle.rulebook.specs.Lists.{_is_}
+use Rattle.plain.specs.Lists.{_is_}
 use Rattle.words.specs.Places.{bit}
 use Rattle.book.specs.Meaning.{dayIn}
 use Rattle.book.proofs.put_day_in.Statement.{statement}

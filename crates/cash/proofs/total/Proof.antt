@@ -3,7 +3,7 @@ use mathlib.Core.Path.{_≡_, ap, _∙_}
 use Prim.Native.Nat.{ℕ, _+_, _-_, _≤_}
 use borrow.Author.Needs.{needs}
 use native.Mathlib.Omega.{arith}
-use Rattle.rulebook.specs.Ledger.{sumBelow}
+use Rattle.plain.specs.Lists.{sumBelow}
 use Rattle.cash.specs.Amounts.{amountOf, totalIn}
 use Rattle.cash.proofs.StoredCash.{total-none, total-more, total-fits}
 use Rattle.cash.proofs.total.Statement.{statement}

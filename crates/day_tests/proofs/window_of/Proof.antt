@@ -4,7 +4,7 @@ use mathlib.Core.Path.{_≡_, sym, _∙_}
 use borrow.Author.Needs.{needs}
 use borrow.Author.Tests.{eq-eqb, ne-eqb}
 use lib.ListN.{getD}
-use Rattle.rulebook.specs.Lists.{_is_, within}
+use Rattle.plain.specs.Lists.{_is_, within}
 use Rattle.rulebook.specs.Windows.{byKind, officeEnd, cycleMinutes}
 use Rattle.day_tests.specs.Window.{paymentEnd}
 use Rattle.day_tests.proofs.Windows.{picked}

@@ -5,7 +5,7 @@ use mathlib.Core.List.{List, [], _∷_, _++_, map}
 use Prim.Native.Nat.{ℕ}
 use borrow.Author.Needs.{needs}
 use borrow.Author.Tests.{ne-eqb, eqb-true}
-use Rattle.rulebook.specs.Lists.{_is_, _isNot_, some}
+use Rattle.plain.specs.Lists.{_is_, _isNot_, some}
 use Rattle.rulebook.specs.Field.{places, widths, ceiling, always, ruleIn}
 use Rattle.rulebook.specs.Forms.{Form, forms, rowOf, most}
 use Rattle.rulebook.proofs.ByCall.{by-test}

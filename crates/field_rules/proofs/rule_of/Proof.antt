@@ -6,7 +6,7 @@ use native.Mathlib.Omega.{arith}
 use borrow.Author.Needs.{needs}
 use borrow.Author.Tests.{eqb-true, eqb-false, lt-leb}
 use lib.ListN.{length}
-use Rattle.rulebook.specs.Lists.{_is_, _isNot_, within}
+use Rattle.plain.specs.Lists.{_is_, _isNot_, within}
 use Rattle.rulebook.specs.Field.{places}
 use Rattle.rulebook.specs.Forms.{forms, rowOf, used, least}
 use Rattle.field_rules.specs.declared.Rule.{Rule}

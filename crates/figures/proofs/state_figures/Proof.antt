@@ -3,7 +3,7 @@ use Prim.Native.Nat.{ℕ, _-_}
 use mathlib.Core.Bool.{Bool, true, false}
 use mathlib.Core.Path.{_≡_, refl, sym, ap, _∙_}
 use borrow.Author.Needs.{needs}
-use Rattle.rulebook.specs.Lists.{if_then_else_}
+use Rattle.plain.specs.Lists.{if_then_else_}
 use Rattle.words.specs.Places.{bit}
 use Rattle.figures.specs.Figures.{stateFigures}
 use Rattle.figures.specs.declared.StateFigures.{StateFigures}

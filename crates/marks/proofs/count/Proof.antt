@@ -2,9 +2,8 @@
 use mathlib.Core.Path.{_≡_, ap, _∙_}
 use Prim.Native.Nat.{ℕ, _-_, _≤_}
 use native.Mathlib.Omega.{arith}
-use Rattle.rulebook.specs.Ledger.{sumBelow}
-use Rattle.rulebook.specs.Lists.{if_then_else_}
-use Rattle.words.proofs.Sums.{sum-last}
+use Rattle.plain.specs.Lists.{sumBelow, if_then_else_}
+use Rattle.plain.proofs.Sums.{sum-last}
 use Rattle.marks.specs.Marks.{isOn, countOn}
 use Rattle.marks.proofs.Masks.{on-counts}
 use Rattle.marks.proofs.count.Statement.{statement}

@@ -5,7 +5,7 @@ use mathlib.Core.Bool.{true}
 use native.Mathlib.Omega.{arith}
 use borrow.Author.Needs.{needs}
 use borrow.Author.Tests.{le-leb}
-use Rattle.rulebook.specs.Lists.{within}
+use Rattle.plain.specs.Lists.{within}
 use Rattle.rulebook.specs.Ranges.{AccountInRange}
 use Rattle.book.specs.Meaning.{ledgerOf}
 use Rattle.checking.proofs.Orders.{debited-named, credited-named, some-quantity}

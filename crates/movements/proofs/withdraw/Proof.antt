@@ -4,7 +4,7 @@ use mathlib.Core.Path.{_≡_, refl, sym, subst}
 use mathlib.Core.Bool.{true}
 use native.Mathlib.Omega.{arith}
 use borrow.Author.Needs.{needs}
-use Rattle.rulebook.specs.Lists.{within}
+use Rattle.plain.specs.Lists.{within}
 use Rattle.rulebook.specs.Movements.{account, type91}
 use Rattle.rulebook.specs.Rows.{postingRows, postingOf}
 use Rattle.rulebook.specs.Forms.{withdraw}

@@ -9,7 +9,7 @@ use native.Mathlib.Numerals.{add-one}
 use native.Mathlib.Omega.{arith}
 use borrow.Author.Needs.{needs}
 use borrow.Author.Tests.{eq-eqb, ne-eqb}
-use Rattle.rulebook.specs.Lists.{if_then_else_, _is_}
+use Rattle.plain.specs.Lists.{if_then_else_, _is_}
 use Rattle.one_bit.specs.Changes.{answerTo, countOf}
 use Rattle.one_bit.proofs.count_of.Statement.{statement}
 use Rattle.one_bit.proofs.count_of.Tie as tie

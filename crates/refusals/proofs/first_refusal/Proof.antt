@@ -4,7 +4,7 @@ use mathlib.Core.Path.{_≡_, sym, ap, _∙_}
 use mathlib.Core.Bool.{Bool}
 use mathlib.Core.List.{List, _++_}
 use native.Mathlib.Omega.{arith}
-use Rattle.rulebook.specs.Lists.{first}
+use Rattle.plain.specs.Lists.{first}
 use Rattle.rulebook.specs.Ledger.{Ledger}
 use Rattle.rulebook.specs.Refusals.{refusals, dayTests, orderTests, itemTests, roomTests}
 use Rattle.rulebook.specs.declared.Day.{Day}

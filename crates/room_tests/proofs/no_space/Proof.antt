@@ -3,7 +3,7 @@ use Prim.Native.Nat.{_≤_}
 use mathlib.Core.Path.{_≡_, sym, subst, _∙_}
 use mathlib.Core.Bool.{true, and-true}
 use native.Mathlib.Omega.{arith}
-use borrow.Author.Tests.{ne-eqb}
+use borrow.Author.Tests.{ne-eqb, not-false}
 use borrow.Author.Needs.{needs}
 use Rattle.book.specs.Meaning.{ledgerOf}
 use Rattle.rulebook.specs.Ledger.{Ledger}
@@ -15,7 +15,7 @@ use Rattle.rulebook.specs.Ranges.{AccountInRange}
 use Rattle.search.proofs.Found.{not-true}
 use Rattle.rulebook.proofs.Within.{within-parts}
 use Rattle.rulebook.proofs.Within.{wider, instruction}
-use Rattle.room_tests.proofs.Roomy.{not-false, roomy, last}
+use Rattle.room_tests.proofs.Roomy.{roomy, last}
 use Rattle.checking.proofs.Orders.{ranges, debited-named, credited-named, some-quantity}
 use Rattle.room_tests.proofs.no_space.Statement.{statement}
 use Rattle.room_tests.proofs.no_space.Tie as tie

@@ -6,7 +6,7 @@ use Prim.Native.Nat.{ℕ, _+_, _*_}
 use native.Mathlib.Omega.{arith}
 use lib.ListN.{length, drop}
 use Rattle.rulebook.specs.declared.Order.{Order}
-use Rattle.rulebook.specs.Lists.{total}
+use Rattle.plain.specs.Lists.{total}
 use Rattle.rulebook.specs.Ledger.{Ledger, fresh, outsideOf}
 use Rattle.rulebook.specs.Movements.{Place, account, type91, type90, cashOf, member0, bookHas}
 use Rattle.rulebook.specs.Rows.{postingRows, rowsBytes}

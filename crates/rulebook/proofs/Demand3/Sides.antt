@@ -4,7 +4,8 @@ use mathlib.Core.Bool.{Bool, true, false, not, _&&_, _||_, false≢true}
 use mathlib.Core.List.{List, [], _∷_, map}
 use Prim.Native.Nat.{ℕ, zero, suc, _+_, _≤_, zero-le}
 use Rattle.rulebook.specs.Calls.{Call, Made, callsOn, bookAfter, Accepted, acceptedCalls, sum, sidesTaken, sidesSettled, sidesCancelled, sidesDeleted, sidesSuspended}
-use Rattle.rulebook.proofs.Lists.{_and_, keep-split, total-append, total-map}
+use Rattle.plain.proofs.Lists.{_and_, keep-split, total-append, total-map}
+use Rattle.plain.specs.Lists.{if_then_else_, _is_, _atMost_, keep, total}
 use Rattle.rulebook.proofs.Rounds.{cycle-total}
 use Rattle.rulebook.proofs.ByCall.{Effect, AllForms, by-form, by-call}
 use Rattle.rulebook.specs.Call.{putMinute}
@@ -13,7 +14,6 @@ use Rattle.rulebook.specs.declared.Item.{Item}
 use Rattle.rulebook.specs.declared.Order.{Order}
 use Rattle.rulebook.specs.declared.State.{State}
 use Rattle.rulebook.specs.declared.State.the-variants.{Single, Pair, Trade}
-use Rattle.rulebook.specs.Lists.{if_then_else_, _is_, _atMost_, keep, total}
 use Rattle.rulebook.specs.Ledger.{Ledger, fresh, putDay, putHoldings, putWaiting}
 use Rattle.rulebook.specs.Waiting.{sidesOf, sides, isDeliver, isReceive, itemOf, senderOf, withState, marked, marking, cancelled, staying, unmarked, sentBy}
 use Rattle.rulebook.specs.Matching.{tolerance, pairsWith, pairOf, arrive}

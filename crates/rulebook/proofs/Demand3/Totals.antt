@@ -7,7 +7,7 @@ use native.Mathlib.Omega.{arith}
 use lib.Dec.{T}
 use Rattle.rulebook.specs.declared.Order.{Order}
 use Rattle.rulebook.specs.declared.Read.{Read}
-use Rattle.rulebook.specs.Lists.{first}
+use Rattle.plain.specs.Lists.{first}
 use Rattle.rulebook.specs.AccountTypes.{pledgedOrBlocked}
 use Rattle.rulebook.specs.Record.{readOf}
 use Rattle.rulebook.specs.Ledger.{Holdings, Ledger, fresh, cashTotal, issuedOf, putDay, held}

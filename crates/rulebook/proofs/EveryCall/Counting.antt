@@ -8,7 +8,8 @@ use Rattle.rulebook.specs.Ledger.{Holdings, Ledger, fresh, counted, putC
 use Rattle.rulebook.specs.Movements.{Place, account, type91, type90, cashOf, member0, Movement, credit, debit, putAt}
 use Rattle.rulebook.specs.Forms.{Outcome}
 use Rattle.rulebook.specs.Premise.{accountCount}
-use Rattle.rulebook.proofs.Held.{sum-zero, accounts-put}
+use Rattle.plain.proofs.Sums.{sum-none}
+use Rattle.rulebook.proofs.Held.{accounts-put}
 use Rattle.rulebook.proofs.Reading.{Proper, AllProper}
 use Rattle.rulebook.proofs.Booking.{Both, booked-keeps}
 use Rattle.rulebook.proofs.Steps.OneCall.{Step}
@@ -18,7 +19,7 @@ Counted h = h.accounts ≡ accountCount h
 
 pub fresh-counted : Counted (fresh .holdings)
 unfolding accountCount fresh counted
-fresh-counted = sym (sum-zero (2 ^ 14) _ (λ s. sum-zero (2 ^ 10) _ (λ m. sum-zero (2 ^ 8) _ (λ t. sum-zero (2 ^ 30) _ (λ k. refl)))))
+fresh-counted = sym (sum-none (2 ^ 14) _ (λ s _. sum-none (2 ^ 10) _ (λ m _. sum-none (2 ^ 8) _ (λ t _. sum-none (2 ^ 30) _ (λ k _. refl)))))
 
 put-counted : (q : Place) (v : ℕ) (h : Holdings) → Proper q → Counted h → Counted (putAt q v h)
 unfolding accountCount putCash putSecurities putOutside

@@ -5,7 +5,8 @@ use Prim.Native.Nat.{ℕ, _≤_}
 use native.Mathlib.Omega.{arith}
 use borrow.Author.Tests.{eqb-false}
 use Rattle.rulebook.specs.declared.Order.{Order}
-use Rattle.rulebook.specs.Lists.{if_then_else_, _is_}
+use Rattle.plain.specs.Lists.{if_then_else_, _is_}
+use Rattle.plain.proofs.Lists.{_and_}
 use Rattle.rulebook.specs.Field as Field
 use Rattle.rulebook.specs.Ledger.{Ledger, fresh, putDay}
 use Rattle.rulebook.specs.Windows.{byKind, officeEnd, officeHours, counterHours, paymentHours}
@@ -13,7 +14,6 @@ use Rattle.rulebook.specs.Call.{putMinute}
 use Rattle.rulebook.specs.Forms.{Form, outcome, silent, openDay, cycle, close, forms, rowOf, used, least, most, windowOf}
 use Rattle.rulebook.specs.Premise.{DayFits}
 use Rattle.rulebook.specs.declared.Day.{Day}
-use Rattle.rulebook.proofs.Lists.{_and_}
 use Rattle.rulebook.proofs.ByCall.{AllForms, window-at, by-form}
 use Rattle.rulebook.proofs.Orders.{Accepted, needed, opens-next, cycles-left, in-window}
 

@@ -9,14 +9,15 @@ use Rattle.rulebook.specs.declared.Party.{Party}
 use Rattle.rulebook.specs.declared.Item.{Item}
 use Rattle.rulebook.specs.declared.State.{State}
 use Rattle.rulebook.specs.declared.State.the-variants.{Single, Pair, Trade}
-use Rattle.rulebook.specs.Lists.{if_then_else_, _is_, _atMost_, keep}
+use Rattle.plain.specs.Lists.{if_then_else_, _is_, _atMost_, keep, Each}
+use Rattle.plain.proofs.Tests.{both}
+use Rattle.plain.proofs.Lists.{each-append, each-map, each-kept}
 use Rattle.rulebook.specs.AccountTypes.{free, alike}
 use Rattle.rulebook.specs.Ledger.{Holdings, admitted}
 use Rattle.rulebook.specs.Waiting.{isDeliver, isReceive, ownReference, withState, marked, marking, unmarked, sentBy}
 use Rattle.rulebook.specs.Matching.{agree, pairsWith, pairOf, arrive}
 use Rattle.rulebook.specs.Close.{closeKind, leaves}
-use Rattle.rulebook.specs.Premise.{Each, SingleFits, StateFits, ItemFits, Named, NotOverdue}
-use Rattle.rulebook.proofs.Lists.{both, each-append, each-map, each-kept}
+use Rattle.rulebook.specs.Premise.{SingleFits, StateFits, ItemFits, Named, NotOverdue}
 use Rattle.rulebook.proofs.Types.{Quiet, zero-quiet, free-quiet, free-fits, alike-free}
 
 -- ---- two singles that pair

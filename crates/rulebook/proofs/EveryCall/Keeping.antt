@@ -9,7 +9,8 @@ use Rattle.rulebook.specs.declared.Order.{Order}
 use Rattle.rulebook.specs.declared.Security.{Security}
 use Rattle.rulebook.specs.declared.State.{State}
 use Rattle.rulebook.specs.declared.State.the-variants.{Single, Pair, Trade}
-use Rattle.rulebook.specs.Lists.{_is_, within, keep}
+use Rattle.plain.specs.Lists.{_is_, within, keep, Each}
+use Rattle.plain.proofs.Lists.{_and_, total-append, each-so, each-both, each-append, each-kept}
 use Rattle.rulebook.specs.AccountTypes.{alike, wrongTypes}
 use Rattle.rulebook.specs.Field as Field
 use Rattle.rulebook.specs.Ledger.{Ledger, Holdings, accountOf, admitted, putDay, putHoldings, putWaiting, putSecurities}
@@ -20,9 +21,8 @@ use Rattle.rulebook.specs.Cycle.{buyer, settled, notSettled, legs}
 use Rattle.rulebook.specs.Close.{leaves}
 use Rattle.rulebook.specs.Forms.{outcome, moving, silent, openDay, admit, deposit, withdraw, transfer, payIn, payOut, instruct, trade, cancel, cycle, close, forms, rowOf, used, least, effect}
 use Rattle.rulebook.specs.Call.{putMinute}
-use Rattle.rulebook.specs.Premise.{Each, SecurityFits, accountType, AccountFits, StateFits, ItemFits, Premise, today}
+use Rattle.rulebook.specs.Premise.{SecurityFits, accountType, AccountFits, StateFits, ItemFits, Premise, today}
 use Rattle.rulebook.proofs.ByCall.{Effect, AllForms, not-read, by-form}
-use Rattle.rulebook.proofs.Lists.{_and_, total-append, each-so, each-both, each-append, each-kept}
 use Rattle.rulebook.proofs.Rounds.{settled-fits, notSettled-fits, Due, settled-due}
 use Rattle.rulebook.proofs.Types.{free-type, pledged-type, alike-free, deposit-free, transfer-free, pledge-types, release-types, block-types, unblock-types}
 use Rattle.rulebook.proofs.Orders.{Accepted, needs, needed, is-admitted, right-types, is-open, opens-next, none-waits}

@@ -9,14 +9,15 @@ use Rattle.rulebook.specs.declared.Item.{Item}
 use Rattle.rulebook.specs.declared.Order.{Order}
 use Rattle.rulebook.specs.declared.State.{State}
 use Rattle.rulebook.specs.declared.State.the-variants.{Single, Trade}
-use Rattle.rulebook.specs.Lists.{if_then_else_, _is_, _oneOf_, within}
+use Rattle.plain.specs.Lists.{if_then_else_, _is_, _oneOf_, within, Each}
+use Rattle.plain.proofs.Lists.{_and_}
+use Rattle.plain.proofs.Tests.{both}
 use Rattle.rulebook.specs.AccountTypes.{free}
 use Rattle.rulebook.specs.Field as Field
 use Rattle.rulebook.specs.Forms.{forms, rowOf, used, least}
 use Rattle.rulebook.specs.Ledger.{Ledger, admitted}
 use Rattle.rulebook.specs.Waiting.{itemOf, senderOf, sentBy}
-use Rattle.rulebook.specs.Premise.{Each, ReferenceFits, StateFits, NotOverdue, ItemFits, today}
-use Rattle.rulebook.proofs.Lists.{_and_, both}
+use Rattle.rulebook.specs.Premise.{ReferenceFits, StateFits, NotOverdue, ItemFits, today}
 use Rattle.rulebook.proofs.Types.{one-of, deliver-free, receive-free, trade-alike}
 use Rattle.rulebook.proofs.Orders.{Accepted, needs, needed, uses, is-admitted, right-types, is-open, instruct-parties, instruct-days, trade-parties, trade-days}
 

@@ -6,15 +6,15 @@ use Prim.Native.Nat.{ℕ, zero, suc, _+_, _≤_}
 use native.Mathlib.Omega.{arith}
 use borrow.Author.Tests.{eqb-true}
 use Rattle.rulebook.specs.declared.Security.{Security}
-use Rattle.rulebook.specs.Lists.{if_then_else_, _is_, some}
+use Rattle.plain.specs.Lists.{if_then_else_, _is_, some, Each}
+use Rattle.plain.proofs.Tests.{both}
 use Rattle.rulebook.specs.Ledger.{Holdings, fresh, admitted, putBalance, putCash, putSecurities, putOutside}
 use Rattle.rulebook.specs.declared.Account.{Account}
 use Rattle.rulebook.specs.Movements.{Place, account, type91, type90, cashOf, member0, Movement, credit, debit, credits, debits, booked}
-use Rattle.rulebook.specs.Premise.{Each, withCode, SecurityFits, AccountFits, CashFits}
+use Rattle.rulebook.specs.Premise.{withCode, SecurityFits, AccountFits, CashFits}
 use Rattle.rulebook.proofs.Rounds.{same-eq}
 use Rattle.rulebook.proofs.Securities.{changed, known, unknown}
 use Rattle.rulebook.proofs.Places.{isAccount, isCash, brought, credit-balance, debit-balance, credit-cash, debit-cash, booked-codes}
-use Rattle.rulebook.proofs.Lists.{both}
 use Rattle.rulebook.proofs.Booking.{booked-puts}
 
 -- an admitted security stays admitted

@@ -7,13 +7,13 @@ use native.Mathlib.Omega.{arith}
 use Rattle.rulebook.specs.declared.Item.{Item}
 use Rattle.rulebook.specs.declared.State.{State}
 use Rattle.rulebook.specs.declared.State.the-variants.{Single, Pair, Trade}
-use Rattle.rulebook.specs.Lists.{if_then_else_, _is_, some, keep}
+use Rattle.plain.specs.Lists.{if_then_else_, _is_, some, keep}
+use Rattle.plain.proofs.Lists.{keep-most, total-append, total-map}
 use Rattle.rulebook.specs.Ledger.{Ledger}
 use Rattle.rulebook.specs.Waiting.{isDeliver, isReceive, ownReference, sentBy, withState, marked, bothMarked, marking, staying, unmarked}
 use Rattle.rulebook.specs.Matching.{pairsWith, pairOf, arrive}
 use Rattle.rulebook.specs.Cycle.{notSettled}
 use Rattle.rulebook.specs.Premise.{sent}
-use Rattle.rulebook.proofs.Lists.{keep-most, total-append, total-map}
 use Rattle.rulebook.proofs.Rounds.{cycle-total}
 use Rattle.rulebook.proofs.EveryCall.Items.{Agreed, pairs}
 

@@ -8,7 +8,8 @@ use borrow.Author.Tests.{ltb-false, eq-eqb}
 use Rattle.rulebook.specs.declared.Party.{Party}
 use Rattle.rulebook.specs.declared.Order.{Order}
 use Rattle.rulebook.specs.declared.Security.{Security}
-use Rattle.rulebook.specs.Lists.{if_then_else_, _is_, within}
+use Rattle.plain.specs.Lists.{if_then_else_, _is_, within, Each}
+use Rattle.plain.proofs.Lists.{_and_, total-append}
 use Rattle.rulebook.specs.AccountTypes.{pledgedOrBlocked, wrongTypes}
 use Rattle.rulebook.specs.Field as Field
 use Rattle.rulebook.specs.Ledger.{Ledger, Holdings, accountOf, sameAccount, outsideOf, putHoldings, putSecurities}
@@ -16,8 +17,7 @@ use Rattle.rulebook.specs.declared.Account.{Account}
 use Rattle.rulebook.specs.Movements.{Place, account, type91, type90, cashOf, member0, move, bookHas}
 use Rattle.rulebook.specs.Forms.{outcome, counts, moving, admit, deposit, withdraw, transfer, payIn, payOut, forms, rowOf, used, least}
 use Rattle.rulebook.specs.Refusals.{wrongSecurity}
-use Rattle.rulebook.specs.Premise.{Each, withCode, Premise}
-use Rattle.rulebook.proofs.Lists.{_and_, total-append}
+use Rattle.rulebook.specs.Premise.{withCode, Premise}
 use Rattle.rulebook.proofs.Rounds.{same-eq}
 use Rattle.rulebook.proofs.Orders.{is-admitted, not-admitted, little-parts, debit-enough, right-types, needed}
 use Rattle.rulebook.proofs.Securities.{outs, known, unknown, new-count, new-issued}

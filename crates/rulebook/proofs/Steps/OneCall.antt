@@ -8,7 +8,7 @@ use lib.ListN.{length}
 use Rattle.rulebook.specs.declared.Order.{Order}
 use Rattle.rulebook.specs.declared.Account.{Account}
 use Rattle.rulebook.specs.declared.Security.{Security}
-use Rattle.rulebook.specs.Lists.{if_then_else_, _is_, _oneOf_}
+use Rattle.plain.specs.Lists.{if_then_else_, _is_, _oneOf_}
 use Rattle.rulebook.specs.AccountTypes.{pledgedOrBlocked}
 use Rattle.rulebook.specs.Ledger.{Ledger, Holdings, accountOf, sameAccount, issuedOf, putSecurities}
 use Rattle.rulebook.specs.Movements.{Place, account, type91, Movement, booked, bookHas}

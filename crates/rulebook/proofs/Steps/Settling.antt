@@ -13,8 +13,9 @@ use Rattle.rulebook.specs.Movements.{Place, account, type91, type90, cas
 use Rattle.rulebook.specs.Cycle.{Marked, seller, buyer, over, bringsShares, takesShares, bringsCash, takesCash, sharesTaken, sharesBrought, cashTaken, cashBrought, settling, withMark, settled, legs}
 use Rattle.rulebook.specs.Forms.{outcome, counts, cycle, forms, rowOf}
 use Rattle.rulebook.proofs.Rounds.{settling-done, enough-shares, enough-cash, settled-fits}
-use Rattle.rulebook.specs.Premise.{Each, ItemFits, today}
-use Rattle.rulebook.proofs.Lists.{each-so}
+use Rattle.plain.specs.Lists.{Each}
+use Rattle.plain.proofs.Lists.{each-so}
+use Rattle.rulebook.specs.Premise.{ItemFits, today}
 use Rattle.rulebook.proofs.Places.{isAt, brought, taken, AllKnown, Enough, booked-exact}
 use Rattle.rulebook.proofs.Reading.{Proper, AllProper}
 use Rattle.rulebook.proofs.Sums.{heldInto, heldOut, cashInto, cashOut}

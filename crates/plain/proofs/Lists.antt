@@ -1,22 +1,11 @@
--- Laws of lists and of tests: totals, what holds of each element, both and either. Assumes nothing.
+-- Laws of lists: totals, what holds of each element. Assumes nothing.
 use mathlib.Core.Path.{_≡_, refl}
-use mathlib.Core.Bool.{Bool, true, false, not, _&&_, _||_, false≢true}
+use mathlib.Core.Bool.{Bool, true, false, not}
 use mathlib.Core.List.{List, [], _∷_, _++_, map}
 use Prim.Native.Nat.{ℕ, _+_, _≤_}
 use native.Mathlib.Omega.{arith}
 use lib.ListN.{length}
-use Rattle.rulebook.specs.Lists.{keep, total}
-use Rattle.rulebook.specs.Premise.{Each}
-
--- ---- tests
-
-pub both : (x y : Bool) → (x && y) ≡ true → (x ≡ true) × (y ≡ true)
-both true y e = (refl, e)
-both false y e = absurd (false≢true e)
-
-pub or-cases : (A : Type 0) (x y : Bool) → (x || y) ≡ true → (x ≡ true → A) → (y ≡ true → A) → A
-or-cases A true y e f g = f refl
-or-cases A false y e f g = g e
+use Rattle.plain.specs.Lists.{keep, total, Each}
 
 -- ---- totals of a figure
 

@@ -1,5 +1,5 @@
--- Plain words for tests on numbers, and a few operations on lists.
-use Prim.Native.Nat.{ℕ, _+_}
+-- Plain words for tests on numbers, a few operations on lists, and sums.
+use Prim.Native.Nat.{ℕ, zero, suc, _+_}
 use mathlib.Core.Bool.{Bool, true, false, not, _||_, _&&_}
 use mathlib.Core.List.{List, [], _∷_}
 use lib.Dec.{leb, ltb, eqb}
@@ -46,6 +46,16 @@ module _ {A : Type 0} where
   abbrev pub keep : (A → Bool) → List A → List A
   keep test [] = []
   keep test (x ∷ rest) = let kept = keep test rest in if test x then x ∷ kept else kept
+
+-- each element of a list is such
+abbrev pub Each : {A : Type 0} → (A → Type 0) → List A → Type 0
+Each P [] = Unit {0}
+Each P (x ∷ rest) = P x × Each P rest
+
+-- the sum of a figure over the numbers below n
+unfoldable pub sumBelow : ℕ → (ℕ → ℕ) → ℕ
+sumBelow zero figure = 0
+sumBelow (suc n) figure = sumBelow n figure + figure n
 
 -- the first number of a checking order whose test applies; 0 where none does
 abbrev pub first : List (ℕ × Bool) → ℕ

@@ -5,11 +5,20 @@ use native.Mathlib.Decide.{ℕ-discrete}
 use native.Mathlib.Omega.{arith}
 use mathlib.Core.Bool.{Bool, true, false}
 use mathlib.Core.Logic.{_≢_}
-use mathlib.Core.Path.{_≡_, refl, sym}
+use mathlib.Core.Path.{_≡_, refl, sym, ap₂}
 use borrow.Author.Tests.{eq-eqb, ne-eqb}
-use Rattle.rulebook.specs.Lists.{if_then_else_, _is_}
-use Rattle.rulebook.specs.Ledger.{sumBelow}
-use Rattle.rulebook.proofs.Held.{sum-same}
+use Rattle.plain.specs.Lists.{if_then_else_, _is_, sumBelow}
+
+-- the same figures have the same sum
+pub sum-same : (n : ℕ) (f g : ℕ → ℕ) → ((j : ℕ) → j < n → g j ≡ f j) → sumBelow n g ≡ sumBelow n f
+unfolding sumBelow
+sum-same zero f g e = refl
+sum-same (suc n) f g e = ap₂ _+_ (sum-same n f g (λ j h. e j (omega arith))) (e n (omega arith))
+
+pub sum-add : (n : ℕ) (f g : ℕ → ℕ) → sumBelow n (λ i. f i + g i) ≡ sumBelow n f + sumBelow n g
+unfolding sumBelow
+sum-add zero f g = refl
+sum-add (suc n) f g = omega (arith, sum-add n f g)
 
 pub sum-none : (n : ℕ) (f : ℕ → ℕ) → ((k : ℕ) → k < n → f k ≡ 0) → sumBelow n f ≡ 0
 unfolding sumBelow
@@ -25,6 +34,11 @@ sum-change (suc n) j f g l e = go (ℕ-discrete j n) (λ m. sum-change n j f g m
     go : Dec (j ≡ n) → (j < n → sumBelow n g + f j ≡ sumBelow n f + g j) → sumBelow n g + g n + f j ≡ sumBelow n f + f n + g j
     go (yes s) earlier = rw s (omega (arith, sum-same n f g (λ k m. e k (omega arith) (λ z. omega (arith, z, s, m)))))
     go (no d) earlier = omega (arith, e n (omega arith) (λ q. d (sym q)), earlier (omega (arith, d)))
+
+-- by a difference that is known
+pub sum-differs :
+    (n i x y : ℕ) (f g : ℕ → ℕ) → i < n → ((j : ℕ) → j ≢ i → g j ≡ f j) → g i + x ≡ f i + y → sumBelow n g + x ≡ sumBelow n f + y
+sum-differs n i x y f g l e d = omega (arith, sum-change n i f g l (λ j m ne. e j ne), d)
 
 -- one figure more
 pub sum-suc : (n : ℕ) (f : ℕ → ℕ) → sumBelow (suc n) f ≡ sumBelow n f + f n

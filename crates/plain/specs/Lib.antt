@@ -1,0 +1,2 @@
+-- Tests on numbers, lists and sums.
+pub mod Lists
