@@ -6,20 +6,20 @@ use mathlib.Core.List.{List, [], _∷_, _++_, map}
 use mathlib.Core.Path.{_≡_, refl, ap, _∙_}
 use borrow.Author.Tests.{eq-eqb}
 use Rattle.plain.specs.Lists.{if_then_else_, _is_, some, total}
-use Rattle.rulebook.specs.Ledger.{Holdings, admitted, outsideOf, putOutside, putSecurities}
+use Rattle.rulebook.specs.Ledger.{Holdings, admitted, outsideOf, putOutside, putSecurities, newSecurity, withOutside}
 use Rattle.rulebook.specs.Movements.{credit, type91}
 use Rattle.rulebook.specs.declared.Security.{Security}
 use Rattle.rulebook.specs.declared.Shares.{Shares}
 
 module _ (code : ℕ) (issued : Shares) where
   abbrev new : ℕ → Security
-  new outside = record { code = code; issued = issued; outside = record { 0 = outside } }
+  new outside = withOutside outside (newSecurity code issued)
 
   abbrev figure : Security → ℕ
   figure s = if s.code is code then s.outside .0 else 0
 
   abbrev changed : ℕ → Security → Security
-  changed v s = if s.code is code then record { code = s.code; issued = s.issued; outside = record { 0 = v } } else s
+  changed v s = if s.code is code then withOutside v s else s
 
   -- none of the securities has the code
   none-outside : (l : List Security) → some (λ s. s.code is code) l ≡ false → total figure (l ++ (new 0 ∷ [])) ≡ 0

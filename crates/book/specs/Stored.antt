@@ -3,7 +3,7 @@ use Prim.Native.Nat.{ℕ, _≤_}
 use mathlib.Core.List.{List, [], _∷_, _++_}
 use mathlib.Core.Path.{_≡_}
 use lib.ListN.{length, getD}
-use Rattle.rulebook.specs.Ledger.{Ledger, Holdings, putHoldings, putWaiting, putSecurities}
+use Rattle.rulebook.specs.Ledger.{Ledger, Holdings, putHoldings, putWaiting, putSecurities, newSecurity, withOutside}
 use Rattle.rulebook.specs.Premise.{Premise}
 use Rattle.rulebook.specs.declared.Item.{Item}
 use Rattle.rulebook.specs.declared.Shares.{Shares}
@@ -46,4 +46,4 @@ WaitingBecomes f = Becomes (λ b. putWaiting (f b.waiting) b)
 
 -- the holdings with a security more, all of it outside
 abbrev pub withSecurity : ℕ → Shares → Holdings → Holdings
-withSecurity code quantity h = putSecurities (h.securities ++ (record { code = code; issued = quantity; outside = quantity } ∷ [])) h
+withSecurity code quantity h = putSecurities (h.securities ++ (withOutside (quantity .0) (newSecurity code quantity) ∷ [])) h

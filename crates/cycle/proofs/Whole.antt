@@ -98,7 +98,7 @@ module _ (b : Ledger) (due marks : ℕ) (chosen : Selected b due marks) where
         pub handled :
             (order : Order) (area area′ : List ℕ) (r : Counts) → area′ ≡ withRows (markedOf marks b.waiting) area → r ≡ countsOf due marks (length b.waiting)
             → Handled (cycle b order) third area area′ r
-        unfolding cycle outcome settled
+        unfolding cycle outcome settled putDay putHoldings putWaiting
         handled order area area′ r w e = record {
           stored = dated .stored;
           ledger = after order;

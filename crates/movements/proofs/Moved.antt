@@ -4,7 +4,7 @@ use mathlib.Core.Path.{_≡_, sym, ap, _∙_}
 use mathlib.Core.Bool.{false}
 use mathlib.Core.List.{List, [], _∷_, _++_}
 use lib.ListN.{drop}
-use Rattle.rulebook.specs.Ledger.{Ledger, Holdings, accountOf, admitted, outsideOf, putHoldings, putSecurities, putBalance, putOutside}
+use Rattle.rulebook.specs.Ledger.{Ledger, Holdings, accountOf, admitted, outsideOf, putHoldings, putSecurities, putBalance, putOutside, newSecurity}
 use Rattle.rulebook.specs.Movements.{Place, Movement, move, account, type90, type91, credit, debit, credits, debits, booked}
 use Rattle.rulebook.specs.Rows.{postingOf, postingRows, rowsBytes}
 use Rattle.rulebook.specs.Forms.{outcome, counts, moving, admit, transfer}
@@ -65,7 +65,7 @@ pub did-admit :
     → Wrote (move (account issued) (account outside) o.quantity.0) before after → Handled (admit b o) book before after c
 unfolding admit putHoldings debit postingRows postingOf
 did-admit b o counted new means e f wrote =
-    let issue : Security = record { code = o.security; issued = o.quantity; outside = record { 0 = 0 } } in
+    let issue : Security = newSecurity o.security o.quantity in
     let h : Holdings = putSecurities (b.holdings.securities ++ (issue ∷ [])) b.holdings in
     let outside = ap (λ (h : Holdings). putHoldings h b) (sym (admitted-outside o.security o.quantity o.quantity.0 b.holdings new)) in
     moved (putHoldings h b) counted (type90 o.security) (type91 o.security) o.quantity.0

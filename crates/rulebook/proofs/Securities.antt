@@ -8,7 +8,7 @@ use borrow.Author.Tests.{eqb-true}
 use Rattle.rulebook.specs.declared.Security.{Security}
 use Rattle.plain.specs.Lists.{if_then_else_, _is_, some, total}
 use Rattle.plain.proofs.Lists.{total-append, total-map}
-use Rattle.rulebook.specs.Ledger.{Holdings, issuedOf, putBalance, putCash, putSecurities, putOutside}
+use Rattle.rulebook.specs.Ledger.{Holdings, issuedOf, putBalance, putCash, putSecurities, putOutside, withOutside}
 use Rattle.rulebook.specs.Movements.{Movement, booked}
 use Rattle.rulebook.specs.Premise.{withCode}
 use Rattle.rulebook.proofs.Booking.{booked-puts}
@@ -19,7 +19,7 @@ outs c xs = total (λ x. if x.code is c then x.outside.0 else 0) xs
 
 -- the outside count of a code set
 abbrev pub changed : ℕ → ℕ → Security → Security
-changed c v x = if x.code is c then record { code = x.code; issued = x.issued; outside = record { 0 = v } } else x
+changed c v x = if x.code is c then withOutside v x else x
 
 outs-none : (c v : ℕ) (xs : List Security) → withCode c xs ≡ 0 → outs c (map (changed c v) xs) ≡ 0
 outs-none c v [] e = refl
@@ -90,7 +90,7 @@ module _ (s : ℕ) where
   outside-issued security count h = total-map _ _ _ (λ x. go x (x.code is security)) h.securities
     where
       changed : Bool → Security → Security
-      changed b x = if b then record { code = x.code; issued = x.issued; outside = record { 0 = count } } else x
+      changed b x = if b then withOutside count x else x
 
       go : (x : Security) (b : Bool) → (if changed b x .code is s then changed b x .issued .0 else 0) ≡ (if x.code is s then x.issued.0 else 0)
       go x true = refl

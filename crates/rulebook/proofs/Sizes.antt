@@ -143,7 +143,7 @@ cancel-stays b o s =
     record { securities = s.securities; items = omega (arith, l, s.items); accounts = omega (arith, l, s.accounts) }
 
 cycle-stays : (b : Ledger) (o : Order) → Sizes b → Sizes (cycle b o .after)
-unfolding cycle outcome
+unfolding cycle outcome putDay putHoldings putWaiting
 cycle-stays b o s =
     let ms = legs (settled b) in
     let l = cycle-length b in
@@ -154,7 +154,7 @@ cycle-stays b o s =
     }
 
 close-stays : (b : Ledger) (o : Order) → Sizes b → Sizes (close b o .after)
-unfolding close outcome
+unfolding close outcome putDay putWaiting
 close-stays b o s =
     let l = close-length (λ item. not (leaves b.day.number item)) b.waiting in
     record { securities = s.securities; items = omega (arith, l, s.items); accounts = omega (arith, l, s.accounts) }

@@ -11,7 +11,7 @@ use Rattle.rulebook.specs.declared.Order.{Order}
 use Rattle.rulebook.specs.declared.Security.{Security}
 use Rattle.rulebook.specs.declared.State.the-variants.{Single, Trade}
 use Rattle.plain.specs.Lists.{if_then_else_, _is_, _isNot_, _below_, _oneOf_, some}
-use Rattle.rulebook.specs.Ledger.{Ledger, accountOf, sameAccount, counted, putBalance, putSecurities, putOutside, putHoldings, putWaiting}
+use Rattle.rulebook.specs.Ledger.{Ledger, accountOf, sameAccount, counted, putBalance, putSecurities, putOutside, putHoldings, putWaiting, newSecurity}
 use Rattle.rulebook.specs.declared.Account.{Account}
 use Rattle.rulebook.specs.Movements.{account, type91, type90, move, credit, debit, credits, debits, booked}
 use Rattle.rulebook.specs.Waiting.{itemOf}
@@ -70,7 +70,7 @@ module _ (b : Ledger) (o : Order) (z : Sizes b) where
   pub admit-space : o.form ≡ 2 → noSpace b o ≡ (31 below securities)
   unfolding forms rowOf admit moving outcome putHoldings
   admit-space e =
-      let new : Security = record { code = o.security; issued = o.quantity; outside = record { 0 = 0 } } in
+      let new : Security = newSecurity o.security o.quantity in
       let h = putSecurities (b.holdings.securities ++ (new ∷ [])) b.holdings in
       let ms = move (type90 o.security) (type91 o.security) o.quantity.0 ∷ [] in
       let l : length (booked ms h .securities) ≡ securities + 1 =

@@ -6,7 +6,7 @@ use mathlib.Core.List.{List, [], _∷_, _++_, map}
 use lib.ListN.{length, getD}
 use Rattle.plain.specs.Lists.{if_then_else_, _is_, keep, some}
 use Rattle.rulebook.specs.Field.{Rule, from1, from1To, always, ruleIn, D, C, all, allBut, security, currency, debited-member, debited-type, credited-member, credited-type, quantity, amount, settlement-day, reference}
-use Rattle.rulebook.specs.Ledger.{Ledger, accountOf, putDay, putHoldings, putWaiting, putSecurities, oneMoreCycle, opening, closing}
+use Rattle.rulebook.specs.Ledger.{Ledger, accountOf, putDay, putHoldings, putWaiting, putSecurities, oneMoreCycle, opening, closing, newSecurity}
 use Rattle.rulebook.specs.declared.Day.{Day}
 use Rattle.rulebook.specs.Windows.{Window, openingHours, counterHours, officeHours, paymentHours, cycleHours, closingHours}
 use Rattle.rulebook.specs.Movements.{account, type90, type91, cashOf, member0, Movement, move, booked}
@@ -18,7 +18,6 @@ use Rattle.rulebook.specs.Close.{deletedAtClose, suspendedAtClose, leave
 use Rattle.rulebook.specs.declared.Order.{Order}
 use Rattle.rulebook.specs.declared.Item.{Item}
 use Rattle.rulebook.specs.declared.Counts.{Counts}
-use Rattle.rulebook.specs.declared.Security.{Security}
 use Rattle.rulebook.specs.declared.State.the-variants.{Single, Trade}
 
 pub record Outcome : Type 0 where
@@ -64,10 +63,7 @@ openDay book order = silent (putDay (opening order.quantity.0 book.day) book)
 unfoldable pub admit : Ledger → Order → Outcome
 admit book order =
     moving (move (type90 order.security) (type91 order.security) order.quantity.0 ∷ [])
-    (putHoldings (putSecurities (book.holdings.securities ++ (new ∷ [])) book.holdings) book)
-  where
-    new : Security
-    new = record { code = order.security; issued = order.quantity; outside = record { 0 = 0 } }
+    (putHoldings (putSecurities (book.holdings.securities ++ (newSecurity order.security order.quantity ∷ [])) book.holdings) book)
 
 -- RULES 6.3: from 91 to the credited account
 unfoldable pub deposit : Ledger → Order → Outcome
@@ -115,14 +111,14 @@ cancel book order =
 unfoldable pub cycle : Ledger → Order → Outcome
 cycle book order =
     settles (sides (settled book)) (dropped book)
-    (record { day = oneMoreCycle book.day; holdings = booked (legs (settled book)) book.holdings; waiting = notSettled book })
+    (putDay (oneMoreCycle book.day) (putHoldings (booked (legs (settled book)) book.holdings) (putWaiting (notSettled book) book)))
     (postingRows (legs (settled book)))
 
 -- RULES 6.17: what leaves today is deleted or suspended, in list order, with a notice each; marks are dropped; the day is closed
 unfoldable pub close : Ledger → Order → Outcome
 close book order =
     removes (sides (keep (deletedAtClose book.day.number) gone)) (sides (keep (suspendedAtClose book.day.number) gone))
-    (record { day = closing book.day; holdings = book.holdings; waiting = map unmarked (keep (λ item. not (leaves book.day.number item)) book.waiting) })
+    (putDay (closing book.day) (putWaiting (map unmarked (keep (λ item. not (leaves book.day.number item)) book.waiting)) book))
     (map (closeNotice book.day.number) gone)
   where
     gone : List Item

@@ -7,6 +7,7 @@ use Rattle.rulebook.specs.declared.Party.{Party}
 use Rattle.rulebook.specs.declared.Account.{Account}
 use Rattle.rulebook.specs.declared.Day.{Day}
 use Rattle.rulebook.specs.declared.Security.{Security}
+use Rattle.rulebook.specs.declared.Shares.{Shares}
 use Rattle.rulebook.specs.declared.Item.{Item}
 
 pub record Holdings : Type 0 where
@@ -87,11 +88,15 @@ putCash member currency amount h = record {
 unfoldable pub putSecurities : List Security → Holdings → Holdings
 putSecurities securities h = record { securities = securities; balance = h.balance; accounts = h.accounts; cash = h.cash }
 
+-- a security that is admitted now, none of it outside yet; and one with another outside count
+abbrev pub newSecurity : (code : ℕ) → (issued : Shares) → Security
+newSecurity code issued = record { code = code; issued = issued; outside = record { 0 = 0 } }
+
+abbrev pub withOutside : (count : ℕ) → Security → Security
+withOutside count s = record { code = s.code; issued = s.issued; outside = record { 0 = count } }
+
 unfoldable pub putOutside : (security count : ℕ) → Holdings → Holdings
-putOutside security count h = putSecurities (map (λ s. if s.code is security then changed s else s) h.securities) h
-  where
-    changed : Security → Security
-    changed s = record { code = s.code; issued = s.issued; outside = record { 0 = count } }
+putOutside security count h = putSecurities (map (λ s. if s.code is security then withOutside count s else s) h.securities) h
 
 unfoldable pub admitted : ℕ → Holdings → Bool
 admitted security h = some (λ s. s.code is security) h.securities

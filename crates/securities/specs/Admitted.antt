@@ -3,7 +3,7 @@ use Prim.Native.Nat.{ℕ, _+_, _≤_}
 use mathlib.Core.List.{List}
 use mathlib.Core.Path.{_≡_}
 use lib.ListN.{length, getD}
-use Rattle.rulebook.specs.Ledger.{Holdings}
+use Rattle.rulebook.specs.Ledger.{Holdings, newSecurity, withOutside}
 use Rattle.rulebook.specs.declared.Security.{Security}
 use Rattle.words.specs.Places.{listFrom}
 use Rattle.words.specs.Tables.{rows, keyAt, KeysOnce}
@@ -16,7 +16,7 @@ abbrev pub OUTSIDE : ℕ
 OUTSIDE = 65
 
 abbrev pub security : (code issued outside : ℕ) → Security
-security code issued outside = record { code = code; issued = record { 0 = issued }; outside = record { 0 = outside } }
+security code issued outside = withOutside outside (newSecurity code (record { 0 = issued }))
 
 abbrev pub securityAt : List ℕ → ℕ → Security
 securityAt s i = security (keyAt s i) (getD s (i + ISSUED) 0) (getD s (i + OUTSIDE) 0)

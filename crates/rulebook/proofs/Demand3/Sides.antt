@@ -161,11 +161,11 @@ cancel-keeps b o =
     omega (arith, cancel-sides now, marking-sides (senderOf o) o.reference b.waiting)
 
 cycle-keeps : Keeps 0 cycle
-unfolding cycle outcome counts
+unfolding cycle outcome counts putDay putHoldings putWaiting
 cycle-keeps b o = omega (arith, cycle-sides b)
 
 close-keeps : Keeps 0 close
-unfolding close outcome counts
+unfolding close outcome counts putDay putWaiting
 close-keeps b o = omega (arith, close-sides b.day.number b.waiting)
 
 -- a form that leaves the waiting list as it was takes in none, and none is gone

@@ -8,7 +8,7 @@ use Rattle.rulebook.specs.declared.Order.{Order}
 use Rattle.plain.specs.Lists.{if_then_else_, _is_}
 use Rattle.plain.proofs.Lists.{_and_}
 use Rattle.rulebook.specs.Field as Field
-use Rattle.rulebook.specs.Ledger.{Ledger, fresh, putDay}
+use Rattle.rulebook.specs.Ledger.{Ledger, fresh, putDay, putHoldings, putWaiting}
 use Rattle.rulebook.specs.Windows.{byKind, officeEnd, officeHours, counterHours, paymentHours}
 use Rattle.rulebook.specs.Call.{putMinute}
 use Rattle.rulebook.specs.Forms.{Form, outcome, silent, openDay, cycle, close, forms, rowOf, used, least, most, windowOf}
@@ -110,7 +110,7 @@ open-day b o e d a =
     }
 
 pub cycle-day : (b : Ledger) (o : Order) → o.form ≡ 16 → DayFits b.day → Accepted b o → DayAt o.minute (cycle b o .after)
-unfolding cycle outcome putMinute putDay
+unfolding cycle outcome putMinute putDay putHoldings putWaiting
 cycle-day b o e d a = record {
   number = d.number;
   kind = d.kind;
@@ -122,7 +122,7 @@ cycle-day b o e d a = record {
 }
 
 pub close-day : (b : Ledger) (o : Order) → DayFits b.day → Accepted b o → DayAt o.minute (close b o .after)
-unfolding close outcome putMinute putDay
+unfolding close outcome putMinute putDay putWaiting
 close-day b o d a = record {
   number = d.number;
   kind = d.kind;

@@ -13,7 +13,7 @@ use Rattle.plain.specs.Lists.{_is_, within, keep, Each}
 use Rattle.plain.proofs.Lists.{_and_, total-append, each-so, each-both, each-append, each-kept}
 use Rattle.rulebook.specs.AccountTypes.{alike, wrongTypes}
 use Rattle.rulebook.specs.Field as Field
-use Rattle.rulebook.specs.Ledger.{Ledger, Holdings, accountOf, admitted, putDay, putHoldings, putWaiting, putSecurities}
+use Rattle.rulebook.specs.Ledger.{Ledger, Holdings, accountOf, admitted, putDay, putHoldings, putWaiting, putSecurities, newSecurity}
 use Rattle.rulebook.specs.Movements.{Movement, booked}
 use Rattle.rulebook.specs.Waiting.{isTrade, itemOf, senderOf, sentBy, marking, staying, bothMarked}
 use Rattle.rulebook.specs.Matching.{tolerance}
@@ -128,7 +128,7 @@ admit-more new h c = still-admitted c h (putSecurities (h.securities ++ (new ∷
 admit-keeps : Keeps 2 admit
 unfolding admit putHoldings putSecurities used least forms rowOf
 admit-keeps b o e p a =
-    let new : Security = record { code = o.security; issued = o.quantity; outside = record { 0 = 0 } } in
+    let new : Security = newSecurity o.security o.quantity in
     let h = putSecurities (b.holdings.securities ++ (new ∷ [])) b.holdings in
     let f : SecurityFits new =
     record {
@@ -209,7 +209,7 @@ open-keeps b o e p a =
     }
 
 close-keeps : Keeps 17 close
-unfolding close outcome
+unfolding close outcome putDay putWaiting
 close-keeps b o e p a =
     let t : today b.day ≡ b.day.number = simp (is-open b o 17 e refl a.right-day) in
     record {
@@ -217,7 +217,7 @@ close-keeps b o e p a =
       items = close-fits b.day.number b.holdings b.waiting (subst (λ (x : ℕ). Each (ItemFits b.day.number x b.holdings) b.waiting) t p.items);
       halves = closed-halves (keep (λ item. not (leaves b.day.number item)) b.waiting);
       references = λ s r. omega (arith, close-sent s r (λ item. not (leaves b.day.number item)) b.waiting, p.references s r);
-      day = unfold close outcome in close-day b o p.day a;
+      day = unfold close outcome putDay putWaiting in close-day b o p.day a;
     }
 
 -- the cycle: its buyers are such accounts, its sellers members with cash
@@ -251,7 +251,7 @@ legs-get n t d h (i ∷ rest) e =
     )
 
 cycle-keeps : Keeps 16 cycle
-unfolding cycle outcome
+unfolding cycle outcome putDay putHoldings putWaiting
 cycle-keeps b o e p a =
     let ms = legs (settled b) in
     let P : Item → Type 0 = ItemFits b.day.number (today b.day) b.holdings in
@@ -268,7 +268,7 @@ cycle-keeps b o e p a =
           (notSettled-fits P b p.items);
       halves = notSettled-fits Half b p.halves;
       references = λ s r. omega (arith, cycle-sent s r b, p.references s r);
-      day = unfold cycle outcome in cycle-day b o e p.day a;
+      day = unfold cycle outcome putDay putHoldings putWaiting in cycle-day b o e p.day a;
     }
 
 -- every form

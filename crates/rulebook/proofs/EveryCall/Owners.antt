@@ -8,7 +8,7 @@ use borrow.Author.Tests.{eqb-true}
 use Rattle.rulebook.specs.declared.Security.{Security}
 use Rattle.plain.specs.Lists.{if_then_else_, _is_, some, Each}
 use Rattle.plain.proofs.Tests.{both}
-use Rattle.rulebook.specs.Ledger.{Holdings, fresh, admitted, putBalance, putCash, putSecurities, putOutside}
+use Rattle.rulebook.specs.Ledger.{Holdings, fresh, admitted, putBalance, putCash, putSecurities, putOutside, withOutside}
 use Rattle.rulebook.specs.declared.Account.{Account}
 use Rattle.rulebook.specs.Movements.{Place, account, type91, type90, cashOf, member0, Movement, credit, debit, credits, debits, booked}
 use Rattle.rulebook.specs.Premise.{withCode, SecurityFits, AccountFits, CashFits}
@@ -39,7 +39,7 @@ changed-fits : (c v : ℕ) (xs : List Security) → Each SecurityFits xs → Eac
 changed-fits c v [] e = tt
 changed-fits c v (x ∷ rest) e = (go (x.code is c), changed-fits c v rest (e .1))
   where
-    go : (t : Bool) → SecurityFits (if t then record { code = x.code; issued = x.issued; outside = record { 0 = v } } else x)
+    go : (t : Bool) → SecurityFits (if t then withOutside v x else x)
     go true = let f = e .0 in record { code-least = f.code-least; code-most = f.code-most; issued-least = f.issued-least; issued-most = f.issued-most }
     go false = e .0
 

@@ -12,7 +12,7 @@ use Rattle.plain.specs.Lists.{if_then_else_, _is_, within, Each}
 use Rattle.plain.proofs.Lists.{_and_, total-append}
 use Rattle.rulebook.specs.AccountTypes.{pledgedOrBlocked, wrongTypes}
 use Rattle.rulebook.specs.Field as Field
-use Rattle.rulebook.specs.Ledger.{Ledger, Holdings, accountOf, sameAccount, outsideOf, putHoldings, putSecurities}
+use Rattle.rulebook.specs.Ledger.{Ledger, Holdings, accountOf, sameAccount, outsideOf, putHoldings, putSecurities, newSecurity}
 use Rattle.rulebook.specs.declared.Account.{Account}
 use Rattle.rulebook.specs.Movements.{Place, account, type91, type90, cashOf, member0, move, bookHas}
 use Rattle.rulebook.specs.Forms.{outcome, counts, moving, admit, deposit, withdraw, transfer, payIn, payOut, forms, rowOf, used, least}
@@ -99,7 +99,7 @@ pub admit-steps : Steps 2 admit
 unfolding admit putSecurities forms rowOf
 admit-steps b o e p a =
     let xs = b.holdings.securities in
-    let new : Security = record { code = o.security; issued = o.quantity; outside = record { 0 = 0 } } in
+    let new : Security = newSecurity o.security o.quantity in
     let z = unknown o.security xs (not-admitted b o e a.security) in
     let k : withCode o.security (xs ++ (new ∷ [])) ≡ 1 = simp (total-append, eq-eqb o.security o.security refl) (omega (arith, z)) in
     moved 2 b o (xs ++ (new ∷ [])) (type90 o.security) (type91 o.security) o.quantity.0

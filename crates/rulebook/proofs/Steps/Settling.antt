@@ -7,7 +7,7 @@ use native.Mathlib.Omega.{arith}
 use Rattle.rulebook.specs.declared.Party.{Party}
 use Rattle.rulebook.specs.declared.Item.{Item}
 use Rattle.rulebook.specs.AccountTypes.{pledgedOrBlocked}
-use Rattle.rulebook.specs.Ledger.{Ledger, Holdings, accountOf, putSecurities}
+use Rattle.rulebook.specs.Ledger.{Ledger, Holdings, accountOf, putSecurities, putDay, putHoldings, putWaiting}
 use Rattle.rulebook.specs.declared.Account.{Account}
 use Rattle.rulebook.specs.Movements.{Place, account, type91, type90, cashOf, member0, Movement, booked, bookHas}
 use Rattle.rulebook.specs.Cycle.{Marked, seller, buyer, over, bringsShares, takesShares, bringsCash, takesCash, sharesTaken, sharesBrought, cashTaken, cashBrought, settling, withMark, settled, legs}
@@ -136,7 +136,7 @@ pub cycle-exact :
 cycle-exact b = booked-exact (legs (settled b)) b.holdings (legs-known b.holdings (settled b)) (cycle-enough b)
 
 pub cycle-steps : Steps 16 cycle
-unfolding cycle outcome counts putSecurities forms rowOf
+unfolding cycle outcome counts putDay putHoldings putWaiting putSecurities forms rowOf
 cycle-steps b o e p a =
     let ts = settled b in
     let P : Item → Type 0 = ItemFits b.day.number (today b.day) b.holdings in
