@@ -58,12 +58,12 @@ unfolding
     refused putMinute accepted orderCall readCall callOf
 computed = (refl, refl)
 
--- held and outside make up the issue
+-- held and outside make up what was issued
 held-after : held 101 after ≡ 400
 unfolding issuedOf outsideOf
 held-after =
-    let issue = premise-after fresh area (recordsOf example) fresh-premise .issue 101 in
-    omega (arith, rw (computed .1) at issue)
+    let whole = premise-after fresh area (recordsOf example) fresh-premise .issue (admitted-one .code) in
+    omega (arith, rw (computed .1) at whole)
 
 custody : custodyLines after ≡ text "CUSTODY 101 ISSUED 1000 HELD 400 OUTSIDE 600\n"
 unfolding custodyLines custodyFrom custodyOf custodyLine digits decimal
