@@ -108,10 +108,10 @@ fn window_of(day: Day, order: Order) -> Window
     if form == 1 {
         return between(0, 480);
     }
-    if parties::is_within(3, 9, form) {
+    if checking::is_within(3, 9, form) {
         return between(510, by_kind(kind, 870, 750));
     }
-    if parties::is_within(12, 13, form) {
+    if checking::is_within(12, 13, form) {
         return between(480, payment_end(day, order.settlement_day));
     }
     if form == 16 {
@@ -129,7 +129,7 @@ fn outside_window(day: Day, order: Order) -> bool
     ensures { λ r. ⌜ r ≡ outsideWindow day order ⌝ }
 {
     let window = window_of(day, order);
-    !parties::is_within(window.first, window.last, order.minute)
+    !checking::is_within(window.first, window.last, order.minute)
 }
 
 // The first refusal of the day's stage; 0 where none applies.

@@ -13,11 +13,11 @@ fn wrong_reference(book: &[u64], order: Order) -> bool
     ensures { λ r. ⌜ r ≡ wrongReference (ledgerOf (now (book .entry)) .waiting) order ⌝ }
 {
     let form = order.form;
-    if !parties::is_within(12, 15, form) {
+    if !checking::is_within(12, 15, form) {
         return false;
     }
     let waits = words::is_found(search::first_sent(book, item::sender_of(order), order.reference));
-    (parties::is_within(12, 14, form) & waits) | ((form == 15) & !waits)
+    (checking::is_within(12, 14, form) & waits) | ((form == 15) & !waits)
 }
 
 // RULES 7.15: what cannot be cancelled by this sender.

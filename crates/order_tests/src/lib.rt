@@ -15,7 +15,7 @@ fn wrong_security(book: &[u64], order: Order) -> bool
 {
     let form = order.form;
     let admitted = book::admitted(book, order.security);
-    ((parties::is_within(3, 9, form) | parties::is_within(12, 14, form)) & !admitted)
+    ((checking::is_within(3, 9, form) | checking::is_within(12, 14, form)) & !admitted)
         | ((form == 2) & admitted)
 }
 
@@ -49,9 +49,9 @@ fn wrong_parties(order: Order) -> bool
         parties::account_of(order.security, order.debited),
         parties::account_of(order.security, order.credited),
     );
-    let instruction = parties::is_within(12, 13, form);
-    ((parties::is_within(5, 9, form) | instruction) & shareholders_differ)
-        | (parties::is_within(6, 9, form) & !members_equal)
+    let instruction = checking::is_within(12, 13, form);
+    ((checking::is_within(5, 9, form) | instruction) & shareholders_differ)
+        | (checking::is_within(6, 9, form) & !members_equal)
         | (instruction & members_equal)
         | (((form == 5) | (form == 14)) & one_account)
 }
@@ -62,11 +62,11 @@ fn wrong_days(today: u64, order: Order) -> bool
     ensures { λ r. ⌜ r ≡ wrongDays today order ⌝ }
 {
     let form = order.form;
-    let instruction = parties::is_within(12, 13, form);
+    let instruction = checking::is_within(12, 13, form);
     let settles = order.settlement_day;
     let traded = order.trade_day;
-    (parties::is_within(5, 9, form) & (settles != today))
-        | (instruction & !parties::is_within(today, today + 20, settles))
+    (checking::is_within(5, 9, form) & (settles != today))
+        | (instruction & !checking::is_within(today, today + 20, settles))
         | ((form == 14) & (settles != traded + 3))
         | (instruction & (today < traded))
         | ((form == 14) & (traded != today))

@@ -1,19 +1,11 @@
 // What an order, an item and a party name: the accounts on both sides, and those that count a security.
 ghost use mathlib.Core.Path.{_≡_};
-ghost use Rattle.plain.specs.Lists.{within};
 ghost use Rattle.rulebook.specs.Ledger.{accountOf, sameAccount};
 ghost use Rattle.rulebook.specs.Cycle.{seller, buyer};
 ghost use Rattle.parties.specs.Counted.{outsideAccount};
 use rulebook::Account;
 use rulebook::Item;
 use rulebook::Party;
-
-// From `low` to `high`, both ends inside.
-pub fn is_within(low: u64, high: u64, n: u64) -> bool
-    ensures { λ r. ⌜ r ≡ within low high n ⌝ }
-{
-    (low <= n) & (n <= high)
-}
 
 pub fn account_of(security: u64, party: Party) -> Account
     ensures { λ r. ⌜ r ≡ accountOf security party ⌝ }

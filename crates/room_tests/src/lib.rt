@@ -19,7 +19,7 @@ fn too_little(book: &[u64], order: Order) -> bool
         let outside = book::outside(book, order.security);
         return outside.0 < order.quantity.0;
     }
-    if parties::is_within(4, 9, form) {
+    if checking::is_within(4, 9, form) {
         let balance = book::balance(book, parties::account_of(order.security, order.debited));
         return balance.0 < order.quantity.0;
     }
@@ -88,12 +88,12 @@ fn no_space(book: &[u64], order: Order) -> bool
         let to = book::balance(book, parties::account_of(order.security, order.credited));
         return (to.0 == 0) & is_full(book);
     }
-    if parties::is_within(5, 9, form) {
+    if checking::is_within(5, 9, form) {
         let to = book::balance(book, parties::account_of(order.security, order.credited));
         let from = book::balance(book, parties::account_of(order.security, order.debited));
         return (to.0 == 0) & (from.0 != order.quantity.0) & is_full(book);
     }
-    if parties::is_within(12, 13, form) {
+    if checking::is_within(12, 13, form) {
         return !is_matched(book, order);
     }
     form == 14
