@@ -24,7 +24,7 @@ use Rattle.rulebook.specs.Refusals.{overCeiling, refusals}
 use Rattle.rulebook.specs.Call.{putMinute}
 use Rattle.rulebook.specs.Calls.{Call, resultOf, bookAfter}
 use Rattle.rulebook.specs.Premise.{Sizes, accountCount, Premise}
-use Rattle.rulebook.proofs.ByCall.{result-step}
+use Rattle.rulebook.proofs.ByCall.{by-answer}
 use Rattle.rulebook.proofs.Orders.{accepted}
 use Rattle.rulebook.proofs.Sums.{none-held, held-exact, none-paid, cash-exact}
 use Rattle.rulebook.proofs.Steps.OneCall.{cashAt, Step, step-codes, step-issued}
@@ -50,6 +50,7 @@ fresh-premise = record {
   references = λ s r. omega arith;
   halves = tt;
   day = fresh-day;
+  rate = record { least = omega arith; most = omega arith };
 }
 
 -- held + outside = issued
@@ -117,12 +118,12 @@ order-premise b o bytes p e z =
       references = k.references;
       halves = k.halves;
       day = k.day;
+      rate = k.rate;
     }
 
 -- and so does any call, with any record and any area
 pub call-premise : (b : Ledger) (c : Call) → Premise b → Premise (resultOf b c .book)
-call-premise b c p =
-    result-step Premise (λ b. 0) (λ c. 0) (λ c. 0) (λ b o bytes area p e z. (order-premise b o bytes p e z, refl)) b c p .0
+call-premise = by-answer (λ b _ after. Premise b → Premise after) (λ b p. p) (λ b o bytes area e z p. order-premise b o bytes p e z)
 
 -- and any list of calls
 pub calls-premise : (b : Ledger) → Premise b → (calls : List Call) → Premise (bookAfter b calls)

@@ -13,15 +13,15 @@ use Rattle.plain.specs.Lists.{_is_, within, keep, Each}
 use Rattle.plain.proofs.Lists.{_and_, total-append, each-so, each-both, each-append, each-kept}
 use Rattle.rulebook.specs.AccountTypes.{alike, wrongTypes}
 use Rattle.rulebook.specs.Field as Field
-use Rattle.rulebook.specs.Ledger.{Ledger, Holdings, accountOf, admitted, putDay, putHoldings, putWaiting, putSecurities, newSecurity}
+use Rattle.rulebook.specs.Ledger.{Ledger, Holdings, accountOf, admitted, putDay, putHoldings, putWaiting, putSecurities, newSecurity, putRate}
 use Rattle.rulebook.specs.Movements.{Movement, booked}
-use Rattle.rulebook.specs.Waiting.{isTrade, itemOf, senderOf, sentBy, marking, staying, bothMarked}
+use Rattle.rulebook.specs.Waiting.{isTrade, itemOf, senderOf, sentBy, marking, staying, bothMarked, singleOf}
 use Rattle.rulebook.specs.Matching.{tolerance}
 use Rattle.rulebook.specs.Cycle.{buyer, settled, notSettled, legs}
 use Rattle.rulebook.specs.Close.{leaves}
-use Rattle.rulebook.specs.Forms.{outcome, moving, silent, openDay, admit, deposit, withdraw, transfer, payIn, payOut, instruct, trade, cancel, cycle, close, forms, rowOf, used, least, effect}
+use Rattle.rulebook.specs.Forms.{outcome, moving, silent, openDay, admit, deposit, withdraw, transfer, payIn, payOut, instruct, trade, cancel, cycle, close, forms, rowOf, used, least, effect, setRate}
 use Rattle.rulebook.specs.Call.{putMinute}
-use Rattle.rulebook.specs.Premise.{SecurityFits, accountType, AccountFits, StateFits, ItemFits, Premise, today}
+use Rattle.rulebook.specs.Premise.{SecurityFits, accountType, AccountFits, StateFits, ItemFits, Premise, today, RateFits}
 use Rattle.rulebook.proofs.ByCall.{Effect, AllForms, not-read, by-form}
 use Rattle.rulebook.proofs.Rounds.{settled-fits, notSettled-fits, Due, settled-due}
 use Rattle.rulebook.proofs.Types.{free-type, pledged-type, alike-free, deposit-free, transfer-free, pledge-types, release-types, block-types, unblock-types}
@@ -31,7 +31,7 @@ use Rattle.rulebook.proofs.EveryCall.References.{Once, arrive-sent, can
 use Rattle.rulebook.proofs.Halves.{Half, arrive-halves, kept-halves, closed-halves}
 use Rattle.rulebook.proofs.EveryCall.Items.{item-later, marking-fits, close-fits, arrive-fits}
 use Rattle.rulebook.proofs.EveryCall.Days.{DayAt, same-day, open-day, cycle-day, close-day}
-use Rattle.rulebook.proofs.EveryCall.NewItems.{single, deliver-item, receive-item, trade-item, deliver-sender, receive-sender, trade-sender}
+use Rattle.rulebook.proofs.EveryCall.NewItems.{deliver-item, receive-item, trade-item, deliver-sender, receive-sender, trade-sender}
 
 abbrev Waiting : Ledger → List Item → Type 0
 Waiting b ws = Each (ItemFits b.day.number (today b.day) b.holdings) ws
@@ -43,6 +43,7 @@ pub record Kept (minute : ℕ) (b : Ledger) : Type 0 where
   pub references : Once b.waiting
   pub halves : Each Half b.waiting
   pub day : DayAt minute b
+  pub rate : RateFits b.rate
 
 abbrev Keeps : ℕ → Effect → Type 0
 Keeps n f = (b : Ledger) (o : Order) → o.form ≡ n → Premise b → Accepted b o → Kept o.minute (f b o .after)
@@ -54,10 +55,10 @@ owned-of b p = record { securities = p.securities; accounts = p.accounts; cash =
 
 moving-kept :
     (b : Ledger) (minute : ℕ) (ms : List Movement) → Owned b.holdings → Waiting b b.waiting → Once b.waiting → Each Half b.waiting → DayAt minute b
-    → AllGet b.holdings ms
+    → RateFits b.rate → AllGet b.holdings ms
     → Kept minute (moving ms b .after)
 unfolding moving outcome putHoldings putMinute putDay
-moving-kept b minute ms w i r v d g = record {
+moving-kept b minute ms w i r v d f g = record {
   owned = booked-owned ms b.holdings g w;
   items =
       each-so _ _
@@ -66,12 +67,13 @@ moving-kept b minute ms w i r v d g = record {
   references = r;
   halves = v;
   day = d;
+  rate = f;
 }
 
 moves :
     (n : ℕ) → (n is 17) ≡ false → (b : Ledger) (o : Order) (ms : List Movement) → o.form ≡ n → Premise b → Accepted b o → AllGet b.holdings ms
     → Kept o.minute (moving ms b .after)
-moves n l b o ms e p a g = moving-kept b o.minute ms (owned-of b p) p.items p.references p.halves (same-day n b o e l p.day a) g
+moves n l b o ms e p a g = moving-kept b o.minute ms (owned-of b p) p.items p.references p.halves (same-day n b o e l p.day a) p.rate g
 
 -- the credited account
 credited-fits :
@@ -148,30 +150,30 @@ admit-keeps b o e p a =
     moving-kept (putHoldings h b) o.minute _ w
     (each-so _ _ (item-later b.day.number b.day.number (today b.day) (today b.day) b.holdings h (omega arith) refl (admit-more new b.holdings)) b.waiting
     p.items)
-    p.references p.halves (unfold putMinute putDay in same-day 2 b o e refl p.day a) (tt, tt)
+    p.references p.halves (unfold putMinute putDay in same-day 2 b o e refl p.day a) p.rate (tt, tt)
 
 -- forms that change what waits
 
 waiting-kept : (b : Ledger) (minute : ℕ) (ws : List Item) → Premise b → DayAt minute b → Waiting b ws → Once ws → Each Half ws → Kept minute (putWaiting ws b)
 unfolding putWaiting putMinute putDay
-waiting-kept b minute ws p d i r v = record { owned = owned-of b p; items = i; references = r; halves = v; day = d }
+waiting-kept b minute ws p d i r v = record { owned = owned-of b p; items = i; references = r; halves = v; day = d; rate = p.rate }
 
 instruct-keeps :
     (n : ℕ) → (n is 17) ≡ false → within 12 14 n ≡ true → (n is 15) ≡ false
-    → ((b : Ledger) (o : Order) → Accepted b o → o.form ≡ n → ItemFits b.day.number (today b.day) b.holdings (single o))
-    → ((b : Ledger) (o : Order) → Accepted b o → o.form ≡ n → (s r : ℕ) → sentBy s r (single o) ≡ true → (s ≡ senderOf o) × (r ≡ o.reference))
+    → ((b : Ledger) (o : Order) → Accepted b o → o.form ≡ n → ItemFits b.day.number (today b.day) b.holdings (singleOf o))
+    → ((b : Ledger) (o : Order) → Accepted b o → o.form ≡ n → (s r : ℕ) → sentBy s r (singleOf o) ≡ true → (s ≡ senderOf o) × (r ≡ o.reference))
     → Keeps n instruct
 unfolding instruct silent outcome
 instruct-keeps n l t t₂ item sender b o e p a =
     waiting-kept b o.minute _ p (same-day n b o e l p.day a)
-    (arrive-fits _ _ b.holdings (tolerance o.currency) (single o) (item b o a e) b.waiting p.items)
+    (arrive-fits _ _ b.holdings (tolerance b.rate o.currency) (singleOf o) (item b o a e) b.waiting p.items)
     (λ s r. omega (
       arith,
-      arrive-sent s r (tolerance o.currency) (single o) b.waiting,
-      new-once (senderOf o) o.reference (single o) b.waiting p.references
+      arrive-sent s r (tolerance b.rate o.currency) (singleOf o) b.waiting,
+      new-once (senderOf o) o.reference (singleOf o) b.waiting p.references
           (none-waits b o n e t t₂ a.reference) (sender b o a e) s r,
     ))
-    (arrive-halves (tolerance o.currency) (single o) (unfold bothMarked itemOf in refl) b.waiting p.halves)
+    (arrive-halves (tolerance b.rate o.currency) (singleOf o) (unfold bothMarked itemOf in refl) b.waiting p.halves)
 
 trade-keeps : Keeps 14 trade
 unfolding trade silent outcome
@@ -206,6 +208,7 @@ open-keeps b o e p a =
       references = p.references;
       halves = p.halves;
       day = unfold openDay silent outcome in open-day b o e p.day a;
+      rate = p.rate;
     }
 
 close-keeps : Keeps 17 close
@@ -218,6 +221,7 @@ close-keeps b o e p a =
       halves = closed-halves (keep (λ item. not (leaves b.day.number item)) b.waiting);
       references = λ s r. omega (arith, close-sent s r (λ item. not (leaves b.day.number item)) b.waiting, p.references s r);
       day = unfold close outcome putDay putWaiting in close-day b o p.day a;
+      rate = p.rate;
     }
 
 -- the cycle: its buyers are such accounts, its sellers members with cash
@@ -269,7 +273,21 @@ cycle-keeps b o e p a =
       halves = notSettled-fits Half b p.halves;
       references = λ s r. omega (arith, cycle-sent s r b, p.references s r);
       day = unfold cycle outcome putDay putHoldings putWaiting in cycle-day b o e p.day a;
+      rate = p.rate;
     }
+
+-- the rate
+
+rate-keeps : Keeps 18 setRate
+unfolding setRate silent outcome putRate putMinute putDay used least forms rowOf
+rate-keeps b o e p a = record {
+  owned = owned-of b p;
+  items = p.items;
+  references = p.references;
+  halves = p.halves;
+  day = same-day 18 b o e refl p.day a;
+  rate = record { least = a.ranges.quantity (needed 18 Field.quantity o e refl) .0; most = a.fits.quantity };
+}
 
 -- every form
 
@@ -283,7 +301,7 @@ forms-keep =
     and transfer-keeps 8 refl refl refl refl refl (λ d c w. pledged-type c (block-types d c w .1))
     and transfer-keeps 9 refl refl refl refl refl (λ d c w. free-type c (unblock-types d c w .0))
     and payIn-keeps and payOut-keeps and instruct-keeps 12 refl refl refl deliver-item deliver-sender and instruct-keeps 13 refl refl refl receive-item
-    receive-sender and trade-keeps and cancel-keeps and cycle-keeps and close-keeps and tt
+    receive-sender and trade-keeps and cancel-keeps and cycle-keeps and close-keeps and rate-keeps and tt
 
 -- no order that was read has another form
 pub effect-keeps : (b : Ledger) (o : Order) → Premise b → Accepted b o → Kept o.minute (effect b o .after)
