@@ -6,9 +6,11 @@ ghost use Rattle.plain.specs.Lists.{_is_, _atMost_};
 ghost use Rattle.rulebook.specs.Waiting.{itemOf, isDeliver, isReceive, ownReference, sidesOf, senderOf, sentBy, notCancellable, withState, marked, bothMarked, unmarked};
 ghost use Rattle.rulebook.specs.Matching.{tolerance, agree, pairsWith, pairOf};
 ghost use Rattle.rulebook.specs.Close.{closeKind};
+ghost use Rattle.rulebook.specs.Premise.{RateFits};
 use rulebook::Cents;
 use rulebook::Item;
 use rulebook::Order;
+use rulebook::Rate;
 use rulebook::Shares;
 use rulebook::State;
 
@@ -210,14 +212,15 @@ pub fn unmark(item: Item) -> Item
 
 // ---- matching
 
-// 2,000 (USD) or 3,015,000 (LBP).
-pub fn tolerance_of(currency: u64) -> Cents
-    ensures { λ r. ⌜ r .0 ≡ tolerance currency ⌝ }
+// Twenty dollars in hundredths of the currency, in LBP by the rate.
+pub fn tolerance_of(rate: Rate, currency: u64) -> Cents
+    requires { ⌜ RateFits (rate .0) ⌝ }
+    ensures { λ r. ⌜ r .0 ≡ tolerance (rate .0) currency ⌝ }
 {
     if currency == 1 {
         return Cents(2_000);
     }
-    Cents(3_015_000)
+    Cents(20 * rate.0)
 }
 
 // Two quantities are equal.

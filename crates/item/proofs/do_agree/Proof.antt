@@ -1,7 +1,7 @@
 -- `item::do_agree` meets its contract. Assumes nothing.
 use borrow.Author.Needs.{needs}
 use mathlib.Core.Bool.{and-assoc}
-use Rattle.rulebook.specs.Matching.{agree}
+use Rattle.rulebook.specs.Matching.{sameTerms, agree}
 use Rattle.item.proofs.do_agree.Statement.{statement}
 use Rattle.item.proofs.do_agree.Tie as tie
 
@@ -10,7 +10,7 @@ abbrev quantities : tie.After-struct-known14 → tie.After-are-equal
 quantities c = c .before .before .before .before .before .before
 
 pub do-agree-spec : {M : Type 1} → statement M
-unfolding agree
+unfolding agree sameTerms
 do-agree-spec =
     tie.close
     (tie.spec (λ c κs. search needs) (λ c κs. search needs) (λ c κs. search needs)
