@@ -3,7 +3,7 @@ ghost use mathlib.Core.Path.{_≡_};
 ghost use mathlib.Core.Bool.{_&&_};
 ghost use Prim.Native.Nat.{_+_, _-_, _<_, _^_};
 ghost use Rattle.plain.specs.Lists.{_is_, _atMost_};
-ghost use Rattle.rulebook.specs.Waiting.{itemOf, isDeliver, isReceive, ownReference, sidesOf, senderOf, sentBy, notCancellable, withState, marked, bothMarked, unmarked};
+ghost use Rattle.rulebook.specs.Waiting.{itemOf, singleOf, isDeliver, isReceive, ownReference, sidesOf, senderOf, sentBy, notCancellable, withState, marked, bothMarked, unmarked};
 ghost use Rattle.rulebook.specs.Matching.{tolerance, agree, pairsWith, pairOf};
 ghost use Rattle.rulebook.specs.Close.{closeKind};
 ghost use Rattle.rulebook.specs.Premise.{RateFits};
@@ -34,6 +34,18 @@ pub fn item_of(state: State, order: Order) -> Item
         settlement_day: order.settlement_day,
         state,
     }
+}
+
+// An instruction as a single.
+pub fn single_of(order: Order) -> Item
+    ensures { λ r. ⌜ r ≡ singleOf order ⌝ }
+{
+    let delivers = order.form == 12;
+    let state = State::Single {
+        delivers,
+        reference: order.reference,
+    };
+    item_of(state, order)
 }
 
 // The item in another state.
