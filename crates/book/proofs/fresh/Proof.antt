@@ -31,8 +31,6 @@ loop-again c =
     let l = c .before .loop in
     (omega arith, simp length-set (l .inv .1), zeros-more (l .book) (l .i) (omega arith) (l .inv .2))
 
-
-
 -- behind the loop every word is 0
 all-zeros : (c : tie.After-put-rate-arg Inv-loop μ-loop) → c .before .before .loop .book ≡ zeros
 all-zeros c =
