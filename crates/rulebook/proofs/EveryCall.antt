@@ -1,5 +1,5 @@
 -- The premise: the fresh book meets it, and every call keeps it, accepted or refused. Assumes nothing.
--- its parts: the number of accounts; who has a balance or cash; waiting items; their references; the day; what an order brings in; all forms
+-- its parts: the number of accounts; who has a balance or cash; waiting items; their references; the day; what an order brings in; all forms; the rate
 pub mod Counting
 pub mod Owners
 pub mod Items
@@ -7,6 +7,7 @@ pub mod References
 pub mod Days
 pub mod NewItems
 pub mod Keeping
+pub mod Rated
 use mathlib.Core.Path.{_≡_, refl, subst}
 use mathlib.Core.Bool.{Bool, true, false}
 use mathlib.Core.List.{List, [], _∷_}
@@ -34,6 +35,7 @@ use Rattle.rulebook.proofs.EveryCall.Counting.{fresh-counted, step-coun
 use Rattle.rulebook.proofs.EveryCall.Owners.{fresh-owned}
 use Rattle.rulebook.proofs.EveryCall.Days.{fresh-day}
 use Rattle.rulebook.proofs.EveryCall.Keeping.{effect-keeps as form-keeps}
+use Rattle.rulebook.proofs.EveryCall.Rated.{order-rate}
 
 pub fresh-premise : Premise fresh
 unfolding fresh
@@ -118,7 +120,7 @@ order-premise b o bytes p e z =
       references = k.references;
       halves = k.halves;
       day = k.day;
-      rate = k.rate;
+      rate = order-rate b o p.rate a;
     }
 
 -- and so does any call, with any record and any area

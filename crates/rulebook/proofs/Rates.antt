@@ -1,51 +1,29 @@
 -- The rate: that of a book which calls lead to, what pairs by it, and what form 18 does and meets. Assumes nothing.
-use mathlib.Core.Path.{_≡_, refl, ap, sym, _∙_, subst}
+use mathlib.Core.Path.{_≡_, refl, ap, sym, _∙_}
 use mathlib.Core.Bool.{Bool, true, false, _||_, or-false}
 use mathlib.Core.List.{List, [], _∷_, _++_}
 use Prim.Native.Nat.{ℕ, _+_, _-_, _*_}
 use native.Mathlib.Omega.{arith}
 use borrow.Author.Tests.{eqb-true, le-leb, lt-leb}
 use Rattle.plain.specs.Lists.{if_then_else_, _is_, first}
-use Rattle.plain.proofs.Lists.{_and_}
 use Rattle.rulebook.specs.declared.Item.{Item}
 use Rattle.rulebook.specs.declared.Order.{Order}
-use Rattle.rulebook.specs.Ledger.{Ledger, fresh, putDay, putHoldings, putWaiting, putRate}
+use Rattle.rulebook.specs.Ledger.{Ledger, fresh, putDay, putWaiting}
 use Rattle.rulebook.specs.Waiting.{singleOf, isDeliver, isReceive}
 use Rattle.rulebook.specs.Matching.{tolerance, sameTerms, agree, pairsWith, pairOf, arrive}
-use Rattle.rulebook.specs.Forms.{counts, outcome, moving, silent, openDay, admit, deposit, withdraw, transfer, payIn, payOut, instruct, trade, cancel, cycle, close, setRate, forms, rowOf, effect}
+use Rattle.rulebook.specs.Forms.{counts, outcome, silent, instruct, setRate, forms, rowOf, effect}
 use Rattle.rulebook.specs.Rows.{rowsBytes}
 use Rattle.rulebook.specs.AccountTypes.{wrongTypes}
 use Rattle.rulebook.specs.Refusals.{wrongCycle, wrongSecurity, wrongPair, wrongParties, wrongDays, wrongReference, wrongCancel, tooLittle, overCeiling, dayTests, orderTests, itemTests, roomTests, refusals}
 use Rattle.rulebook.specs.Call.{putMinute, accepted, orderCall}
 use Rattle.rulebook.specs.Calls.{Call, Accepted, resultOf, recordIn, callsOn, bookAfter, acceptedOf, acceptedCalls, lastRate}
-use Rattle.rulebook.specs.Rates.{RateOfCalls, deliverOf, receiveOf, Facing, PairsByRate, PoundTolerance, RateAlone, RateRefusals}
+use Rattle.rulebook.specs.Rates.{RateOfCalls, deliverOf, receiveOf, Facing, PoundTolerance, RateAlone, RateRefusals}
 use Rattle.rulebook.proofs.Sizes.{never-grows}
+use Rattle.rulebook.proofs.EveryCall.Rated.{effect-rate}
 use Rattle.rulebook.proofs.EveryCall.Items.{deliver-not-receive, receive-not-deliver}
-use Rattle.rulebook.proofs.ByCall.{Effect, AllForms, HasForm, by-form, by-answer, effect-at}
+use Rattle.rulebook.proofs.ByCall.{by-answer, effect-at}
 
 -- ---- the rate of a book
-
--- what an order of a form makes of the rate
-abbrev Rates : ℕ → Effect → Type 0
-Rates n f = (b : Ledger) (o : Order) → f b o .after .rate ≡ (if n is 18 then o.quantity.0 else b.rate)
-
-all-rates : AllForms (λ n f. Rates n f.effect) 1 forms
-unfolding
-    forms openDay admit deposit withdraw transfer payIn payOut instruct trade cancel cycle close setRate moving silent outcome putDay putHoldings
-    putWaiting putRate
-all-rates =
-    (λ b o. refl) and (λ b o. refl) and (λ b o. refl) and (λ b o. refl) and (λ b o. refl) and (λ b o. refl) and (λ b o. refl) and (λ b o. refl)
-    and (λ b o. refl) and (λ b o. refl) and (λ b o. refl) and (λ b o. refl) and (λ b o. refl) and (λ b o. refl) and (λ b o. refl) and (λ b o. refl)
-    and (λ b o. refl) and (λ b o. refl) and tt
-
-effect-rate : (b : Ledger) (o : Order) → effect b o .after .rate ≡ (if o.form is 18 then o.quantity.0 else b.rate)
-unfolding effect silent outcome
-effect-rate b o = by-form (λ n f. Rates n f.effect) all-rates (λ m none b o. go m none b o (m is 18) refl) o.form b o
-  where
-    -- no form, so not 18
-    go : (m : ℕ) → (HasForm m → ⊥) → (b : Ledger) (o : Order) (t : Bool) → (m is 18) ≡ t → b.rate ≡ (if m is 18 then o.quantity.0 else b.rate)
-    go m none b o true p = absurd (none (subst HasForm (sym (eqb-true m 18 p)) (unfold forms in (omega arith, omega arith))))
-    go m none b o false p = simp p
 
 last-after : (before : ℕ) (first later : List Accepted) → lastRate before (first ++ later) ≡ lastRate (lastRate before first) later
 unfolding lastRate

@@ -9,7 +9,7 @@ use Rattle.rulebook.specs.Waiting.{singleOf, isDeliver, isReceive}
 use Rattle.rulebook.specs.Matching.{sameTerms, pairOf}
 use Rattle.rulebook.specs.Forms.{counts, effect}
 use Rattle.rulebook.specs.Refusals.{wrongDay, goesBack, outsideWindow, refusals}
-use Rattle.rulebook.specs.Call.{Result, putMinute, orderCall}
+use Rattle.rulebook.specs.Call.{putMinute, orderCall}
 use Rattle.rulebook.specs.Calls.{Call, callsOn, bookAfter, acceptedCalls, lastRate}
 use Rattle.rulebook.specs.Premise.{Premise}
 use Rattle.rulebook.specs.declared.Answer.{Answer}

@@ -21,7 +21,7 @@ use Rattle.rulebook.specs.Cycle.{buyer, settled, notSettled, legs}
 use Rattle.rulebook.specs.Close.{leaves}
 use Rattle.rulebook.specs.Forms.{outcome, moving, silent, openDay, admit, deposit, withdraw, transfer, payIn, payOut, instruct, trade, cancel, cycle, close, forms, rowOf, used, least, effect, setRate}
 use Rattle.rulebook.specs.Call.{putMinute}
-use Rattle.rulebook.specs.Premise.{SecurityFits, accountType, AccountFits, StateFits, ItemFits, Premise, today, RateFits}
+use Rattle.rulebook.specs.Premise.{SecurityFits, accountType, AccountFits, StateFits, ItemFits, Premise, today}
 use Rattle.rulebook.proofs.ByCall.{Effect, AllForms, not-read, by-form}
 use Rattle.rulebook.proofs.Rounds.{settled-fits, notSettled-fits, Due, settled-due}
 use Rattle.rulebook.proofs.Types.{free-type, pledged-type, alike-free, deposit-free, transfer-free, pledge-types, release-types, block-types, unblock-types}
@@ -43,7 +43,6 @@ pub record Kept (minute : ℕ) (b : Ledger) : Type 0 where
   pub references : Once b.waiting
   pub halves : Each Half b.waiting
   pub day : DayAt minute b
-  pub rate : RateFits b.rate
 
 abbrev Keeps : ℕ → Effect → Type 0
 Keeps n f = (b : Ledger) (o : Order) → o.form ≡ n → Premise b → Accepted b o → Kept o.minute (f b o .after)
@@ -55,10 +54,10 @@ owned-of b p = record { securities = p.securities; accounts = p.accounts; cash =
 
 moving-kept :
     (b : Ledger) (minute : ℕ) (ms : List Movement) → Owned b.holdings → Waiting b b.waiting → Once b.waiting → Each Half b.waiting → DayAt minute b
-    → RateFits b.rate → AllGet b.holdings ms
+    → AllGet b.holdings ms
     → Kept minute (moving ms b .after)
 unfolding moving outcome putHoldings putMinute putDay
-moving-kept b minute ms w i r v d f g = record {
+moving-kept b minute ms w i r v d g = record {
   owned = booked-owned ms b.holdings g w;
   items =
       each-so _ _
@@ -67,13 +66,12 @@ moving-kept b minute ms w i r v d f g = record {
   references = r;
   halves = v;
   day = d;
-  rate = f;
 }
 
 moves :
     (n : ℕ) → (n is 17) ≡ false → (b : Ledger) (o : Order) (ms : List Movement) → o.form ≡ n → Premise b → Accepted b o → AllGet b.holdings ms
     → Kept o.minute (moving ms b .after)
-moves n l b o ms e p a g = moving-kept b o.minute ms (owned-of b p) p.items p.references p.halves (same-day n b o e l p.day a) p.rate g
+moves n l b o ms e p a g = moving-kept b o.minute ms (owned-of b p) p.items p.references p.halves (same-day n b o e l p.day a) g
 
 -- the credited account
 credited-fits :
@@ -150,13 +148,13 @@ admit-keeps b o e p a =
     moving-kept (putHoldings h b) o.minute _ w
     (each-so _ _ (item-later b.day.number b.day.number (today b.day) (today b.day) b.holdings h (omega arith) refl (admit-more new b.holdings)) b.waiting
     p.items)
-    p.references p.halves (unfold putMinute putDay in same-day 2 b o e refl p.day a) p.rate (tt, tt)
+    p.references p.halves (unfold putMinute putDay in same-day 2 b o e refl p.day a) (tt, tt)
 
 -- forms that change what waits
 
 waiting-kept : (b : Ledger) (minute : ℕ) (ws : List Item) → Premise b → DayAt minute b → Waiting b ws → Once ws → Each Half ws → Kept minute (putWaiting ws b)
 unfolding putWaiting putMinute putDay
-waiting-kept b minute ws p d i r v = record { owned = owned-of b p; items = i; references = r; halves = v; day = d; rate = p.rate }
+waiting-kept b minute ws p d i r v = record { owned = owned-of b p; items = i; references = r; halves = v; day = d }
 
 instruct-keeps :
     (n : ℕ) → (n is 17) ≡ false → within 12 14 n ≡ true → (n is 15) ≡ false
@@ -208,7 +206,6 @@ open-keeps b o e p a =
       references = p.references;
       halves = p.halves;
       day = unfold openDay silent outcome in open-day b o e p.day a;
-      rate = p.rate;
     }
 
 close-keeps : Keeps 17 close
@@ -221,7 +218,6 @@ close-keeps b o e p a =
       halves = closed-halves (keep (λ item. not (leaves b.day.number item)) b.waiting);
       references = λ s r. omega (arith, close-sent s r (λ item. not (leaves b.day.number item)) b.waiting, p.references s r);
       day = unfold close outcome putDay putWaiting in close-day b o p.day a;
-      rate = p.rate;
     }
 
 -- the cycle: its buyers are such accounts, its sellers members with cash
@@ -273,21 +269,14 @@ cycle-keeps b o e p a =
       halves = notSettled-fits Half b p.halves;
       references = λ s r. omega (arith, cycle-sent s r b, p.references s r);
       day = unfold cycle outcome putDay putHoldings putWaiting in cycle-day b o e p.day a;
-      rate = p.rate;
     }
 
 -- the rate
 
 rate-keeps : Keeps 18 setRate
-unfolding setRate silent outcome putRate putMinute putDay used least forms rowOf
-rate-keeps b o e p a = record {
-  owned = owned-of b p;
-  items = p.items;
-  references = p.references;
-  halves = p.halves;
-  day = same-day 18 b o e refl p.day a;
-  rate = record { least = a.ranges.quantity (needed 18 Field.quantity o e refl) .0; most = a.fits.quantity };
-}
+unfolding setRate silent outcome putRate putMinute putDay
+rate-keeps b o e p a =
+    record { owned = owned-of b p; items = p.items; references = p.references; halves = p.halves; day = same-day 18 b o e refl p.day a }
 
 -- every form
 
