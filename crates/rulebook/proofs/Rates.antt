@@ -17,7 +17,7 @@ use Rattle.rulebook.specs.AccountTypes.{wrongTypes}
 use Rattle.rulebook.specs.Refusals.{wrongCycle, wrongSecurity, wrongPair, wrongParties, wrongDays, wrongReference, wrongCancel, tooLittle, overCeiling, dayTests, orderTests, itemTests, roomTests, refusals}
 use Rattle.rulebook.specs.Call.{putMinute, accepted, orderCall}
 use Rattle.rulebook.specs.Calls.{Call, Accepted, resultOf, recordIn, callsOn, bookAfter, acceptedOf, acceptedCalls, lastRate}
-use Rattle.rulebook.specs.Rates.{RateOfCalls, deliverOf, receiveOf, Facing, PoundTolerance, RateAlone, RateRefusals}
+use Rattle.rulebook.specs.Rates.{RateOfCalls, deliverOf, receiveOf, Facing, PairsWithin, Tolerances, RateAlone, RateRefusals}
 use Rattle.rulebook.proofs.Sizes.{never-grows}
 use Rattle.rulebook.proofs.EveryCall.Rated.{effect-rate}
 use Rattle.rulebook.proofs.EveryCall.Items.{deliver-not-receive, receive-not-deliver}
@@ -77,30 +77,36 @@ second limit false new w delivers receives = receive-second limit w new delivers
 
 -- what the instruction leaves waiting
 module _ (b : Ledger) (o : Order) (w : Item) (f : Facing b o w) where
-  arrived : effect b o .after .waiting ≡ arrive (20 * b.rate) (singleOf o) (w ∷ [])
-  unfolding instruct silent outcome putWaiting forms rowOf tolerance
+  arrived : effect b o .after .waiting ≡ arrive (tolerance b.rate o.currency) (singleOf o) (w ∷ [])
+  unfolding instruct silent outcome putWaiting forms rowOf
   arrived = go (o.form is 12) refl (f .instructs)
     where
-      limit : arrive (tolerance b.rate o.currency) (singleOf o) b.waiting ≡ arrive (20 * b.rate) (singleOf o) (w ∷ [])
-      limit = rw (f .pounds, f .alone)
+      alone : arrive (tolerance b.rate o.currency) (singleOf o) b.waiting ≡ arrive (tolerance b.rate o.currency) (singleOf o) (w ∷ [])
+      alone = rw (f .alone)
 
       go :
           (t : Bool) → (o.form is 12) ≡ t → (o.form is 12 || (o.form is 13 || false)) ≡ true
-          → effect b o .after .waiting ≡ arrive (20 * b.rate) (singleOf o) (w ∷ [])
-      go true p q = rw (effect-at 12 b o (eqb-true o.form 12 p)) limit
-      go false p q = rw (effect-at 13 b o (eqb-true o.form 13 (simp (p, or-false) at q))) limit
+          → effect b o .after .waiting ≡ arrive (tolerance b.rate o.currency) (singleOf o) (w ∷ [])
+      go true p q = rw (effect-at 12 b o (eqb-true o.form 12 p)) alone
+      go false p q = rw (effect-at 13 b o (eqb-true o.form 13 (simp (p, or-false) at q))) alone
 
-  by-agreement :
-      (t : Bool) → agree (20 * b.rate) (deliverOf o w) (receiveOf o w) ≡ t
-      → effect b o .after .waiting ≡ (if t then pairOf (deliverOf o w) (receiveOf o w) ∷ [] else w ∷ singleOf o ∷ [])
-  by-agreement t e = arrived ∙ second (20 * b.rate) (o.form is 12) (singleOf o) w (f .delivers) (f .receives) ∙ rw e
+  module _ (limit : ℕ) (e : tolerance b.rate o.currency ≡ limit) where
+    by-agreement :
+        (t : Bool) → agree limit (deliverOf o w) (receiveOf o w) ≡ t
+        → effect b o .after .waiting ≡ (if t then pairOf (deliverOf o w) (receiveOf o w) ∷ [] else w ∷ singleOf o ∷ [])
+    by-agreement t a =
+        arrived ∙ ap (λ (n : ℕ). arrive n (singleOf o) (w ∷ [])) e
+        ∙ second limit (o.form is 12) (singleOf o) w (f .delivers) (f .receives) ∙ rw a
 
-pub pound-tolerance : PoundTolerance
-unfolding PoundTolerance
-pound-tolerance b o w f = record {
-  equal = λ e. by-agreement b o w f true (agree-at (20 * b.rate) (deliverOf o w) (receiveOf o w) (f .terms) e);
-  above = λ e. by-agreement b o w f false (agree-above (20 * b.rate) (deliverOf o w) (receiveOf o w) (f .terms) e);
-}
+    within-limit : PairsWithin limit b o w
+    within-limit = record {
+      equal = λ d. by-agreement true (agree-at limit (deliverOf o w) (receiveOf o w) (f .terms) d);
+      above = λ d. by-agreement false (agree-above limit (deliverOf o w) (receiveOf o w) (f .terms) d);
+    }
+
+pub tolerances : Tolerances
+unfolding Tolerances tolerance
+tolerances b o w f = ((λ e. within-limit b o w f 2_000 (rw e)), (λ e. within-limit b o w f (20 * b.rate) (rw e)))
 
 -- ---- form 18
 

@@ -25,7 +25,7 @@ use Rattle.rulebook.proofs.CheckingOrder.{checking-order}
 use Rattle.rulebook.proofs.Sizes.{cycle-space}
 use Rattle.rulebook.proofs.EveryCall.{fresh-premise, call-premise}
 use Rattle.rulebook.proofs.Demand3.{demand3}
-use Rattle.rulebook.proofs.Rates.{rate-of-calls, pound-tolerance, rate-alone, rate-refusals}
+use Rattle.rulebook.proofs.Rates.{rate-of-calls, tolerances, rate-alone, rate-refusals}
 use Rattle.rulebook.proofs.Desk.{desk}
 
 -- the writer writes where nothing refuses
@@ -89,7 +89,7 @@ theorems = record {
   callsKeep = call-premise;
   balanced = demand3;
   rateOfCalls = rate-of-calls;
-  poundTolerance = pound-tolerance;
+  tolerances = tolerances;
   rateAlone = rate-alone;
   rateRefusals = rate-refusals;
   desk = desk;

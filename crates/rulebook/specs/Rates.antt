@@ -27,26 +27,28 @@ deliverOf order waits = if order.form is 12 then singleOf order else waits
 abbrev pub receiveOf : Order → Item → Item
 receiveOf order waits = if order.form is 12 then waits else singleOf order
 
--- an instruction in LBP comes to a book in which one single waits, of the other form, that has every term but the amount in common with it
+-- an instruction comes to a book in which one single waits, of the other form, that has every term but the amount in common with it
 pub record Facing (book : Ledger) (order : Order) (waits : Item) : Type 0 where
   pub instructs : (order.form oneOf (12 ∷ 13 ∷ [])) ≡ true
-  pub pounds : order.currency ≡ 2
   pub alone : book.waiting ≡ waits ∷ []
   pub delivers : isDeliver (deliverOf order waits .state) ≡ true
   pub receives : isReceive (receiveOf order waits .state) ≡ true
   pub terms : sameTerms (deliverOf order waits) (receiveOf order waits) ≡ true
 
--- RULES 8.4, 8.9: the two pair if the receive offers just 20 times the book's rate more, and go on waiting if it offers one more than that
-pub record PairsByRate (book : Ledger) (order : Order) (waits : Item) : Type 0 where
+-- the two pair if the receive offers just the limit more than the deliver asks, and go on waiting if it offers one more than that
+pub record PairsWithin (limit : ℕ) (book : Ledger) (order : Order) (waits : Item) : Type 0 where
   pub equal :
-      receiveOf order waits .amount .0 ≡ deliverOf order waits .amount .0 + 20 * book.rate
+      receiveOf order waits .amount .0 ≡ deliverOf order waits .amount .0 + limit
       → effect book order .after .waiting ≡ pairOf (deliverOf order waits) (receiveOf order waits) ∷ []
   pub above :
-      receiveOf order waits .amount .0 ≡ deliverOf order waits .amount .0 + 20 * book.rate + 1
+      receiveOf order waits .amount .0 ≡ deliverOf order waits .amount .0 + limit + 1
       → effect book order .after .waiting ≡ waits ∷ singleOf order ∷ []
 
-unfoldable pub PoundTolerance : Type 0
-PoundTolerance = (book : Ledger) (order : Order) (waits : Item) → Facing book order waits → PairsByRate book order waits
+-- RULES 8.4, 8.9: in USD the limit is 2,000, in LBP 20 times the rate that the book has when the second of the two arrives, whatever that rate is
+unfoldable pub Tolerances : Type 0
+Tolerances =
+    (book : Ledger) (order : Order) (waits : Item) → Facing book order waits
+    → (order.currency ≡ 1 → PairsWithin 2_000 book order waits) × (order.currency ≡ 2 → PairsWithin (20 * book.rate) book order waits)
 
 -- RULES 6.18: an accepted form 18 changes the rate and the last minute, writes nothing and counts nothing
 unfoldable pub RateAlone : Type 0

@@ -12,7 +12,7 @@ use Rattle.rulebook.specs.Refusals.{noSpace}
 use Rattle.rulebook.specs.Checks.{CheckingOrder}
 use Rattle.rulebook.specs.Calls.{Call, resultOf, Demand3}
 use Rattle.rulebook.specs.Premise.{Premise}
-use Rattle.rulebook.specs.Rates.{RateOfCalls, PoundTolerance, RateAlone, RateRefusals}
+use Rattle.rulebook.specs.Rates.{RateOfCalls, Tolerances, RateAlone, RateRefusals}
 use Rattle.rulebook.specs.Desk.{Desk}
 use Rattle.rulebook.specs.declared.Order.{Order}
 use Rattle.rulebook.specs.declared.Read.{Read}
@@ -35,15 +35,15 @@ pub record Theorems : Type 0 where
   pub nothingShort : (book : Ledger) → NothingShort book.holdings (settling book)
   -- RULES 3.10: a cycle always has room
   pub cycleHasRoom : (book : Ledger) (o : Order) → o.form ≡ 16 → Premise book → noSpace book o ≡ false
-  -- RULES 12.15 to 12.18: the fresh book meets the premise, and every call keeps it, so a caller never has to show it
+  -- RULES 12.15 to 12.17: the fresh book meets the premise, and every call keeps it, so a caller never has to show it
   pub freshMeets : Premise fresh
   pub callsKeep : (book : Ledger) (c : Call) → Premise book → Premise (resultOf book c .book)
   -- RULES 12.6 to 12.12: the one claim about every list of calls
   pub balanced : Demand3
   -- RULES 12.18: the rate is that of the last form 18
   pub rateOfCalls : RateOfCalls
-  -- RULES 8.4, 8.9: in LBP a difference of just 20 times the rate pairs, and one more does not, whatever the rate
-  pub poundTolerance : PoundTolerance
+  -- RULES 8.4, 8.9: a difference of 2,000 in USD, and of just 20 times the rate in LBP, pairs, and one more does not, whatever the rate
+  pub tolerances : Tolerances
   -- RULES 6.18: form 18 changes nothing but the rate and the minute, and meets refusals 6, 8 and 9 alone
   pub rateAlone : RateAlone
   pub rateRefusals : RateRefusals
