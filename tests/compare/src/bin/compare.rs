@@ -1,4 +1,5 @@
-//! The comparison: fixed lists, fresh lists, and the record alone.
+//! The comparison: fixed lists, fresh lists, worked lists, and the record
+//! alone.
 //!
 //!     compare                        all lists, with a fresh seed besides
 //!     compare --seed N               all lists, N in place of the fresh seed
