@@ -31,7 +31,7 @@ pub struct Profile {
     pub moving_rates: u64,
     /// Settlement days of instructions are at most this far ahead.
     pub days_ahead: u64,
-    /// Quantities and amounts near the fields' ends, in percent.
+    /// Quantities, amounts and rates near the fields' ends, in percent.
     pub large_values: u64,
     /// Days of kind 2, in percent.
     pub fridays: u64,
@@ -160,6 +160,7 @@ const MOVING_RATE: Profile = Profile {
     scenarios: 0,
     moving_rates: 120,
     days_ahead: 5,
+    large_values: 30,
     ..USUAL
 };
 

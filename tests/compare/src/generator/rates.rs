@@ -18,17 +18,25 @@ impl Desk<'_> {
         Order { form: 18, quantity: self.rate(), ..Order::default() }
     }
 
-    /// Mostly near the first rate, or small. At a wide one instructions pair
-    /// whose amounts no member has.
+    /// Mostly near the first rate, or small.
     fn rate(&mut self) -> u64 {
-        match self.random.below(20) {
-            0..=3 => FIRST_RATE,
-            4..=8 => self.random.between(FIRST_RATE - 2, FIRST_RATE + 2),
-            9..=11 => self.random.between(1, 2),
-            12..=15 => self.random.between(1, 100),
-            16 => LAST_OF_32_BITS + self.random.below(3),
-            17 => LAST_OF_40_BITS + self.random.below(3),
-            18 => MOST,
+        if self.random.percent(self.profile.large_values) {
+            return self.wide_rate();
+        }
+        match self.random.below(4) {
+            0 => FIRST_RATE,
+            1 => self.random.between(FIRST_RATE - 2, FIRST_RATE + 2),
+            2 => self.random.between(1, 2),
+            _ => self.random.between(1, 100),
+        }
+    }
+
+    /// At such a rate instructions pair whose amounts no member has.
+    fn wide_rate(&mut self) -> u64 {
+        match self.random.below(4) {
+            0 => LAST_OF_32_BITS + self.random.below(3),
+            1 => LAST_OF_40_BITS + self.random.below(3),
+            2 => MOST,
             _ => self.random.sized(40).max(1),
         }
     }
