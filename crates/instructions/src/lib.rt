@@ -25,9 +25,9 @@ fn pair_of(arriving: Item, waits: Item) -> Item
 {
     let state = waits.state;
     if item::is_deliver(state) {
-        return item::pair_up(waits, arriving);
+        return matching::pair_up(waits, arriving);
     }
-    item::pair_up(arriving, waits)
+    matching::pair_up(arriving, waits)
 }
 
 // 12 and 13. The earlier single is removed and the pair goes last. Otherwise the single goes last.

@@ -31,7 +31,7 @@ fn is_pairing(book: &[u64], i: usize, limit: Cents, arriving: Item) -> bool
     if !book::may_pair(book, i, arriving.quantity) {
         return false;
     }
-    item::pairs_with(limit, arriving, book::item_at(book, i))
+    matching::pairs_with(limit, arriving, book::item_at(book, i))
 }
 
 // The item that waits under that sender's reference.
@@ -73,6 +73,6 @@ pub fn first_partner(book: &[u64], arriving: Item) -> Found
         r ≡ placeIn (pairsWith (tolerance (ledgerOf (now (book .entry)) .rate) (arriving .currency)) arriving) (ledgerOf (now (book .entry)) .waiting)
         ⌝ }
 {
-    let limit = item::tolerance_of(book::rate(book), arriving.currency);
+    let limit = matching::tolerance_of(book::rate(book), arriving.currency);
     first_pairing(book, limit, arriving)
 }

@@ -108,7 +108,7 @@ fn state(state: u64, first: u64, second: u64, marks: u64) -> Result<State, Strin
     }
 }
 
-/// RULES 12.18.
+/// RULES 3.1.
 fn rate(word: u64) -> Result<u64, String> {
     let (least, most) = usual_range(Field::Quantity);
     if (least..=most).contains(&word) { Ok(word) } else { Err(format!("the rate is {word}")) }

@@ -1,8 +1,8 @@
--- `item::pairs_with` meets its contract. Assumes nothing.
+-- `matching::pairs_with` meets its contract. Assumes nothing.
 use borrow.Author.Needs.{needs}
 use Rattle.rulebook.specs.Matching.{pairsWith}
-use Rattle.item.proofs.pairs_with.Statement.{statement}
-use Rattle.item.proofs.pairs_with.Tie as tie
+use Rattle.matching.proofs.pairs_with.Statement.{statement}
+use Rattle.matching.proofs.pairs_with.Tie as tie
 
 pub pairs-with-spec : {M : Type 1} → statement M
 unfolding pairsWith

@@ -1,9 +1,9 @@
--- `item::do_agree` meets its contract. Assumes nothing.
+-- `matching::do_agree` meets its contract. Assumes nothing.
 use borrow.Author.Needs.{needs}
 use mathlib.Core.Bool.{and-assoc}
 use Rattle.rulebook.specs.Matching.{sameTerms, agree}
-use Rattle.item.proofs.do_agree.Statement.{statement}
-use Rattle.item.proofs.do_agree.Tie as tie
+use Rattle.matching.proofs.do_agree.Statement.{statement}
+use Rattle.matching.proofs.do_agree.Tie as tie
 
 -- where the quantities were compared
 abbrev quantities : tie.After-struct-known14 → tie.After-are-equal

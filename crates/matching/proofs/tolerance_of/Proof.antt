@@ -1,9 +1,9 @@
--- `item::tolerance_of` meets its contract. Assumes nothing.
+-- `matching::tolerance_of` meets its contract. Assumes nothing.
 use borrow.Author.Tests.{eq-eqb, ne-eqb}
 use borrow.Author.Needs.{needs}
 use Rattle.rulebook.specs.Matching.{tolerance}
-use Rattle.item.proofs.tolerance_of.Statement.{statement}
-use Rattle.item.proofs.tolerance_of.Tie as tie
+use Rattle.matching.proofs.tolerance_of.Statement.{statement}
+use Rattle.matching.proofs.tolerance_of.Tie as tie
 
 pub tolerance-of-spec : {M : Type 1} → statement M
 unfolding tolerance

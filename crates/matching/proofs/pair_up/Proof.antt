@@ -1,8 +1,8 @@
--- `item::pair_up` meets its contract. Assumes nothing.
+-- `matching::pair_up` meets its contract. Assumes nothing.
 use borrow.Author.Needs.{needs}
 use Rattle.rulebook.specs.Matching.{pairOf}
-use Rattle.item.proofs.pair_up.Statement.{statement}
-use Rattle.item.proofs.pair_up.Tie as tie
+use Rattle.matching.proofs.pair_up.Statement.{statement}
+use Rattle.matching.proofs.pair_up.Tie as tie
 
 pub pair-up-spec : {M : Type 1} → statement M
 unfolding pairOf
