@@ -148,7 +148,7 @@ pub record DayFits (d : Day) : Type 0 where
   pub kind-least : d.opened ≡ true → 1 ≤ d.kind
   pub office : d.opened ≡ true → d.minute ≤ officeEnd d.kind
 
--- what a quantity can be
+-- RULES 3.1: what the quantity of a record can be
 pub record RateFits (rate : ℕ) : Type 0 where
   pub least : 1 ≤ rate
   pub most : rate < 2 ^ 40
