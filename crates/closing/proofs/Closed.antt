@@ -24,10 +24,10 @@ use Rattle.book.specs.Meaning.{ledgerOf}
 use Rattle.book.specs.Stored.{Kept, Means}
 use Rattle.book.specs.Handled.{Handled}
 use Rattle.book.proofs.Parts.{next}
-use Rattle.day.specs.Closing.{kept, notices, closeCounts, countedOne, CanCount, itemsClosed}
+use Rattle.closing.specs.Closing.{kept, notices, closeCounts, countedOne, CanCount, itemsClosed}
 use Rattle.rows.proofs.Notices.{notice-fits}
 use Rattle.rows.proofs.RowBytes.{rows-length, rows-append}
-use Rattle.day.proofs.Closing.{kind-most, kept-one, notices-same, counts-same, kept-same, notices-one, counted-one, rows-most, counted-most}
+use Rattle.closing.proofs.Closing.{kind-most, kept-one, notices-same, counts-same, kept-same, notices-one, counted-one, rows-most, counted-most}
 
 module _ (day : ℕ) (start free : List ℕ) where
   abbrev b : Ledger

@@ -1,4 +1,4 @@
--- `day::close_items` meets its contract. The invariant: the first i items are dealt with, and j of them stay. Assumes nothing.
+-- `closing::close_items` meets its contract. The invariant: the first i items are dealt with, and j of them stay. Assumes nothing.
 use Prim.Native.Nat.{ℕ, _+_, _-_, _*_, _≤_}
 use native.Mathlib.Omega.{arith}
 use mathlib.Core.Logic.{⊎-elim}
@@ -7,10 +7,10 @@ use borrow.Author.Needs.{needs}
 use lib.ListN.{length, drop, length-drop}
 use lib.Seq.{length-take-le}
 use Rattle.book.specs.Meaning.{ledgerOf}
-use Rattle.day.proofs.Closed.{Closing, closing-so, none-closed, items-there, rows-few, area-long, row-room, can-count}
-use Rattle.day.proofs.Closed.{settles-soon, one-stays, one-leaves, leaving-fits, all-closed}
-use Rattle.day.proofs.close_items.Statement.{statement}
-use Rattle.day.proofs.close_items.Tie as tie
+use Rattle.closing.proofs.Closed.{Closing, closing-so, none-closed, items-there, rows-few, area-long, row-room, can-count}
+use Rattle.closing.proofs.Closed.{settles-soon, one-stays, one-leaves, leaving-fits, all-closed}
+use Rattle.closing.proofs.close_items.Statement.{statement}
+use Rattle.closing.proofs.close_items.Tie as tie
 
 abbrev Inv-loop : tie.InvT-loop
 Inv-loop book₀ number area₀ n counted₀ j₀ i₀ book area counted j i = (n ≡ length (ledgerOf book₀ .waiting)) × Closing number book₀ area₀ book area counted j i

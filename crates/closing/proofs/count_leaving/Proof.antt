@@ -1,13 +1,13 @@
--- `day::count_leaving` meets its contract. Assumes nothing.
+-- `closing::count_leaving` meets its contract. Assumes nothing.
 use native.Mathlib.Nat.{add-zero}
 use native.Mathlib.Omega.{arith}
 use Prim.Native.Nat.{_≤_}
 use borrow.Author.Needs.{needs}
 use borrow.Author.Tests.{eq-eqb, ne-eqb}
-use Rattle.day.specs.Closing.{countedOne}
-use Rattle.day.proofs.Closing.{item-sides}
-use Rattle.day.proofs.count_leaving.Statement.{statement}
-use Rattle.day.proofs.count_leaving.Tie as tie
+use Rattle.closing.specs.Closing.{countedOne}
+use Rattle.closing.proofs.Closing.{item-sides}
+use Rattle.closing.proofs.count_leaving.Statement.{statement}
+use Rattle.closing.proofs.count_leaving.Tie as tie
 
 few : (c : tie.After-sides-of) → c .sides-of .result ≤ 2
 few c = omega (arith, c .sides-of .ensures, item-sides (c .before .args .state))

@@ -1,8 +1,8 @@
--- `day::close` meets its contract. Assumes nothing.
+-- `closing::close` meets its contract. Assumes nothing.
 use borrow.Author.Needs.{needs}
-use Rattle.day.proofs.Closed.{day-closed}
-use Rattle.day.proofs.close.Statement.{statement}
-use Rattle.day.proofs.close.Tie as tie
+use Rattle.closing.proofs.Closed.{day-closed}
+use Rattle.closing.proofs.close.Statement.{statement}
+use Rattle.closing.proofs.close.Tie as tie
 
 abbrev closed-items : tie.After-put-day → tie.After-close-items
 closed-items c = c .before .before .before .before .before .before

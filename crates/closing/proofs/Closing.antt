@@ -14,7 +14,7 @@ use Rattle.rulebook.specs.Forms.{counts}
 use Rattle.rulebook.specs.declared.Item.{Item}
 use Rattle.rulebook.specs.declared.State.{State}
 use Rattle.rulebook.specs.declared.State.the-variants.{Single, Pair, Trade}
-use Rattle.day.specs.Closing.{kept, gone, notices, closeCounts, countedOne}
+use Rattle.closing.specs.Closing.{kept, gone, notices, closeCounts, countedOne}
 
 -- ---- those that pass a test, with one element more
 
