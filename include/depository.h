@@ -26,7 +26,7 @@
 extern "C" {
 #endif
 
-#define DEPOSITORY_BOOK_WORDS 1771u
+#define DEPOSITORY_BOOK_WORDS 1772u
 #define DEPOSITORY_RECORD_BYTES 40u
 #define DEPOSITORY_AREA_BYTES 4096u
 #define DEPOSITORY_ROW_BYTES 16u
@@ -136,7 +136,8 @@ enum depository_state {
     DEPOSITORY_EXCHANGE_TRADE = 4
 };
 
-/* Makes a fresh book, whatever the words held: day 0, closed, nothing else. */
+/* Makes a fresh book, whatever the words held: day 0, closed, the rate
+ * 150,750, nothing else. */
 uint64_t depository_fresh(uint64_t *book, size_t book_words);
 
 /* One call. Nothing is assumed of the record and of the area, neither of
@@ -164,6 +165,11 @@ uint64_t depository_write(const uint64_t *fields, size_t fields_words,
 /* The day; `values_words` is DEPOSITORY_DAY_WORDS. */
 uint64_t depository_day(const uint64_t *book, size_t book_words,
                         uint64_t *values, size_t values_words);
+
+/* The rate that form 18 set last, in hundredths of LBP for one USD: 150,750
+ * before any. `values_words` is 1. */
+uint64_t depository_rate(const uint64_t *book, size_t book_words,
+                         uint64_t *values, size_t values_words);
 
 /* How many securities are admitted, how many accounts there are (each of
  * another balance than 0), how many items wait; `values_words` is

@@ -35,6 +35,9 @@ static uint64_t call(uint64_t *book, const uint64_t *fields, uint64_t *counts) {
     return depository_call(book, DEPOSITORY_BOOK_WORDS, record, sizeof record, area, sizeof area, counts, DEPOSITORY_COUNT_WORDS);
 }
 
+/* The largest rate that a record can set. */
+#define WIDEST_RATE 1099511627775u
+
 /* The orders of a short day: all that the reading functions can tell of. */
 static const uint64_t ORDERS[][DEPOSITORY_FIELD_WORDS] = {
     {[DEPOSITORY_FORM] = 1, [DEPOSITORY_MINUTE] = 470, [DEPOSITORY_QUANTITY] = 1},
@@ -62,6 +65,7 @@ static const uint64_t ORDERS[][DEPOSITORY_FIELD_WORDS] = {
      [DEPOSITORY_DEBITED_MEMBER] = 5, [DEPOSITORY_DEBITED_SHAREHOLDER] = 79, [DEPOSITORY_CREDITED_MEMBER] = 6,
      [DEPOSITORY_CREDITED_TYPE] = 110, [DEPOSITORY_CREDITED_SHAREHOLDER] = 79, [DEPOSITORY_QUANTITY] = 1,
      [DEPOSITORY_AMOUNT] = 2, [DEPOSITORY_TRADE_DAY] = 1, [DEPOSITORY_SETTLEMENT_DAY] = 21, [DEPOSITORY_REFERENCE] = 14},
+    {[DEPOSITORY_FORM] = 18, [DEPOSITORY_MINUTE] = 517, [DEPOSITORY_QUANTITY] = WIDEST_RATE},
 };
 
 /* A book after these orders. Each of them is accepted. */

@@ -63,6 +63,10 @@ static uint64_t call_day(struct lent *b) {
     return depository_day(b[BOOK].start, b[BOOK].length, b[VALUES].start, b[VALUES].length);
 }
 
+static uint64_t call_rate(struct lent *b) {
+    return depository_rate(b[BOOK].start, b[BOOK].length, b[VALUES].start, b[VALUES].length);
+}
+
 static uint64_t call_sizes(struct lent *b) {
     return depository_sizes(b[BOOK].start, b[BOOK].length, b[VALUES].start, b[VALUES].length);
 }
@@ -96,6 +100,7 @@ static const struct function FUNCTIONS[] = {
     {"depository_read", call_read, {A_RECORD, [FIELDS] = DEPOSITORY_FIELD_WORDS}},
     {"depository_write", call_write, {[AREA] = DEPOSITORY_RECORD_BYTES, [FIELDS] = DEPOSITORY_FIELD_WORDS}},
     {"depository_day", call_day, {A_BOOK, [VALUES] = DEPOSITORY_DAY_WORDS}},
+    {"depository_rate", call_rate, {A_BOOK, [VALUES] = 1}},
     {"depository_sizes", call_sizes, {A_BOOK, [VALUES] = DEPOSITORY_SIZE_WORDS}},
     {"depository_security", call_security, {A_BOOK, [VALUES] = DEPOSITORY_SECURITY_WORDS}},
     {"depository_held", call_held, {A_BOOK, [VALUES] = 1}},

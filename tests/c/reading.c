@@ -13,7 +13,7 @@ static void tells(uint64_t number, const char *what, const uint64_t *expected, s
 
 static void reads_day_and_sizes(void) {
     const uint64_t day[DEPOSITORY_DAY_WORDS] = {[DEPOSITORY_DAY_NUMBER] = 1, [DEPOSITORY_DAY_OPEN] = 1, [DEPOSITORY_DAY_KIND] = 1,
-                                                [DEPOSITORY_DAY_CYCLES] = 0, [DEPOSITORY_DAY_MINUTE] = 516};
+                                                [DEPOSITORY_DAY_CYCLES] = 0, [DEPOSITORY_DAY_MINUTE] = 517};
     const uint64_t sizes[DEPOSITORY_SIZE_WORDS] = {[DEPOSITORY_SECURITIES] = 2, [DEPOSITORY_ACCOUNTS] = 1, [DEPOSITORY_ITEMS] = 3};
     tells(depository_day(book, DEPOSITORY_BOOK_WORDS, values, DEPOSITORY_DAY_WORDS), "the day", day, DEPOSITORY_DAY_WORDS);
     tells(depository_sizes(book, DEPOSITORY_BOOK_WORDS, values, DEPOSITORY_SIZE_WORDS), "the sizes", sizes, DEPOSITORY_SIZE_WORDS);
@@ -44,11 +44,16 @@ static uint64_t cash(uint64_t member, uint64_t currency) {
     return depository_cash(book, DEPOSITORY_BOOK_WORDS, member, currency, values, 1);
 }
 
+static uint64_t rate(void) {
+    return depository_rate(book, DEPOSITORY_BOOK_WORDS, values, 1);
+}
+
 static uint64_t held(uint64_t code) {
     return depository_held(book, DEPOSITORY_BOOK_WORDS, code, values, 1);
 }
 
 static void reads_figures(void) {
+    reads_one(rate(), "the rate", WIDEST_RATE);
     reads_one(held(101), "held of the first", 400);
     reads_one(held(102), "held of the second", 0);
     reads_one(held(UINT64_MAX), "held of no security", 0);
@@ -64,6 +69,21 @@ static void reads_figures(void) {
     reads_one(cash(64, 0), "currency 0", 0);
     reads_one(cash(64, 3), "currency 3", 0);
     reads_one(cash(UINT64_MAX, UINT64_MAX), "the largest member", 0);
+}
+
+/* The rate of a fresh book, then that of each order that sets one. */
+static void reads_the_rate(void) {
+    const uint64_t rates[] = {1, 150749, WIDEST_RATE};
+    uint64_t counts[DEPOSITORY_COUNT_WORDS];
+    depository_fresh(book, DEPOSITORY_BOOK_WORDS);
+    reads_one(rate(), "the first rate", 150750);
+    call(book, ORDERS[0], counts);
+    for (size_t i = 0; i < sizeof rates / sizeof rates[0]; i++) {
+        const uint64_t order[DEPOSITORY_FIELD_WORDS] = {[DEPOSITORY_FORM] = 18, [DEPOSITORY_MINUTE] = 480, [DEPOSITORY_QUANTITY] = rates[i]};
+        uint64_t number = call(book, order, counts);
+        check(number == 0, "a rate", "answers", number);
+        reads_one(rate(), "the rate set last", rates[i]);
+    }
 }
 
 static uint64_t item(size_t place) {
@@ -99,6 +119,7 @@ int main(void) {
     reads_securities();
     reads_figures();
     reads_items();
+    reads_the_rate();
     reads_a_deliver();
     return close_checks();
 }

@@ -6,8 +6,14 @@ use std::path::{Path, PathBuf};
 use std::process::Command;
 
 /// All of the library that this program calls.
-const FUNCTIONS: [&str; 5] =
-    ["depository_fresh", "depository_call", "depository_held", "depository_read", "depository_write"];
+const FUNCTIONS: [&str; 6] = [
+    "depository_fresh",
+    "depository_call",
+    "depository_rate",
+    "depository_held",
+    "depository_read",
+    "depository_write",
+];
 
 fn main() {
     println!("cargo::rustc-check-cfg=cfg(library_linked)");
@@ -34,9 +40,9 @@ fn link(kind: &str, library: &Path) {
     println!("cargo::rustc-link-lib={kind}={name}");
 }
 
-/// A copy of a static library in which all names but the five functions are
-/// its own: a library for use from C may bring what this program has too,
-/// such as a panic handler.
+/// A copy of a static library in which all names but these functions are its
+/// own: a library for use from C may bring what this program has too, such as
+/// a panic handler.
 fn with_own_names(library: &Path) -> PathBuf {
     let directory = PathBuf::from(env::var("OUT_DIR").expect("cargo gives OUT_DIR"));
     let (object, archive) = (directory.join("depository.o"), directory.join("libdepository.a"));

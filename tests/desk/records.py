@@ -19,6 +19,7 @@ WIDTHS = {
 }
 MOST = 2**40 - 1
 USD = 1
+LBP = 2
 
 
 def record(**fields):
@@ -65,19 +66,19 @@ def pay_out(minute, member, amount):
     return record(form=11, minute=minute, currency=USD, debited_member=member, amount=amount)
 
 
-def trade(form, minute, of, to, quantity, amount, days, reference):
-    """Deliver 12, receive 13, exchange trade 14, in security 101 and USD; a type that a form does not use is 0."""
-    return record(form=form, minute=minute, security=101, currency=USD, quantity=quantity, amount=amount,
+def trade(form, minute, of, to, quantity, amount, days, reference, currency=USD):
+    """Deliver 12, receive 13, exchange trade 14, in security 101; a type that a form does not use is 0."""
+    return record(form=form, minute=minute, security=101, currency=currency, quantity=quantity, amount=amount,
                   trade_day=days[0], settlement_day=days[1], reference=reference,
                   **side("debited", of), **side("credited", to))
 
 
-def deliver(minute, quantity, amount, reference, days=(1, 1), of=(7, 20, 5), to=(8, 0, 5)):
-    return trade(12, minute, of, to, quantity, amount, days, reference)
+def deliver(minute, quantity, amount, reference, days=(1, 1), of=(7, 20, 5), to=(8, 0, 5), currency=USD):
+    return trade(12, minute, of, to, quantity, amount, days, reference, currency)
 
 
-def receive(minute, quantity, amount, reference, days=(1, 1), of=(7, 0, 5), to=(8, 20, 5)):
-    return trade(13, minute, of, to, quantity, amount, days, reference)
+def receive(minute, quantity, amount, reference, days=(1, 1), of=(7, 0, 5), to=(8, 20, 5), currency=USD):
+    return trade(13, minute, of, to, quantity, amount, days, reference, currency)
 
 
 def exchange(minute, quantity, amount, reference, days=(1, 4), of=(7, 20, 5), to=(8, 20, 6)):
@@ -96,6 +97,10 @@ def close(minute):
     return record(form=17, minute=minute)
 
 
+def set_rate(minute, rate, **more):
+    return record(form=18, minute=minute, quantity=rate, **more)
+
+
 def example_records():
     holder = (7, 20, 5)
     return [
@@ -109,16 +114,21 @@ def example_records():
 def day_and_reading():
     return [
         (admit(500, 101, 1000), 6, 0),  # no day is open
+        (set_rate(480, 150_000), 6, 0),
         (open_day(481, 1), 9, 0),  # form 1 has until 480
         (open_day(470, 3), 5, 0),  # there is no day kind 3
         (open_day(470, 1), 0, 0),
         (open_day(471, 1), 6, 0),  # a day is open
         (record(form=0, minute=480), 3, 0),
-        (record(form=18, minute=480), 3, 0),
+        (record(form=19, minute=480), 3, 0),
         (deposit(540, 101, 400, (7, 20, 5), reference=1), 4, 0),  # a deposit has no reference
         (record(form=16, minute=540, zero=1), 4, 0),  # the last 12 bits are no field
         (deposit(540, 101, 0, (7, 20, 5)), 5, 0),
         (cycle(1440), 5, 0),  # the day has 1,440 minutes
+        (set_rate(480, 0), 5, 0),
+        (set_rate(480, 0, amount=1), 4, 0),  # a rate has no amount
+        (set_rate(469, 150_000), 8, 0),  # the day was opened at 470
+        (set_rate(479, 150_000), 9, 0),  # rates from 480
         (close(500), 7, 0),  # no cycle has run
     ]
 
@@ -179,6 +189,35 @@ def trades():
     ]
 
 
+def pounds():
+    """LBP instructions at both ends of 20 times the rate. A cancel shows whether they have paired: of a single it is refused."""
+    terms = {"days": (1, 2), "currency": LBP}
+    return [
+        (deliver(826, 10, 100_000, 51, **terms), 0, 0),
+        (set_rate(826, 150_000), 0, 0),
+        (receive(826, 10, 3_100_001, 52, **terms), 0, 0),  # 3,000,001 above 51: waits
+        (cancel(826, 7, 51), 15, 0),
+        (set_rate(827, 150_001), 0, 0),  # 3,000,020 are allowed now
+        (cancel(827, 7, 51), 15, 0),  # a rate pairs nothing that waits
+        (receive(827, 10, 3_100_021, 53, **terms), 0, 0),  # 3,000,021 above 51: waits
+        (cancel(827, 7, 51), 15, 0),
+        (receive(827, 10, 3_100_020, 54, **terms), 0, 0),  # 3,000,020 above 51: pairs
+        (cancel(827, 7, 51), 0, 0),
+        (cancel(827, 8, 54), 0, 1),
+        (deliver(828, 10, 3_100_022, 55, **terms), 0, 0),  # 53 offers 1 less: waits
+        (cancel(828, 7, 55), 15, 0),
+        (deliver(828, 10, 3_100_021, 56, **terms), 0, 0),  # 53 offers as much: pairs
+        (cancel(828, 8, 53), 0, 0),
+        (cancel(828, 7, 56), 0, 1),
+        (deliver(829, 10, 99_981, 57, **terms), 0, 0),  # 52 offers 3,000,020 more: pairs
+        (cancel(829, 8, 52), 0, 0),
+        (cancel(829, 7, 57), 0, 1),
+        (receive(829, 10, 3_100_022, 58, **terms), 0, 0),  # as much as 55: pairs
+        (cancel(829, 7, 55), 0, 0),
+        (cancel(829, 8, 58), 0, 1),
+    ]
+
+
 def full_tables():
     securities = [(admit(830, code, 1), 0, 2) for code in range(102, 133)]
     items = [(deliver(840, 1, 1_000, 100 + n, days=(1, 21)), 0, 0) for n in range(62)]
@@ -195,19 +234,26 @@ def full_tables():
 
 def last_days():
     tail = b"\x08" * 17
+    terms = {"days": (2, 3), "currency": LBP}
     return [
+        (set_rate(961, 150_000), 9, 0),  # rates until 960
         (close(959), 9, 0),
         (close(960), 0, 1),  # 35 is deleted
         (open_day(400, 2), 0, 0),
+        (deliver(480, 1, 1_000, 61, **terms), 0, 0),
+        (receive(480, 1, 3_001_021, 62, **terms), 18, 0),  # 64 wait, and at 150,001 it is 1 too much
+        (receive(480, 1, 3_001_020, 62, **terms), 0, 0),  # pairs, as the rate outlasts the night
         (cycle(585), 0, 0),
         (cycle(705), 0, 0),
+        (set_rate(901, 150_000), 9, 0),  # on a Friday until 900
+        (set_rate(900, MOST), 0, 0),
         (close(900), 0, 0),
         (tail, 2, 0),  # 17 bytes are left
     ]
 
 
 def every():
-    return day_and_reading() + holdings() + trades() + full_tables() + last_days()
+    return day_and_reading() + holdings() + trades() + pounds() + full_tables() + last_days()
 
 
 # code, issued, held, outside of each security

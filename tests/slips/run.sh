@@ -44,7 +44,8 @@ for patch in "$@"; do
     copy
     patch --quiet --directory="$work/source" -p1 < "slips/$name.patch"
     build
-    if try --seed 1 || ! grep -q -E '^FAILED: ' "$work/output"; then
+    # Most slips show in a short list.
+    if { try --replay 'busy trading' 1 5000 && try --seed 1; } || ! grep -q -E '^FAILED: ' "$work/output"; then
         echo "$name: MISSED"
         missed=$((missed + 1))
     else

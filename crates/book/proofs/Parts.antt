@@ -6,7 +6,7 @@ use mathlib.Core.Path.{_≡_, sym, ap, _∙_, subst}
 use lib.ListN.{length, getD, length-drop}
 use lib.Seq.{length-take-le}
 use Rattle.plain.specs.Lists.{if_then_else_, _is_}
-use Rattle.rulebook.specs.Ledger.{Ledger, Holdings, putDay, putHoldings, putWaiting}
+use Rattle.rulebook.specs.Ledger.{Ledger, Holdings, putDay, putHoldings, putWaiting, putRate}
 use Rattle.rulebook.specs.declared.Day.{Day}
 use Rattle.rulebook.specs.declared.Item.{Item}
 use Rattle.rulebook.specs.Premise.{accountCount}
@@ -21,7 +21,7 @@ use Rattle.accounts.specs.Map as accounts
 use Rattle.cash.specs.Amounts.{amountOf, withCash}
 use Rattle.waiting_list.specs.Waiting.{itemsOf}
 use Rattle.waiting_list.specs.Waiting as items
-use Rattle.book.specs.Meaning.{widths, DAY, SECURITIES, ACCOUNTS, CASH, ITEMS, part, dayIn, ledgerBy, holdingsOf, waitingOf, ledgerOf}
+use Rattle.book.specs.Meaning.{widths, DAY, SECURITIES, ACCOUNTS, CASH, ITEMS, RATE, part, dayIn, rateIn, ledgerBy, holdingsOf, waitingOf, ledgerOf}
 use Rattle.book.specs.Stored.{StoredBy, Stored, Means}
 
 -- ---- the region law at this book's widths: part r is changed
@@ -43,6 +43,7 @@ module _ (r : ℕ) (known : r < length widths) (xs : List ℕ) (stored : Stored 
           cash = amountOf (each CASH (omega arith) i);
         };
     waiting = itemsOf (each ITEMS (omega arith) i);
+    rate = rateIn (each RATE (omega arith) i);
   }
 
   pub put-stored : StoredBy (λ s. if s is r then ys else part s xs) → Stored (putRegion widths r xs ys)
@@ -74,7 +75,7 @@ module _ (xs : List ℕ) (stored : Stored xs) (ys : List ℕ) where
   day-step d wide opened e =
       step DAY (omega arith) wide (putDay d (ledgerOf xs))
       (record { opened = opened; securities = stored.parts.securities; accounts = stored.parts.accounts; items = stored.parts.items })
-      (λ i. record { day = e i; holdings = holdingsOf xs; waiting = waitingOf xs })
+      (ap (λ (x : Day). putDay x (ledgerOf xs)) e)
 
   pub securities-step :
       (h : Holdings) → securities.Kept ys → withSecurities ys (holdingsOf xs) ≡ h
@@ -109,6 +110,13 @@ module _ (xs : List ℕ) (stored : Stored xs) (ys : List ℕ) where
       step ITEMS (omega arith) sized.long (putWaiting l (ledgerOf xs))
       (record { opened = stored.parts.opened; securities = stored.parts.securities; accounts = stored.parts.accounts; items = sized })
       (ap (λ (x : List Item). putWaiting x (ledgerOf xs)) e)
+
+  pub rate-step : (n : ℕ) → length ys ≡ getD widths RATE 0 → rateIn ys ≡ n → Means (putRegion widths RATE xs ys) (putRate n (ledgerOf xs))
+  unfolding putRate holdingsOf waitingOf
+  rate-step n wide e =
+      step RATE (omega arith) wide (putRate n (ledgerOf xs))
+      (record { opened = stored.parts.opened; securities = stored.parts.securities; accounts = stored.parts.accounts; items = stored.parts.items })
+      (ap (λ (x : ℕ). putRate x (ledgerOf xs)) e)
 
 -- ---- one function after another: what the second makes of the book that the first left
 

@@ -1,14 +1,14 @@
--- The zero words are stored right and mean the fresh ledger. Assumes nothing.
+-- The zero words are stored right and mean the fresh ledger but for its rate. Assumes nothing.
 use Prim.Native.Nat.{ℕ, zero, suc, _+_, _<_}
 use native.Mathlib.Numerals.{add-one}
 use native.Mathlib.Omega.{arith}
 use mathlib.Core.Bool.{Bool, true, false}
 use mathlib.Core.List.{List, [], _∷_, _++_}
-use mathlib.Core.Path.{_≡_, refl, ap, _∙_, fun-ext}
+use mathlib.Core.Path.{_≡_, refl, ap, sym, _∙_, subst, fun-ext}
 use lib.ListN.{length, getD, set, take, replicate, replicate-append-replicate}
 use lib.Seq.{take-suc-set}
 use Rattle.plain.specs.Lists.{if_then_else_, sumBelow}
-use Rattle.rulebook.specs.Ledger.{fresh}
+use Rattle.rulebook.specs.Ledger.{firstRate, fresh, putRate}
 use Rattle.rulebook.specs.declared.Account.{Account}
 use Rattle.rulebook.proofs.EveryCall.{fresh-premise}
 use Rattle.words.specs.Places.{listFrom}
@@ -20,6 +20,7 @@ use Rattle.cash.specs.Amounts.{kept, place, amountOf}
 use Rattle.waiting_list.specs.Waiting.{itemsOf}
 use Rattle.book.specs.Meaning.{bookLength, ACCOUNTS, CASH, part, holdingsOf, waitingOf, ledgerOf}
 use Rattle.book.specs.Stored.{Stored, Kept, Means}
+use Rattle.book.proofs.Parts.{next}
 
 abbrev pub zeros : List ℕ
 zeros = replicate bookLength 0
@@ -58,20 +59,25 @@ stored = record {
       };
 }
 
-ledger : ledgerOf zeros ≡ fresh
-unfolding fresh holdingsOf waitingOf securitiesOf itemsOf listFrom
+ledger : ledgerOf zeros ≡ putRate 0 fresh
+unfolding fresh putRate holdingsOf waitingOf securitiesOf itemsOf listFrom
 ledger = λ i. record {
   day = fresh .day;
   holdings = record { securities = []; balance = fun-ext no-balance i; accounts = 0; cash = fun-ext (λ m. fun-ext (no-cash m)) i };
   waiting = [];
+  rate = 0;
 }
 
-pub zeros-mean : Means zeros fresh
+pub zeros-mean : Means zeros (putRate 0 fresh)
 zeros-mean = record { stored = stored; ledger = ledger }
 
--- and what every call keeps
-pub zeros-kept : Kept zeros
-zeros-kept = record { stored = stored; premise = rw ledger fresh-premise }
+-- with the first rate they mean it, and are what every call keeps
+pub rated-mean : (before after : List ℕ) → before ≡ zeros → Means after (putRate firstRate (ledgerOf before)) → Means after fresh
+unfolding fresh putRate
+rated-mean before after e m = next (putRate firstRate) (subst (λ (words : List ℕ). Means words (putRate 0 fresh)) (sym e) zeros-mean) m
+
+pub fresh-kept : (words : List ℕ) → Means words fresh → Kept words
+fresh-kept words m = record { stored = m .stored; premise = rw (m .ledger) fresh-premise }
 
 -- ---- the words so far
 

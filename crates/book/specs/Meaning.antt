@@ -13,9 +13,9 @@ use Rattle.accounts.specs.Map.{balanceOf}
 use Rattle.cash.specs.Amounts.{amountOf}
 use Rattle.waiting_list.specs.Waiting.{itemsOf}
 
--- the regions of a book and how many words each has: the day, the securities, the accounts, the members' cash, the waiting list
+-- the regions of a book and how many words each has: the day, the securities, the accounts, the members' cash, the waiting list, the rate
 abbrev pub widths : List ℕ
-widths = 8 ∷ 97 ∷ 513 ∷ 128 ∷ 1025 ∷ []
+widths = 8 ∷ 97 ∷ 513 ∷ 128 ∷ 1025 ∷ 1 ∷ []
 
 -- how many words a book has
 abbrev pub bookLength : ℕ
@@ -37,12 +37,19 @@ CASH = 3
 abbrev pub ITEMS : ℕ
 ITEMS = 4
 
+abbrev pub RATE : ℕ
+RATE = 5
+
 abbrev pub part : ℕ → List ℕ → List ℕ
 part r book = region widths r book
 
 -- the day's words: its number, 1 where it is open, its kind, cycles run, last minute
 abbrev pub dayIn : List ℕ → Day
 dayIn d = record { number = getD d 0 0; opened = getD d 1 0 is 1; kind = getD d 2 0; cycles = getD d 3 0; minute = getD d 4 0 }
+
+-- the rate's word
+abbrev pub rateIn : List ℕ → ℕ
+rateIn r = getD r 0 0
 
 -- what the parts mean together
 abbrev pub holdingsBy : (ℕ → List ℕ) → Holdings
@@ -56,7 +63,7 @@ holdingsBy p =
 
 -- the same of the whole ledger, for the proofs: one region at a time is replaced
 abbrev pub ledgerBy : (ℕ → List ℕ) → Ledger
-ledgerBy p = record { day = dayIn (p DAY); holdings = holdingsBy p; waiting = itemsOf (p ITEMS) }
+ledgerBy p = record { day = dayIn (p DAY); holdings = holdingsBy p; waiting = itemsOf (p ITEMS); rate = rateIn (p RATE) }
 
 -- the holdings and the waiting list of a book
 unfoldable pub holdingsOf : List ℕ → Holdings
@@ -67,4 +74,4 @@ waitingOf book = itemsOf (part ITEMS book)
 
 -- the ledger that a book means
 abbrev pub ledgerOf : List ℕ → Ledger
-ledgerOf book = record { day = dayIn (part DAY book); holdings = holdingsOf book; waiting = waitingOf book }
+ledgerOf book = record { day = dayIn (part DAY book); holdings = holdingsOf book; waiting = waitingOf book; rate = rateIn (part RATE book) }

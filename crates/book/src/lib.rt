@@ -5,7 +5,7 @@ ghost use mathlib.Core.List.{_++_, _∷_, []};
 ghost use Prim.Native.Nat.{ℕ, _+_, _^_, _≤_, _<_};
 ghost use lib.ListN.{length, getD, set, take};
 ghost use Rattle.rulebook.specs.Ledger as Ledger;
-ghost use Rattle.rulebook.specs.Ledger.{putDay, admitted, outsideOf, cashTotal};
+ghost use Rattle.rulebook.specs.Ledger.{putDay, putRate, admitted, outsideOf, cashTotal};
 ghost use Rattle.rulebook.specs.Matching.{pairsWith};
 ghost use Rattle.rulebook.specs.Movements as movements;
 ghost use Rattle.rulebook.specs.Premise.{CashFits};
@@ -13,13 +13,14 @@ ghost use Rattle.rulebook.specs.Waiting.{sentBy};
 ghost use Rattle.rulebook.specs.Ranges.{AccountInRange};
 ghost use Rattle.words.specs.Places.{removeAt};
 ghost use Rattle.book.specs.Keys.{keyOf, CreditFits};
-ghost use Rattle.book.specs.Meaning.{dayIn, ledgerOf, holdingsOf, waitingOf};
+ghost use Rattle.book.specs.Meaning.{dayIn, rateIn, ledgerOf, holdingsOf, waitingOf};
 ghost use Rattle.book.specs.Stored.{Stored, Becomes, HoldingsBecome, WaitingBecomes, withSecurity};
 ghost use Rattle.book.specs.Fresh.{Freshened};
 use rulebook::Account;
 use rulebook::Cents;
 use rulebook::Day;
 use rulebook::Item;
+use rulebook::Rate;
 use rulebook::Security;
 use rulebook::Shares;
 
@@ -34,7 +35,12 @@ const CASH: usize = ACCOUNTS + 513;
 
 const ITEMS: usize = CASH + 128;
 
-const END: usize = ITEMS + 1025;
+const RATE: usize = ITEMS + 1025;
+
+const END: usize = RATE + 1;
+
+// The rate as long as none was set.
+const FIRST_RATE: u64 = 150_750;
 
 // How many words a book has.
 pub const WORDS: usize = END;
@@ -139,7 +145,7 @@ pub fn items(book: &[u64]) -> usize
     requires { ⌜ Stored (now book) ⌝ }
     ensures { λ r. ⌜ r ≡ length (waitingOf (now (book .entry))) ⌝ }
 {
-    words::rows(&book[ITEMS..END]) as usize
+    words::rows(&book[ITEMS..RATE]) as usize
 }
 
 // The item at `i`.
@@ -147,7 +153,7 @@ pub fn item_at(book: &[u64], i: usize) -> Item
     requires { ⌜ Stored (now book) × (i < length (waitingOf (now book))) ⌝ }
     ensures { λ r. ⌜ ((d : Item) → r ≡ getD (waitingOf (now (book .entry))) i d) ⌝ }
 {
-    waiting_list::item_at(&book[ITEMS..END], i)
+    waiting_list::item_at(&book[ITEMS..RATE], i)
 }
 
 // Whether the item at `i` may wait under a reference: false where neither of its references is that one.
@@ -155,7 +161,7 @@ pub fn may_bear(book: &[u64], i: usize, reference: u64) -> bool
     requires { ⌜ Stored (now book) × (i < length (waitingOf (now book))) ⌝ }
     ensures { λ r. ⌜ ((d : Item) (sender : ℕ) → r ≡ false → sentBy sender reference (getD (waitingOf (now (book .entry))) i d) ≡ false) ⌝ }
 {
-    waiting_list::may_bear(&book[ITEMS..END], i, reference)
+    waiting_list::may_bear(&book[ITEMS..RATE], i, reference)
 }
 
 // Whether the item at `i` may pair with one of that quantity: false where it is no single of that quantity.
@@ -166,7 +172,7 @@ pub fn may_pair(book: &[u64], i: usize, quantity: Shares) -> bool
         → pairsWith limit arriving (getD (waitingOf (now (book .entry))) i d) ≡ false)
         ⌝ }
 {
-    waiting_list::may_pair(&book[ITEMS..END], i, quantity)
+    waiting_list::may_pair(&book[ITEMS..RATE], i, quantity)
 }
 
 // The item takes the place of the one at `i`.
@@ -174,7 +180,7 @@ pub fn put_item(book: &mut [u64], i: usize, item: Item)
     requires { ⌜ Stored (now book) × (i < length (waitingOf (now book))) ⌝ }
     ensures { λ u. ⌜ WaitingBecomes (λ items. set items i item) (now (book .entry)) (now (book .exit)) ⌝ }
 {
-    waiting_list::put_item(&mut book[ITEMS..END], i, item);
+    waiting_list::put_item(&mut book[ITEMS..RATE], i, item);
 }
 
 // The item goes last.
@@ -182,7 +188,7 @@ pub fn push(book: &mut [u64], item: Item)
     requires { ⌜ Stored (now book) × (length (waitingOf (now book)) < 64) ⌝ }
     ensures { λ u. ⌜ WaitingBecomes (λ items. items ++ (item ∷ [])) (now (book .entry)) (now (book .exit)) ⌝ }
 {
-    waiting_list::push(&mut book[ITEMS..END], item);
+    waiting_list::push(&mut book[ITEMS..RATE], item);
 }
 
 // The item at `i` is removed, the others stay in their order.
@@ -190,7 +196,7 @@ pub fn remove(book: &mut [u64], i: usize)
     requires { ⌜ Stored (now book) × (i < length (waitingOf (now book))) ⌝ }
     ensures { λ u. ⌜ WaitingBecomes (removeAt i) (now (book .entry)) (now (book .exit)) ⌝ }
 {
-    waiting_list::remove(&mut book[ITEMS..END], i);
+    waiting_list::remove(&mut book[ITEMS..RATE], i);
 }
 
 // The first `n` items alone.
@@ -198,7 +204,7 @@ pub fn keep_first(book: &mut [u64], n: usize)
     requires { ⌜ Stored (now book) × (n ≤ length (waitingOf (now book))) ⌝ }
     ensures { λ u. ⌜ WaitingBecomes (take n) (now (book .entry)) (now (book .exit)) ⌝ }
 {
-    waiting_list::keep_first(&mut book[ITEMS..END], n);
+    waiting_list::keep_first(&mut book[ITEMS..RATE], n);
 }
 
 // ---- cash
@@ -293,6 +299,40 @@ pub fn debit_outside(book: &mut [u64], security: u64, quantity: Shares)
     securities::debit_outside(&mut book[SECURITIES..ACCOUNTS], security, quantity);
 }
 
+// ---- the rate
+
+// The rate that a region of one word holds.
+fn rate_in(rate: &[u64]) -> Rate
+    requires { ⌜ length (now rate) ≡ 1 ⌝ }
+    ensures { λ r. ⌜ r .0 ≡ rateIn (now (rate .entry)) ⌝ }
+{
+    Rate(rate[0])
+}
+
+// The rate goes into a region of one word.
+fn put_rate_in(words: &mut [u64], rate: Rate)
+    requires { ⌜ length (now words) ≡ 1 ⌝ }
+    ensures { λ u. ⌜ rateIn (now (words .exit)) ≡ rate .0 ⌝ }
+{
+    words[0] = rate.0;
+}
+
+// The rate.
+pub fn rate(book: &[u64]) -> Rate
+    requires { ⌜ Stored (now book) ⌝ }
+    ensures { λ r. ⌜ r .0 ≡ ledgerOf (now (book .entry)) .rate ⌝ }
+{
+    rate_in(&book[RATE..END])
+}
+
+// The book's rate becomes `rate`.
+pub fn put_rate(book: &mut [u64], rate: Rate)
+    requires { ⌜ Stored (now book) ⌝ }
+    ensures { λ u. ⌜ Becomes (putRate (rate .0)) (now (book .entry)) (now (book .exit)) ⌝ }
+{
+    put_rate_in(&mut book[RATE..END], rate);
+}
+
 // ---- the fresh book
 
 // The fresh book, in a buffer of a book's length. Another one is left as it is.
@@ -307,5 +347,6 @@ pub fn fresh(book: &mut [u64]) -> bool
         book[i] = 0;
         i += 1;
     }
+    put_rate(book, Rate(FIRST_RATE));
     true
 }

@@ -41,7 +41,8 @@ module _ (d : Day) (o : Order) where
   unfolding forms
   by-row =
       (λ _. refl) and (λ _. refl) and (λ _. refl) and (λ _. refl) and (λ _. refl) and (λ _. refl) and (λ _. refl) and (λ _. refl) and (λ _. refl)
-      and (λ _. refl) and (λ _. refl) and (λ _. paid) and (λ _. paid) and (λ _. refl) and (λ _. refl) and (λ _. refl) and (λ _. refl) and tt
+      and (λ _. refl) and (λ _. refl) and (λ _. paid) and (λ _. paid) and (λ _. refl) and (λ _. refl) and (λ _. refl) and (λ _. refl)
+      and (λ _. refl) and tt
 
   abbrev pub Window : ℕ → ℕ → Type 0
   Window first last = (first ≡ windowOf d o .0) × (last ≡ windowOf d o .1)

@@ -145,6 +145,21 @@ pub extern "C" fn depository_day(book: &[u64], values: &mut [u64]) -> u64
     0
 }
 
+// The rate: hundredths of LBP for one USD.
+#[no_mangle]
+pub extern "C" fn depository_rate(book: &[u64], values: &mut [u64]) -> u64
+    requires { ⌜ Lent (now book) ⌝ }
+    ensures { λ r. ⌜ Tells (now (book .entry)) (now (values .entry)) (ledgerOf (now (book .entry)) .rate ∷ []) r (now (values .exit)) ⌝ }
+{
+    let wrong = lengths(book.len(), values.len(), 1);
+    if wrong != 0 {
+        return wrong;
+    }
+    let rate = reading::rate(book);
+    values[0] = rate.0;
+    0
+}
+
 // How many securities are admitted, how many accounts there are, how many items wait.
 #[no_mangle]
 pub extern "C" fn depository_sizes(book: &[u64], values: &mut [u64]) -> u64

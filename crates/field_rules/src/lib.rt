@@ -101,6 +101,7 @@ fn rule_of(form: u64) -> Rule
         14 => uses(ALL),
         15 => uses(DEBITED_MEMBER | REFERENCE),
         16 | 17 => uses(0),
+        18 => uses(QUANTITY),
         _ => Rule {
             used: 0,
             optional: 0,

@@ -8,15 +8,14 @@ use borrow.Author.Tests.{ltb-false}
 use lib.ListN.{length, getD, length-append, length-drop}
 use lib.Seq.{length-take-le}
 use Rattle.plain.proofs.Tests.{neither}
-use Rattle.plain.specs.Lists.{_is_, _below_, _oneOf_, some}
+use Rattle.plain.specs.Lists.{_below_, _oneOf_, some}
 use Rattle.rulebook.specs.Ledger.{Ledger, putWaiting}
-use Rattle.rulebook.specs.Waiting.{itemOf}
+use Rattle.rulebook.specs.Waiting.{singleOf}
 use Rattle.rulebook.specs.Matching.{tolerance, pairsWith, arrive}
 use Rattle.rulebook.specs.Forms.{counts, instruct}
 use Rattle.rulebook.specs.declared.Counts.{Counts}
 use Rattle.rulebook.specs.declared.Item.{Item}
 use Rattle.rulebook.specs.declared.Order.{Order}
-use Rattle.rulebook.specs.declared.State.the-variants.{Single}
 use Rattle.rulebook.proofs.Space.{instruct-space}
 use Rattle.words.specs.Places.{isFound, removeAt}
 use Rattle.words.specs.declared.Found.{Found}
@@ -86,10 +85,10 @@ module _ (book : List ℕ) (order : Order) where
   b = ledgerOf book
 
   abbrev pub limit : ℕ
-  limit = tolerance order.currency
+  limit = tolerance (b .rate) order.currency
 
   abbrev pub arriving : Item
-  arriving = itemOf (Single (order.form is 12) order.reference) order
+  arriving = singleOf order
 
   -- the place found
   abbrev pub place : Found

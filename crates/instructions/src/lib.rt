@@ -1,11 +1,11 @@
-// Forms 12 to 15, on a book of words: instructions and their matching, exchange trades, cancels.
+// Forms 12 to 15 and 18, on a book of words: instructions and their matching, exchange trades, cancels, the rate that matching goes by.
 // A form that writes no row is lent no area: what it does is said of any area, which stays as it is.
 ghost use mathlib.Core.Path.{_≡_};
 ghost use mathlib.Core.Bool.{true};
 ghost use mathlib.Core.List.{List, [], _∷_};
 ghost use Prim.Native.Nat.{ℕ};
 ghost use Rattle.plain.specs.Lists.{_oneOf_};
-ghost use Rattle.rulebook.specs.Forms.{instruct, trade, cancel};
+ghost use Rattle.rulebook.specs.Forms.{instruct, trade, cancel, setRate};
 ghost use Rattle.book.specs.Meaning.{ledgerOf};
 ghost use Rattle.book.specs.Handled.{Handled};
 ghost use Rattle.checking.specs.Given.{Given, Accepted};
@@ -13,6 +13,7 @@ ghost use Rattle.instructions.specs.Paired.{paired};
 use rulebook::Counts;
 use rulebook::Item;
 use rulebook::Order;
+use rulebook::Rate;
 use rulebook::State;
 use words::Found;
 
@@ -24,9 +25,9 @@ fn pair_of(arriving: Item, waits: Item) -> Item
 {
     let state = waits.state;
     if item::is_deliver(state) {
-        return item::pair_up(waits, arriving);
+        return matching::pair_up(waits, arriving);
     }
-    item::pair_up(arriving, waits)
+    matching::pair_up(arriving, waits)
 }
 
 // 12 and 13. The earlier single is removed and the pair goes last. Otherwise the single goes last.
@@ -34,13 +35,8 @@ pub fn instruct(book: &mut [u64], order: Order) -> Counts
     requires { ⌜ Given (now book) order × ((order .form oneOf (12 ∷ 13 ∷ [])) ≡ true) ⌝ }
     ensures { λ r. ⌜ ((area : List ℕ) → Handled (instruct (ledgerOf (now (book .entry))) order) (now (book .exit)) area area r) ⌝ }
 {
-    let delivers = order.form == 12;
-    let state = State::Single {
-        delivers: delivers,
-        reference: order.reference,
-    };
-    let arriving = item::item_of(state, order);
-    let found = search::first_pairing(book, item::tolerance_of(order.currency), arriving);
+    let arriving = item::single_of(order);
+    let found = search::first_partner(book, arriving);
     match found {
         Found::At(i) => {
             let waits = book::item_at(book, i);
@@ -92,5 +88,16 @@ pub fn cancel(book: &mut [u64], order: Order, area: &mut [u8]) -> Counts
         return counts;
     }
     book::put_item(book, i, item);
+    rows::no_counts()
+}
+
+// ---- the rate
+
+// 18. The quantity is the rate from now on. What waits stays as it is.
+pub fn set_rate(book: &mut [u64], order: Order) -> Counts
+    requires { ⌜ Given (now book) order × (order .form ≡ 18) ⌝ }
+    ensures { λ r. ⌜ ((area : List ℕ) → Handled (setRate (ledgerOf (now (book .entry))) order) (now (book .exit)) area area r) ⌝ }
+{
+    book::put_rate(book, Rate(order.quantity.0));
     rows::no_counts()
 }

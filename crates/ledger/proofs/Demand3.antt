@@ -1,14 +1,16 @@
--- Demand 3 of the code's own books: from the rulebook's theorem, and from what `fresh` and `call` promise. Assumes nothing.
+-- Demand 3 and the rate of the code's own books: from the rulebook's theorems, and from what `fresh` and `call` promise. Assumes nothing.
 use Prim.Native.Nat.{ℕ}
 use mathlib.Core.Path.{_≡_, refl, sym, ap, subst, _∙_}
 use mathlib.Core.List.{List, [], _∷_, _++_}
-use Rattle.rulebook.specs.Ledger.{Ledger, fresh}
+use Rattle.rulebook.specs.Ledger.{Ledger, firstRate, fresh}
 use Rattle.rulebook.specs.Call.{callOf}
-use Rattle.rulebook.specs.Calls.{Call, call, Made, resultOf, callsOn, bookAfter, Balanced, Demand3}
+use Rattle.rulebook.specs.Calls.{Call, call, Made, resultOf, callsOn, bookAfter, acceptedCalls, lastRate, Balanced, Demand3}
+use Rattle.rulebook.specs.Rates.{RateOfCalls}
 use Rattle.rulebook.proofs.Demand3.{demand3}
+use Rattle.rulebook.proofs.Rates.{rate-of-calls}
 use Rattle.book.specs.Meaning.{ledgerOf}
 use Rattle.book.specs.Stored.{Kept}
-use Rattle.ledger.specs.Reached.{Reached, made, called, ReachedBalanced}
+use Rattle.ledger.specs.Reached.{Reached, made, called, ReachedBalanced, ReachedRate}
 
 -- a call, as it is answered on a book
 abbrev madeOn : Ledger → Call → Made
@@ -55,3 +57,10 @@ reached-balanced book history r =
     let f = follows r in
     subst (λ (h : List Made). Balanced h (ledgerOf book)) (sym (f .made))
     (subst (Balanced (callsOn fresh (f .calls))) (sym (f .ledger)) (demand3 (f .calls)))
+
+pub reached-rate : ReachedRate
+unfolding RateOfCalls ReachedRate
+reached-rate book history r =
+    let f = follows r in
+    ap (λ (b : Ledger). b.rate) (f .ledger) ∙ rate-of-calls (f .calls)
+    ∙ ap (λ (h : List Made). lastRate firstRate (acceptedCalls h)) (sym (f .made))

@@ -2,7 +2,9 @@
 use Prim.Native.Nat.{ℕ}
 use mathlib.Core.Bool.{true}
 use mathlib.Core.List.{List, [], _∷_, _++_}
-use Rattle.rulebook.specs.Calls.{call, Made, Balanced}
+use mathlib.Core.Path.{_≡_}
+use Rattle.rulebook.specs.Ledger.{firstRate}
+use Rattle.rulebook.specs.Calls.{call, Made, acceptedCalls, lastRate, Balanced}
 use Rattle.rulebook.specs.declared.Answer.{Answer}
 use Rattle.book.specs.Meaning.{ledgerOf}
 use Rattle.book.specs.Fresh.{Freshened}
@@ -19,3 +21,7 @@ pub data Reached : List ℕ → List Made → Type 0 where
 -- RULES 12.1: every book that was reached is balanced
 unfoldable pub ReachedBalanced : Type 0
 ReachedBalanced = (book : List ℕ) (history : List Made) → Reached book history → Balanced history (ledgerOf book)
+
+-- RULES 12.18: and its rate is that of the last accepted form 18, or the first one
+unfoldable pub ReachedRate : Type 0
+ReachedRate = (book : List ℕ) (history : List Made) → Reached book history → ledgerOf book .rate ≡ lastRate firstRate (acceptedCalls history)

@@ -41,7 +41,8 @@ fn handle(book: &mut [u64], order: Order, area: &mut [u8]) -> Counts
         14 => instructions::trade(book, order),
         15 => instructions::cancel(book, order, area),
         16 => cycle::run(book, area),
-        17 => day::close(book, order, area),
+        17 => closing::close(book, order, area),
+        18 => instructions::set_rate(book, order),
         _ => rows::no_counts(),
     }
 }

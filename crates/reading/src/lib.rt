@@ -9,6 +9,7 @@ use rulebook::Account;
 use rulebook::Cents;
 use rulebook::Day;
 use rulebook::Item;
+use rulebook::Rate;
 use rulebook::Security;
 use rulebook::Shares;
 
@@ -18,6 +19,14 @@ pub fn day(book: &[u64]) -> Day
     ensures { λ r. ⌜ r ≡ ledgerOf (now (book .entry)) .day ⌝ }
 {
     book::day(book)
+}
+
+// The rate.
+pub fn rate(book: &[u64]) -> Rate
+    requires { ⌜ Kept (now book) ⌝ }
+    ensures { λ r. ⌜ r .0 ≡ ledgerOf (now (book .entry)) .rate ⌝ }
+{
+    book::rate(book)
 }
 
 // How many securities are admitted.

@@ -2,16 +2,13 @@
 use Prim.Native.Nat.{_+_}
 use mathlib.Core.Path.{_≡_}
 use mathlib.Core.Bool.{Bool, false, _||_}
-use mathlib.Core.List.{List}
 use lib.ListN.{length}
-use Rattle.plain.specs.Lists.{_is_, _below_, some, first}
+use Rattle.plain.specs.Lists.{_below_, some, first}
 use Rattle.rulebook.specs.Ledger.{Ledger}
-use Rattle.rulebook.specs.Waiting.{itemOf}
+use Rattle.rulebook.specs.Waiting.{singleOf}
 use Rattle.rulebook.specs.Matching.{tolerance, pairsWith}
 use Rattle.rulebook.specs.Refusals.{wrongPair, wrongParties, tooLittle, orderTests}
-use Rattle.rulebook.specs.declared.Item.{Item}
 use Rattle.rulebook.specs.declared.Order.{Order}
-use Rattle.rulebook.specs.declared.State.the-variants.{Single}
 
 -- accounts plus items leave no room for one more
 abbrev pub isFull : Ledger → Bool
@@ -22,8 +19,8 @@ abbrev pub isListFull : Ledger → Bool
 isListFull book = 63 below length book.waiting || isFull book
 
 -- a waiting single pairs with the arriving one of an order
-abbrev pub isMatched : List Item → Order → Bool
-isMatched waiting order = some (pairsWith (tolerance order.currency) (itemOf (Single (order.form is 12) order.reference) order)) waiting
+abbrev pub isMatched : Ledger → Order → Bool
+isMatched book order = some (pairsWith (tolerance book.rate order.currency) (singleOf order)) book.waiting
 
 -- the order's stage lets the order pass
 abbrev pub OrderPassed : Ledger → Order → Type 0

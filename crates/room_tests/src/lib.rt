@@ -7,7 +7,6 @@ ghost use Rattle.book.specs.Stored.{Kept};
 ghost use Rattle.checking.specs.Given.{WasRead};
 ghost use Rattle.room_tests.specs.Room.{isFull, isListFull, isMatched, OrderPassed, SidesPassed};
 use rulebook::Order;
-use rulebook::State;
 
 // RULES 7.16: too little where the movement takes from.
 fn too_little(book: &[u64], order: Order) -> bool
@@ -61,15 +60,9 @@ fn is_list_full(book: &[u64]) -> bool
 // Whether a waiting single pairs with the arriving one of an order.
 fn is_matched(book: &[u64], order: Order) -> bool
     requires { ⌜ Kept (now book) ⌝ }
-    ensures { λ r. ⌜ r ≡ isMatched (ledgerOf (now (book .entry)) .waiting) order ⌝ }
+    ensures { λ r. ⌜ r ≡ isMatched (ledgerOf (now (book .entry))) order ⌝ }
 {
-    let delivers = order.form == 12;
-    let state = State::Single {
-        delivers,
-        reference: order.reference,
-    };
-    let arriving = item::item_of(state, order);
-    words::is_found(search::first_pairing(book, item::tolerance_of(order.currency), arriving))
+    words::is_found(search::first_partner(book, item::single_of(order)))
 }
 
 // RULES 7.18: no room in the book that the call would leave.

@@ -84,6 +84,42 @@ Figure = Accepted → ℕ
 abbrev pub acceptedCall : Ledger → Order → (area : List ℕ) → Accepted
 acceptedCall b o area = record { order = o; counts = effect b o .counts; area = accepted (effect b o) o.minute area .area }
 
+-- What a call does to a book: from what nothing accepted does to it, and from what an accepted order does
+module _
+    (Does : Ledger → List Accepted → Ledger → Type 0)
+    (refuses : (b : Ledger) → Does b [] b)
+    (accepts :
+    (b : Ledger) (o : Order) (bytes area : List ℕ) → readOf bytes ≡ Read.Order o → first (refusals b o) ≡ 0
+    → Does b (acceptedCall b o area ∷ []) (putMinute o.minute (effect b o .after)))
+  where
+    abbrev Did : Ledger → Read → Result → Type 0
+    Did b r x = Does b (acceptedOf x.answer r x.area) x.book
+
+    order-does : (b : Ledger) (o : Order) (area bytes : List ℕ) → readOf bytes ≡ Read.Order o → Did b (Read.Order o) (orderCall b o area)
+    unfolding orderCall accepted refused acceptedOf
+    order-does b o area bytes e = go (first (refusals b o) is 0) refl
+      where
+        go : (t : Bool) → (first (refusals b o) is 0) ≡ t → Did b (Read.Order o) (orderCall b o area)
+        go true p = simp p (accepts b o bytes area e (eqb-true _ 0 p))
+        go false p = simp p (refuses b)
+
+    read-does : (b : Ledger) (r : Read) (area bytes : List ℕ) → readOf bytes ≡ r → Did b r (readCall b r area)
+    unfolding readCall refused acceptedOf
+    read-does b (Read.Order o) area bytes e = order-does b o area bytes e
+    read-does b (Read.Refused n) area bytes e = refuses b
+
+    call-does : (b : Ledger) (bytes area : List ℕ) → Did b (readOf bytes) (callOf b bytes area)
+    unfolding callOf refused acceptedOf
+    call-does b bytes area = go (length area below 4_096) refl
+      where
+        go : (t : Bool) → (length area below 4_096) ≡ t → Did b (readOf bytes) (callOf b bytes area)
+        go true p = simp p (refuses b)
+        go false p = simp p (read-does b (readOf bytes) area bytes refl)
+
+    pub by-answer : (b : Ledger) (c : Call) → Did b (recordIn c) (resultOf b c)
+    unfolding resultOf recordIn
+    by-answer b (call bytes area) = call-does b bytes area
+
 -- A quantity of the book, kept true by what comes and what goes; Inv is what calls keep true of a book
 module _
     (Inv : Ledger → Type 0)
@@ -94,34 +130,12 @@ module _
     → Inv (putMinute o.minute (effect b o .after))
     × (comes (acceptedCall b o area) + kept b ≡ goes (acceptedCall b o area) + kept (putMinute o.minute (effect b o .after))))
   where
-    abbrev Step : Ledger → Read → Result → Type 0
-    Step b r x =
-        Inv (x .book) × (total comes (acceptedOf x.answer r x.area) + kept b ≡ total goes (acceptedOf x.answer r x.area) + kept x.book)
+    abbrev Keeps : Ledger → List Accepted → Ledger → Type 0
+    Keeps b calls after = Inv b → Inv after × (total comes calls + kept b ≡ total goes calls + kept after)
 
-    order-step : (b : Ledger) (o : Order) (area bytes : List ℕ) → Inv b → readOf bytes ≡ Read.Order o → Step b (Read.Order o) (orderCall b o area)
-    unfolding orderCall accepted refused acceptedOf
-    order-step b o area bytes i e = go (first (refusals b o) is 0) refl
-      where
-        go : (t : Bool) → (first (refusals b o) is 0) ≡ t → Step b (Read.Order o) (orderCall b o area)
-        go true p = let s = step b o bytes area i e (eqb-true _ 0 p) in simp p (s .0, omega (arith, s .1))
-        go false p = simp p (i, refl)
-
-    read-step : (b : Ledger) (r : Read) (area bytes : List ℕ) → Inv b → readOf bytes ≡ r → Step b r (readCall b r area)
-    unfolding readCall refused acceptedOf
-    read-step b (Read.Order o) area bytes i e = order-step b o area bytes i e
-    read-step b (Read.Refused n) area bytes i e = (i, refl)
-
-    call-step : (b : Ledger) (bytes area : List ℕ) → Inv b → Step b (readOf bytes) (callOf b bytes area)
-    unfolding callOf refused acceptedOf
-    call-step b bytes area i = go (length area below 4_096) refl
-      where
-        go : (t : Bool) → (length area below 4_096) ≡ t → Step b (readOf bytes) (callOf b bytes area)
-        go true p = simp p (i, refl)
-        go false p = simp p (read-step b (readOf bytes) area bytes i refl)
-
-    pub result-step : (b : Ledger) (c : Call) → Inv b → Step b (recordIn c) (resultOf b c)
-    unfolding resultOf recordIn
-    result-step b (call bytes area) i = call-step b bytes area i
+    result-step : (b : Ledger) (c : Call) → Keeps b (acceptedOf (resultOf b c .answer) (recordIn c) (resultOf b c .area)) (resultOf b c .book)
+    result-step =
+        by-answer Keeps (λ b i. (i, refl)) (λ b o bytes area e z i. let s = step b o bytes area i e z in (s .0, omega (arith, s .1)))
 
     -- over any list of calls: what came and what was kept is what went and what is kept
     pub by-call : (b : Ledger) → Inv b → (calls : List Call) → sum comes (callsOn b calls) + kept b ≡ sum goes (callsOn b calls) + kept (bookAfter b calls)

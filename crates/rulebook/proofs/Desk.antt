@@ -5,32 +5,32 @@ use Rattle.rulebook.specs.AccountTypes.{bookEntry, physical, free, alike
 use Rattle.rulebook.specs.Field.{widths, places, ceiling}
 use Rattle.rulebook.specs.Record.{fieldsOf, orderOf, noForm, unusedNotZero, usedOutOfRange, fieldsIn, readRefusal, readOf, recordOf, writeRefusal, writtenOf, areaWritten}
 use Rattle.plain.specs.Lists.{sumBelow}
-use Rattle.rulebook.specs.Ledger.{fresh, putDay, putHoldings, putWaiting, accountOf, sameAccount, counted, putBalance, putCash, putSecurities, putOutside, admitted, issuedOf, outsideOf, cashTotal}
+use Rattle.rulebook.specs.Ledger.{fresh, putDay, putHoldings, putWaiting, accountOf, sameAccount, counted, putBalance, putCash, putSecurities, putOutside, admitted, issuedOf, outsideOf, cashTotal, putRate}
 use Rattle.rulebook.specs.Movements.{credit, debit, credits, debits, booked}
 use Rattle.rulebook.specs.Windows.{byKind, cycleMinutes, officeEnd}
 use Rattle.rulebook.specs.Rows.{postingWidths, noticeWidths, postingBytes, postingIn, postingOf, noticeBytes, deliverReference, receiveReference, noticeOf, postingRows, rowBytes, rowsBytes}
 use Rattle.rulebook.specs.Waiting.{itemOf, isDeliver, isReceive, isTrade, ownReference, sidesOf, sides, senderOf, sentBy, notCancellable, withState, marked, bothMarked, marking, cancelled, staying, unmarked}
-use Rattle.rulebook.specs.Matching.{tolerance, agree, pairsWith, pairOf, arrive}
+use Rattle.rulebook.specs.Matching.{tolerance, agree, pairsWith, pairOf, arrive, sameTerms}
 use Rattle.rulebook.specs.Cycle.{seller, buyer, taken, due, settlingOf, over, sharesBrought, sharesTaken, cashBrought, cashTaken, bringsShares, takesShares, bringsCash, takesCash, sharesMissing, cashMissing, debitsShort, anyShort, dropLast, rounds, settling, withMark, withoutMark, legs, settled, notSettled, dropped}
 use Rattle.rulebook.specs.Close.{closeKind, leaves, deletedAtClose, suspendedAtClose, closeNotice}
-use Rattle.rulebook.specs.Forms.{counts, outcome, moving, silent, openDay, admit, deposit, withdraw, transfer, payIn, payOut, instruct, trade, cancel, cycle, close, forms, rowOf, used, least, most, windowOf, effect}
+use Rattle.rulebook.specs.Forms.{counts, outcome, moving, silent, openDay, admit, deposit, withdraw, transfer, payIn, payOut, instruct, trade, cancel, cycle, close, forms, rowOf, used, least, most, windowOf, effect, setRate}
 use Rattle.rulebook.specs.Refusals.{wrongDay, wrongCycle, goesBack, outsideWindow, wrongSecurity, wrongPair, wrongParties, wrongDays, wrongReference, wrongCancel, tooLittle, overCeiling, noSpace, dayTests, orderTests, itemTests, roomTests, refusals}
 use Rattle.rulebook.specs.Call.{answerNumber, refused, putMinute, accepted, orderCall, readCall, callOf}
 use Rattle.rulebook.specs.Calls.{resultOf, recordIn, callsOn, bookAfter}
-use Rattle.rulebook.specs.Desk.{Desk, party, nobody, order, opens, admits, deposits, pledges, paysIn, delivers, receives, runs, sells, manyDelivers, send, calls, result, started, full, waits, cycled}
+use Rattle.rulebook.specs.Desk.{Desk, party, nobody, order, opens, admits, deposits, pledges, paysIn, delivers, receives, deliversPounds, receivesPounds, setsRate, runs, sells, manyDelivers, send, calls, result, started, full, waits, cycled}
 
 pub desk : Desk
 unfolding
-    party nobody order opens admits deposits pledges paysIn delivers receives runs sells manyDelivers send calls result started full waits cycled
+    party nobody order opens admits deposits pledges paysIn delivers receives deliversPounds receivesPounds setsRate runs sells manyDelivers send calls result started full waits cycled
     number bytes leading field bookEntry physical free alike pledgePairs blockPairs listed pledgedOrBlocked wrongTypes widths places fieldsOf orderOf
     ceiling used least most noForm unusedNotZero usedOutOfRange fieldsIn readRefusal readOf recordOf writeRefusal writtenOf areaWritten fresh putDay
-    putHoldings putWaiting accountOf sameAccount counted putBalance putCash putSecurities putOutside admitted issuedOf outsideOf sumBelow cashTotal
+    putHoldings putWaiting putRate accountOf sameAccount counted putBalance putCash putSecurities putOutside admitted issuedOf outsideOf sumBelow cashTotal
     credit debit credits debits booked byKind cycleMinutes officeEnd postingWidths noticeWidths postingBytes postingIn postingOf noticeBytes
     deliverReference receiveReference noticeOf postingRows rowBytes rowsBytes itemOf isDeliver isReceive isTrade ownReference sidesOf sides senderOf
-    sentBy notCancellable withState marked bothMarked marking cancelled staying unmarked tolerance agree pairsWith pairOf arrive seller buyer taken
+    sentBy notCancellable withState marked bothMarked marking cancelled staying unmarked tolerance sameTerms agree pairsWith pairOf arrive seller buyer taken
     over sharesBrought sharesTaken cashBrought cashTaken bringsShares takesShares bringsCash takesCash sharesMissing cashMissing due settlingOf
     debitsShort anyShort dropLast rounds settling withMark withoutMark legs settled notSettled dropped closeKind leaves deletedAtClose
-    suspendedAtClose closeNotice counts outcome moving silent openDay admit deposit withdraw transfer payIn payOut instruct trade cancel cycle close
+    suspendedAtClose closeNotice counts outcome moving silent openDay admit deposit withdraw transfer payIn payOut instruct trade cancel cycle close setRate
     forms rowOf windowOf effect wrongDay wrongCycle goesBack outsideWindow wrongSecurity wrongPair wrongParties wrongDays wrongReference wrongCancel
     tooLittle overCeiling noSpace dayTests orderTests itemTests roomTests refusals answerNumber refused putMinute accepted orderCall readCall callOf resultOf
     recordIn callsOn bookAfter
@@ -48,4 +48,6 @@ desk = record {
   p11 = refl;
   p12 = refl;
   p13 = refl;
+  p14 = refl;
+  p15 = refl;
 }

@@ -1,5 +1,5 @@
 -- The premise: the fresh book meets it, and every call keeps it, accepted or refused. Assumes nothing.
--- its parts: the number of accounts; who has a balance or cash; waiting items; their references; the day; what an order brings in; all forms
+-- its parts: the number of accounts; who has a balance or cash; waiting items; their references; the day; what an order brings in; all forms; the rate
 pub mod Counting
 pub mod Owners
 pub mod Items
@@ -7,6 +7,7 @@ pub mod References
 pub mod Days
 pub mod NewItems
 pub mod Keeping
+pub mod Rated
 use mathlib.Core.Path.{_≡_, refl, subst}
 use mathlib.Core.Bool.{Bool, true, false}
 use mathlib.Core.List.{List, [], _∷_}
@@ -24,7 +25,7 @@ use Rattle.rulebook.specs.Refusals.{overCeiling, refusals}
 use Rattle.rulebook.specs.Call.{putMinute}
 use Rattle.rulebook.specs.Calls.{Call, resultOf, bookAfter}
 use Rattle.rulebook.specs.Premise.{Sizes, accountCount, Premise}
-use Rattle.rulebook.proofs.ByCall.{result-step}
+use Rattle.rulebook.proofs.ByCall.{by-answer}
 use Rattle.rulebook.proofs.Orders.{accepted}
 use Rattle.rulebook.proofs.Sums.{none-held, held-exact, none-paid, cash-exact}
 use Rattle.rulebook.proofs.Steps.OneCall.{cashAt, Step, step-codes, step-issued}
@@ -34,6 +35,7 @@ use Rattle.rulebook.proofs.EveryCall.Counting.{fresh-counted, step-coun
 use Rattle.rulebook.proofs.EveryCall.Owners.{fresh-owned}
 use Rattle.rulebook.proofs.EveryCall.Days.{fresh-day}
 use Rattle.rulebook.proofs.EveryCall.Keeping.{effect-keeps as form-keeps}
+use Rattle.rulebook.proofs.EveryCall.Rated.{order-rate}
 
 pub fresh-premise : Premise fresh
 unfolding fresh
@@ -50,6 +52,7 @@ fresh-premise = record {
   references = λ s r. omega arith;
   halves = tt;
   day = fresh-day;
+  rate = record { least = omega arith; most = omega arith };
 }
 
 -- held + outside = issued
@@ -117,12 +120,12 @@ order-premise b o bytes p e z =
       references = k.references;
       halves = k.halves;
       day = k.day;
+      rate = order-rate b o p.rate a;
     }
 
 -- and so does any call, with any record and any area
 pub call-premise : (b : Ledger) (c : Call) → Premise b → Premise (resultOf b c .book)
-call-premise b c p =
-    result-step Premise (λ b. 0) (λ c. 0) (λ c. 0) (λ b o bytes area p e z. (order-premise b o bytes p e z, refl)) b c p .0
+call-premise = by-answer (λ b _ after. Premise b → Premise after) (λ b p. p) (λ b o bytes area e z p. order-premise b o bytes p e z)
 
 -- and any list of calls
 pub calls-premise : (b : Ledger) → Premise b → (calls : List Call) → Premise (bookAfter b calls)

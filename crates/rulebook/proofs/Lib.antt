@@ -10,6 +10,8 @@ pub mod Demand3
 pub mod Desk
 -- a call answers with the first of its checks that applies: `checking-order`
 pub mod CheckingOrder
+-- the rate: of every list of calls, what pairs by it, what form 18 does and meets
+pub mod Rates
 -- the premise: the fresh book meets it (`fresh-premise`) and every call keeps it (`call-premise`), so the number of accounts that a book carries is
 -- the number of those with a balance (`accounts-counted`)
 pub mod EveryCall

@@ -11,12 +11,12 @@ use Rattle.rulebook.specs.declared.Item.{Item}
 use Rattle.rulebook.specs.declared.Order.{Order}
 use Rattle.plain.specs.Lists.{if_then_else_, _is_, _below_, _oneOf_, total, keep}
 use Rattle.plain.proofs.Lists.{_and_, keep-length}
-use Rattle.rulebook.specs.Ledger.{Ledger, Holdings, fresh, counted, putBalance, putCash, putSecurities, putOutside, putDay, putHoldings, putWaiting}
+use Rattle.rulebook.specs.Ledger.{Ledger, Holdings, fresh, counted, putBalance, putCash, putSecurities, putOutside, putDay, putHoldings, putWaiting, putRate}
 use Rattle.rulebook.specs.Movements.{Place, account, type91, type90, cashOf, member0, Movement, credit, debit, credits, debits, booked}
 use Rattle.rulebook.specs.Waiting.{senderOf, marking, staying, unmarked}
 use Rattle.rulebook.specs.Cycle.{settled, legs}
 use Rattle.rulebook.specs.Close.{leaves}
-use Rattle.rulebook.specs.Forms.{outcome, moving, silent, openDay, withdraw, payIn, payOut, cancel, cycle, close, forms, effect}
+use Rattle.rulebook.specs.Forms.{outcome, moving, silent, openDay, withdraw, payIn, payOut, cancel, cycle, close, forms, effect, setRate}
 use Rattle.rulebook.specs.Refusals.{noSpace}
 use Rattle.rulebook.specs.Premise.{Sizes}
 use Rattle.rulebook.proofs.ByCall.{Effect, AllForms, by-form}
@@ -113,7 +113,7 @@ legs-opened (t ∷ rest) = omega (arith, legs-opened rest)
 -- the forms that never lack space: a cycle never gets 18, as each item can open only one account
 
 abbrev pub neverGrows : List ℕ
-neverGrows = 1 ∷ 4 ∷ 10 ∷ 11 ∷ 15 ∷ 16 ∷ 17 ∷ []
+neverGrows = 1 ∷ 4 ∷ 10 ∷ 11 ∷ 15 ∷ 16 ∷ 17 ∷ 18 ∷ []
 
 abbrev Stays : ℕ → Effect → Type 0
 Stays n f = (n oneOf neverGrows) ≡ true → (b : Ledger) (o : Order) → Sizes b → Sizes (f b o .after)
@@ -172,12 +172,13 @@ grows : {A : Type 0} → false ≡ true → A
 grows e = absurd (false≢true e)
 
 forms-stay : AllForms (λ n f. Stays n f.effect) 1 forms
-unfolding forms openDay silent outcome putDay withdraw payIn payOut
+unfolding forms openDay setRate silent outcome putDay putRate withdraw payIn payOut
 forms-stay =
     (λ _ b o s. same-stays b (openDay b o .after) refl refl s) and (λ e b o s. grows e) and (λ e b o s. grows e) and (λ _ b o s. moving-stays _ refl b s)
     and (λ e b o s. grows e) and (λ e b o s. grows e) and (λ e b o s. grows e) and (λ e b o s. grows e) and (λ e b o s. grows e)
     and (λ _ b o s. moving-stays _ refl b s) and (λ _ b o s. moving-stays _ refl b s) and (λ e b o s. grows e) and (λ e b o s. grows e) and (λ e b o s. grows e)
-    and (λ _ b o s. cancel-stays b o s) and (λ _ b o s. cycle-stays b o s) and (λ _ b o s. close-stays b o s) and tt
+    and (λ _ b o s. cancel-stays b o s) and (λ _ b o s. cycle-stays b o s) and (λ _ b o s. close-stays b o s)
+    and (λ _ b o s. same-stays b (setRate b o .after) refl refl s) and tt
 
 pub never-grows : (b : Ledger) (o : Order) → (o.form oneOf neverGrows) ≡ true → Sizes b → noSpace b o ≡ false
 unfolding effect

@@ -9,12 +9,12 @@ use lib.ListN.{length, length-append}
 use Rattle.rulebook.specs.declared.Item.{Item}
 use Rattle.rulebook.specs.declared.Order.{Order}
 use Rattle.rulebook.specs.declared.Security.{Security}
-use Rattle.rulebook.specs.declared.State.the-variants.{Single, Trade}
+use Rattle.rulebook.specs.declared.State.the-variants.{Trade}
 use Rattle.plain.specs.Lists.{if_then_else_, _is_, _isNot_, _below_, _oneOf_, some}
 use Rattle.rulebook.specs.Ledger.{Ledger, accountOf, sameAccount, counted, putBalance, putSecurities, putOutside, putHoldings, putWaiting, newSecurity}
 use Rattle.rulebook.specs.declared.Account.{Account}
 use Rattle.rulebook.specs.Movements.{account, type91, type90, move, credit, debit, credits, debits, booked}
-use Rattle.rulebook.specs.Waiting.{itemOf}
+use Rattle.rulebook.specs.Waiting.{itemOf, singleOf}
 use Rattle.rulebook.specs.Matching.{tolerance, pairsWith, arrive}
 use Rattle.rulebook.specs.Forms.{Outcome, outcome, moving, silent, admit, deposit, transfer, instruct, trade, forms, rowOf, effect}
 use Rattle.rulebook.specs.Refusals.{noSpace, wrongPair, wrongParties}
@@ -114,16 +114,16 @@ module _ (b : Ledger) (o : Order) (z : Sizes b) where
       go false p ih = simp p (omega (arith, ih))
 
   abbrev arriving : Item
-  arriving = itemOf (Single (o.form is 12) o.reference) o
+  arriving = singleOf o
 
   pub instruct-space :
       (o.form oneOf (12 ∷ 13 ∷ [])) ≡ true
-      → noSpace b o ≡ (not (some (pairsWith (tolerance o.currency) arriving) b.waiting) && (63 below items || 255 below (accounts + items)))
+      → noSpace b o ≡ (not (some (pairsWith (tolerance b.rate o.currency) arriving) b.waiting) && (63 below items || 255 below (accounts + items)))
   unfolding forms rowOf instruct silent outcome putWaiting
   instruct-space t = go (o.form is 12) refl t
     where
       limit : ℕ
-      limit = tolerance o.currency
+      limit = tolerance b.rate o.currency
 
       matched : Bool
       matched = some (pairsWith limit arriving) b.waiting

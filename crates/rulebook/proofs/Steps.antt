@@ -14,10 +14,10 @@ use Rattle.rulebook.specs.declared.Read.{Read}
 use Rattle.plain.specs.Lists.{_is_, _oneOf_, first, Each}
 use Rattle.plain.proofs.Lists.{_and_}
 use Rattle.rulebook.specs.Record.{readOf}
-use Rattle.rulebook.specs.Ledger.{Ledger, Holdings, putDay, putWaiting, putSecurities}
+use Rattle.rulebook.specs.Ledger.{Ledger, Holdings, putDay, putWaiting, putSecurities, putRate}
 use Rattle.rulebook.specs.Movements.{booked, credits, debits, bookHas}
 use Rattle.rulebook.specs.Rows.{postingRows}
-use Rattle.rulebook.specs.Forms.{Outcome, outcome, counts, silent, openDay, instruct, trade, cancel, close, forms, rowOf, effect}
+use Rattle.rulebook.specs.Forms.{Outcome, outcome, counts, silent, openDay, instruct, trade, cancel, close, forms, rowOf, effect, setRate}
 use Rattle.rulebook.specs.Refusals.{refusals}
 use Rattle.rulebook.specs.Premise.{Premise}
 use Rattle.rulebook.proofs.ByCall.{AllForms, not-read, by-form}
@@ -26,7 +26,7 @@ use Rattle.rulebook.proofs.Steps.OneCall.{writesAt, Figures, admits-non
 use Rattle.rulebook.proofs.Steps.Moving.{admit-steps, deposit-steps, withdraw-steps, transfer-steps, pledge-steps, release-steps, block-steps, unblock-steps, payIn-steps, payOut-steps}
 use Rattle.rulebook.proofs.Steps.Settling.{cycle-steps}
 
--- ---- a form that moves nothing: 1, 12 to 15 and 17
+-- ---- a form that moves nothing: 1, 12 to 15, 17 and 18
 
 each-off : (n : ℕ) (ks : List ℕ) → (n oneOf ks) ≡ false → Each (λ k. (n is k) ≡ false) ks
 each-off n [] e = tt
@@ -67,10 +67,10 @@ still n b o x p t e r l = record {
   figures = no-figures n o t;
 }
 
--- ---- all seventeen
+-- ---- all forms
 
 all-steps : AllForms (λ n f. Steps n f.effect) 1 forms
-unfolding forms rowOf openDay instruct trade cancel close silent outcome counts putDay putWaiting
+unfolding forms rowOf openDay instruct trade cancel close setRate silent outcome counts putDay putWaiting putRate
 all-steps =
     (λ b o e p a. still 1 b o (openDay b o) p refl refl (λ _. refl) refl)
     and admit-steps and deposit-steps and withdraw-steps and transfer-steps and pledge-steps and release-steps and block-steps and unblock-steps
@@ -82,6 +82,7 @@ all-steps =
     and (λ b o e p a. still 15 b o (cancel b o) p refl refl (λ z. absurd (omega (arith, z))) refl)
     and cycle-steps
     and (λ b o e p a. still 17 b o (close b o) p refl refl (λ z. absurd (omega (arith, z))) refl)
+    and (λ b o e p a. still 18 b o (setRate b o) p refl refl (λ _. refl) refl)
     and tt
 
 -- an order that was read and that no test refuses makes a step; no order that was read has another form

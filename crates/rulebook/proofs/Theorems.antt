@@ -25,6 +25,7 @@ use Rattle.rulebook.proofs.CheckingOrder.{checking-order}
 use Rattle.rulebook.proofs.Sizes.{cycle-space}
 use Rattle.rulebook.proofs.EveryCall.{fresh-premise, call-premise}
 use Rattle.rulebook.proofs.Demand3.{demand3}
+use Rattle.rulebook.proofs.Rates.{rate-of-calls, tolerances, rate-alone, rate-refusals}
 use Rattle.rulebook.proofs.Desk.{desk}
 
 -- the writer writes where nothing refuses
@@ -87,5 +88,9 @@ theorems = record {
   freshMeets = fresh-premise;
   callsKeep = call-premise;
   balanced = demand3;
+  rateOfCalls = rate-of-calls;
+  tolerances = tolerances;
+  rateAlone = rate-alone;
+  rateRefusals = rate-refusals;
   desk = desk;
 }

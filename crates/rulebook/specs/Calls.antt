@@ -145,6 +145,11 @@ sidesDeleted = sum λ c. c.counts.deleted
 unfoldable pub sidesSuspended : List Made → ℕ
 sidesSuspended = sum λ c. c.counts.suspended
 
+-- RULES 12.18: the rate after accepted calls, from that before them: that of the last form 18 among them
+unfoldable pub lastRate : (before : ℕ) → List Accepted → ℕ
+lastRate before [] = before
+lastRate before (c ∷ rest) = lastRate (if c.order.form is 18 then c.order.quantity.0 else before) rest
+
 -- RULES 12.1: one claim about the whole list. Each difference is stated as a sum, so that nothing is cut off at 0.
 pub record Balanced (history : List Made) (last : Ledger) : Type 0 where
   -- held is deposits less withdrawals

@@ -1,4 +1,4 @@
--- The desk checks P1 to P13 (RULES, appendix A): from records to answers, books and rows, on books made by calls from the fresh one. They are proved
+-- The desk checks (RULES, appendix A): from records to answers, books and rows, on books made by calls from the fresh one. They are proved
 -- together, by computation.
 use Prim.Native.Nat.{ℕ, zero, suc}
 use mathlib.Core.Path.{_≡_}
@@ -62,6 +62,16 @@ delivers minute seller buyer quantity amount reference = order 12 minute 101 1 (
 
 unfoldable pub receives : (minute seller buyer quantity amount reference : ℕ) → Order
 receives minute seller buyer quantity amount reference = order 13 minute 101 1 (party seller 0 5) (party buyer 20 5) quantity amount 1 1 reference
+
+-- in LBP: 7 sells 10 to 8
+unfoldable pub deliversPounds : (minute amount reference : ℕ) → Order
+deliversPounds minute amount reference = order 12 minute 101 2 (party 7 20 5) (party 8 0 5) 10 amount 1 1 reference
+
+unfoldable pub receivesPounds : (minute amount reference : ℕ) → Order
+receivesPounds minute amount reference = order 13 minute 101 2 (party 7 0 5) (party 8 20 5) 10 amount 1 1 reference
+
+unfoldable pub setsRate : (minute rate : ℕ) → Order
+setsRate minute rate = order 18 minute 0 0 nobody nobody rate 0 0 0 0
 
 unfoldable pub runs : ℕ → Order
 runs minute = order 16 minute 0 0 nobody nobody 0 0 0 0 0
@@ -139,3 +149,9 @@ pub record Desk : Type 0 where
   pub p12 : cycled (deposits 540 7 100 ∷ sells 7 8 100 50 1 ++ sells 8 9 100 50 3) ≡ (Answer.Accepted (counts 0 0 0 0 0 2), 100 ∷ 100 ∷ [])
   -- A.13: there is no such pair
   pub p13 : result started (pledges 540 7 110 121 10) .answer ≡ Answer.Refused 11
+  -- A.14: before any rate was set an LBP difference of 3,015,000 pairs
+  pub p14 : waits (calls started (deliversPounds 500 100_000 1 ∷ receivesPounds 501 3_115_000 2 ∷ [])) ≡ (Pair 1 2 false false, 3_115_000) ∷ []
+  -- A.15: at 150,749 it does not, and a rate that comes later pairs neither
+  pub p15 :
+      waits (calls started (deliversPounds 500 100_000 1 ∷ setsRate 501 150_749 ∷ receivesPounds 502 3_115_000 2 ∷ setsRate 503 150_750 ∷ []))
+      ≡ (Single true 1, 100_000) ∷ (Single false 2, 3_115_000) ∷ []

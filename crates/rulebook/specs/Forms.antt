@@ -6,19 +6,19 @@ use mathlib.Core.List.{List, [], _∷_, _++_, map}
 use lib.ListN.{length, getD}
 use Rattle.plain.specs.Lists.{if_then_else_, _is_, keep, some}
 use Rattle.rulebook.specs.Field.{Rule, from1, from1To, always, ruleIn, D, C, all, allBut, security, currency, debited-member, debited-type, credited-member, credited-type, quantity, amount, settlement-day, reference}
-use Rattle.rulebook.specs.Ledger.{Ledger, accountOf, putDay, putHoldings, putWaiting, putSecurities, oneMoreCycle, opening, closing, newSecurity}
+use Rattle.rulebook.specs.Ledger.{Ledger, accountOf, putDay, putHoldings, putWaiting, putRate, putSecurities, oneMoreCycle, opening, closing, newSecurity}
 use Rattle.rulebook.specs.declared.Day.{Day}
 use Rattle.rulebook.specs.Windows.{Window, openingHours, counterHours, officeHours, paymentHours, cycleHours, closingHours}
 use Rattle.rulebook.specs.Movements.{account, type90, type91, cashOf, member0, Movement, move, booked}
 use Rattle.rulebook.specs.Rows.{Row, notice, noticeOf, postingRows}
-use Rattle.rulebook.specs.Waiting.{itemOf, sides, senderOf, marking, cancelled, staying, unmarked}
+use Rattle.rulebook.specs.Waiting.{itemOf, singleOf, sides, senderOf, marking, cancelled, staying, unmarked}
 use Rattle.rulebook.specs.Matching.{tolerance, arrive}
 use Rattle.rulebook.specs.Cycle.{settled, notSettled, dropped, legs}
 use Rattle.rulebook.specs.Close.{deletedAtClose, suspendedAtClose, leaves, closeNotice}
 use Rattle.rulebook.specs.declared.Order.{Order}
 use Rattle.rulebook.specs.declared.Item.{Item}
 use Rattle.rulebook.specs.declared.Counts.{Counts}
-use Rattle.rulebook.specs.declared.State.the-variants.{Single, Trade}
+use Rattle.rulebook.specs.declared.State.the-variants.{Trade}
 
 pub record Outcome : Type 0 where
   pub after : Ledger
@@ -88,12 +88,9 @@ payIn book order = moving (move (member0 order.currency) (cashOf order.credited.
 unfoldable pub payOut : Ledger → Order → Outcome
 payOut book order = moving (move (cashOf order.debited.member order.currency) (member0 order.currency) order.amount.0 ∷ []) book
 
--- RULES 6.12 and 6.13: pairs with the first waiting single of the other form, or goes last
+-- RULES 6.12 and 6.13: pairs with the first waiting single of the other form, by the rate that the book has now, or goes last
 unfoldable pub instruct : Ledger → Order → Outcome
-instruct book order = silent (putWaiting (arrive (tolerance order.currency) single book.waiting) book)
-  where
-    single : Item
-    single = itemOf (Single (order.form is 12) order.reference) order
+instruct book order = silent (putWaiting (arrive (tolerance book.rate order.currency) (singleOf order) book.waiting) book)
 
 -- RULES 6.14: goes last
 unfoldable pub trade : Ledger → Order → Outcome
@@ -123,6 +120,10 @@ close book order =
   where
     gone : List Item
     gone = keep (leaves book.day.number) book.waiting
+
+-- RULES 6.18: the quantity is the rate from now on; what waits stays as it is
+unfoldable pub setRate : Ledger → Order → Outcome
+setRate book order = silent (putRate order.quantity.0 book)
 
 -- Everything that the rules say of a form (RULES 2.2, 4.7, 6).
 pub record Form : Type 0 where
@@ -187,6 +188,8 @@ forms =
     ∷ row "cycle" [] cycleHours cycle postings 0
     -- 17, RULES 6.17
     ∷ row "close" [] closingHours close notices 0
+    -- 18, RULES 6.18; the quantity is the rate
+    ∷ row "set rate" (needs (quantity ∷ [])) officeHours setRate postings 0
     ∷ []
 
 -- what stands for a number that no form has

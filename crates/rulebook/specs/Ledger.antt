@@ -25,6 +25,12 @@ pub record Ledger : Type 0 where
   pub holdings : Holdings
   -- in the order in which they arrived
   pub waiting : List Item
+  -- RULES 3.14: hundredths of LBP for one USD
+  pub rate : ℕ
+
+-- RULES 3.14: the rate as long as none was set
+abbrev pub firstRate : ℕ
+firstRate = 150_750
 
 -- RULES 3.2
 unfoldable pub fresh : Ledger
@@ -32,17 +38,21 @@ fresh = record {
   day = record { opened = false; number = 0; kind = 0; cycles = 0; minute = 0 };
   holdings = record { securities = []; balance = λ account. 0; accounts = 0; cash = λ member currency. 0 };
   waiting = [];
+  rate = firstRate;
 }
 
 -- the book with one part replaced
 unfoldable pub putDay : Day → Ledger → Ledger
-putDay day book = record { day = day; holdings = book.holdings; waiting = book.waiting }
+putDay day book = record { day = day; holdings = book.holdings; waiting = book.waiting; rate = book.rate }
 
 unfoldable pub putHoldings : Holdings → Ledger → Ledger
-putHoldings holdings book = record { day = book.day; holdings = holdings; waiting = book.waiting }
+putHoldings holdings book = record { day = book.day; holdings = holdings; waiting = book.waiting; rate = book.rate }
 
 unfoldable pub putWaiting : List Item → Ledger → Ledger
-putWaiting waiting book = record { day = book.day; holdings = book.holdings; waiting = waiting }
+putWaiting waiting book = record { day = book.day; holdings = book.holdings; waiting = waiting; rate = book.rate }
+
+unfoldable pub putRate : (rate : ℕ) → Ledger → Ledger
+putRate rate book = record { day = book.day; holdings = book.holdings; waiting = book.waiting; rate = rate }
 
 -- RULES 4.1 to 4.6, 4.14: the day with another last minute, with one more cycle run, when it opens as a day of a kind, and when it closes
 abbrev pub withMinute : ℕ → Day → Day

@@ -17,5 +17,6 @@ pub mod Checks
 pub mod Calls
 pub mod Ranges
 pub mod Premise
+pub mod Rates
 pub mod Desk
 pub mod Theorems

@@ -1,5 +1,5 @@
 -- Matching of deliver and receive instructions (RULES 8).
-use Prim.Native.Nat.{ℕ, _-_}
+use Prim.Native.Nat.{ℕ, _-_, _*_}
 use mathlib.Core.Bool.{Bool, false, _||_, _&&_}
 use mathlib.Core.List.{List, [], _∷_, _++_}
 use Rattle.plain.specs.Lists.{if_then_else_, _is_, _atMost_}
@@ -8,13 +8,13 @@ use Rattle.rulebook.specs.declared.State.the-variants.{Pair}
 use Rattle.rulebook.specs.AccountTypes.{alike}
 use Rattle.rulebook.specs.Waiting.{isDeliver, isReceive, ownReference}
 
--- RULES 8.4
-unfoldable pub tolerance : ℕ → ℕ
-tolerance currency = if currency is 1 then 2_000 else 3_015_000
+-- RULES 8.4: twenty dollars in hundredths of the currency; in LBP by the rate, which is hundredths of LBP for one USD
+unfoldable pub tolerance : (rate currency : ℕ) → ℕ
+tolerance rate currency = if currency is 1 then 2_000 else 20 * rate
 
--- RULES 8.3: what a deliver and a receive must have in common, and how far their amounts may differ
-unfoldable pub agree : ℕ → Item → Item → Bool
-agree limit deliver receive =
+-- RULES 8.3: what a deliver and a receive must have in common
+unfoldable pub sameTerms : Item → Item → Bool
+sameTerms deliver receive =
     deliver.security is receive.security
     && deliver.debited.shareholder is receive.credited.shareholder
     && deliver.«trade_day» is receive.«trade_day»
@@ -24,6 +24,11 @@ agree limit deliver receive =
     && deliver.debited.member is receive.debited.member
     && deliver.credited.member is receive.credited.member
     && alike deliver.debited.typ receive.credited.typ
+
+-- RULES 8.3, 8.4: and how far their amounts may differ
+unfoldable pub agree : ℕ → Item → Item → Bool
+agree limit deliver receive =
+    sameTerms deliver receive
     && deliver.amount.0 atMost receive.amount.0
     && receive.amount.0 - deliver.amount.0 atMost limit
 

@@ -148,6 +148,11 @@ pub record DayFits (d : Day) : Type 0 where
   pub kind-least : d.opened ≡ true → 1 ≤ d.kind
   pub office : d.opened ≡ true → d.minute ≤ officeEnd d.kind
 
+-- RULES 3.1: what the quantity of a record can be
+pub record RateFits (rate : ℕ) : Type 0 where
+  pub least : 1 ≤ rate
+  pub most : rate < 2 ^ 40
+
 pub record Premise (b : Ledger) : Type 0 where
   pub sizes : Sizes b
   -- the number of accounts is the number of those with a balance
@@ -168,3 +173,4 @@ pub record Premise (b : Ledger) : Type 0 where
   -- no pair waits with both halves marked
   pub halves : Each (λ item. bothMarked item.state ≡ false) b.waiting
   pub day : DayFits b.day
+  pub rate : RateFits b.rate

@@ -21,6 +21,10 @@ itemOf state order = record {
   state = state;
 }
 
+-- RULES 6.12, 6.13: an instruction as a single
+abbrev pub singleOf : Order → Item
+singleOf order = itemOf (Single (order.form is 12) order.reference) order
+
 unfoldable pub isDeliver : State → Bool
 isDeliver (Single delivers reference) = delivers
 isDeliver (Pair d r dm rm) = false

@@ -6,6 +6,9 @@ pub struct Shares(pub u64);
 // An amount of cash, in hundredths.
 pub struct Cents(pub u64);
 
+// A rate: hundredths of LBP for one USD. It is neither shares nor cash.
+pub struct Rate(pub u64);
+
 // One side of an order: a member, an account type and a shareholder. (`type` is a word of the language.)
 pub struct Party {
     pub member: u64,

@@ -3,7 +3,8 @@ ghost use mathlib.Core.Path.{_≡_};
 ghost use Prim.Native.Nat.{_<_};
 ghost use lib.ListN.{length, getD};
 ghost use Rattle.rulebook.specs.Waiting.{sentBy};
-ghost use Rattle.rulebook.specs.Matching.{pairsWith};
+ghost use Rattle.rulebook.specs.Matching.{tolerance, pairsWith};
+ghost use Rattle.rulebook.specs.Premise.{RateFits};
 ghost use Rattle.book.specs.Meaning.{ledgerOf};
 ghost use Rattle.book.specs.Stored.{Stored};
 ghost use Rattle.search.specs.Place.{placeIn};
@@ -30,7 +31,7 @@ fn is_pairing(book: &[u64], i: usize, limit: Cents, arriving: Item) -> bool
     if !book::may_pair(book, i, arriving.quantity) {
         return false;
     }
-    item::pairs_with(limit, arriving, book::item_at(book, i))
+    matching::pairs_with(limit, arriving, book::item_at(book, i))
 }
 
 // The item that waits under that sender's reference.
@@ -49,8 +50,8 @@ pub fn first_sent(book: &[u64], sender: u64, reference: u64) -> Found
     Found::Nothing
 }
 
-// The first single that pairs with an arriving one.
-pub fn first_pairing(book: &[u64], limit: Cents, arriving: Item) -> Found
+// The first single that pairs with an arriving one within a limit.
+fn first_pairing(book: &[u64], limit: Cents, arriving: Item) -> Found
     requires { ⌜ Stored (now book) ⌝ }
     ensures { λ r. ⌜ r ≡ placeIn (pairsWith (limit .0) arriving) (ledgerOf (now (book .entry)) .waiting) ⌝ }
 {
@@ -63,4 +64,15 @@ pub fn first_pairing(book: &[u64], limit: Cents, arriving: Item) -> Found
         i += 1;
     }
     Found::Nothing
+}
+
+// The first single that pairs with an arriving one, by the rate that the book has now.
+pub fn first_partner(book: &[u64], arriving: Item) -> Found
+    requires { ⌜ Stored (now book) × RateFits (ledgerOf (now book) .rate) ⌝ }
+    ensures { λ r. ⌜
+        r ≡ placeIn (pairsWith (tolerance (ledgerOf (now (book .entry)) .rate) (arriving .currency)) arriving) (ledgerOf (now (book .entry)) .waiting)
+        ⌝ }
+{
+    let limit = matching::tolerance_of(book::rate(book), arriving.currency);
+    first_pairing(book, limit, arriving)
 }

@@ -3,6 +3,7 @@
 use std::collections::BTreeMap;
 
 use reference::book::{Account, Book, Day, Half, Item, Purse, Security, Side, State};
+use reference::record::{Field, usual_range};
 
 use crate::*;
 
@@ -15,7 +16,8 @@ pub fn decode(words: &[u64]) -> Result<Book, String> {
         securities: securities(&words[SECURITIES..ACCOUNTS])?,
         accounts: accounts(&words[ACCOUNTS..CASH])?,
         cash: cash(&words[CASH..WAITING]),
-        waiting: waiting(&words[WAITING..])?,
+        waiting: waiting(&words[WAITING..RATE])?,
+        rate: rate(words[RATE])?,
     })
 }
 
@@ -104,4 +106,10 @@ fn state(state: u64, first: u64, second: u64, marks: u64) -> Result<State, Strin
         (EXCHANGE_TRADE, 0, 0) => Ok(State::ExchangeTrade { reference: first }),
         _ => Err(format!("an item has state {state}, second reference {second}, marks {marks}")),
     }
+}
+
+/// RULES 3.1.
+fn rate(word: u64) -> Result<u64, String> {
+    let (least, most) = usual_range(Field::Quantity);
+    if (least..=most).contains(&word) { Ok(word) } else { Err(format!("the rate is {word}")) }
 }

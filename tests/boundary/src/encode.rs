@@ -13,7 +13,8 @@ pub fn encode(book: &Book, words: &mut [u64]) {
     securities(book, &mut words[SECURITIES..ACCOUNTS]);
     accounts(book, &mut words[ACCOUNTS..CASH]);
     cash(book, &mut words[CASH..WAITING]);
-    waiting(book, &mut words[WAITING..]);
+    waiting(book, &mut words[WAITING..RATE]);
+    words[RATE] = book.rate;
 }
 
 fn securities(book: &Book, words: &mut [u64]) {

@@ -13,6 +13,7 @@ pub trait Depository: Clone {
 
     fn fresh() -> Self;
     fn call(&mut self, record: &[u8], area: &mut [u8]) -> Result<Answer, String>;
+    fn rate(&self) -> u64;
     fn held(&self, security: u64) -> u64;
     fn book(&self) -> Result<Cow<'_, Book>, String>;
     fn read(record: &[u8]) -> Result<Result<Fields, u64>, String>;
@@ -30,6 +31,10 @@ impl Depository for Book {
 
     fn call(&mut self, record: &[u8], area: &mut [u8]) -> Result<Answer, String> {
         Ok(Book::call(self, record, area))
+    }
+
+    fn rate(&self) -> u64 {
+        self.rate
     }
 
     fn held(&self, security: u64) -> u64 {

@@ -14,6 +14,7 @@ pub fn first_difference(expected: &Book, found: &Book) -> Option<String> {
         .or_else(|| map_difference(&expected.accounts, &found.accounts))
         .or_else(|| map_difference(&expected.cash, &found.cash))
         .or_else(|| list_difference("waiting item", &expected.waiting, &found.waiting))
+        .or_else(|| differs("rate", &expected.rate, &found.rate))
 }
 
 fn differs<T: PartialEq + Debug>(name: &str, expected: &T, found: &T) -> Option<String> {

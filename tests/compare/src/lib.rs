@@ -14,3 +14,4 @@ pub mod run;
 pub mod streams;
 pub mod sweeps;
 pub mod totals;
+pub mod worked;

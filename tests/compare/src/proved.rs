@@ -4,7 +4,7 @@
 use std::borrow::Cow;
 
 use boundary::{BOOK_WORDS, COUNT_WORDS, WRONG_BOOK, decode};
-use reference::book::Book;
+use reference::book::{Book, FIRST_RATE};
 use reference::call::{Answer, Counts};
 use reference::record::{FIELD_COUNT, Fields};
 
@@ -22,6 +22,7 @@ unsafe extern "C" {
         counts: *mut u64,
         counts_words: usize,
     ) -> u64;
+    fn depository_rate(book: *const u64, words: usize, values: *mut u64, values_words: usize) -> u64;
     fn depository_held(book: *const u64, words: usize, security: u64, values: *mut u64, values_words: usize) -> u64;
     fn depository_read(record: *const u8, record_bytes: usize, fields: *mut u64, fields_words: usize) -> u64;
     fn depository_write(fields: *const u64, fields_words: usize, area: *mut u8, area_bytes: usize) -> u64;
@@ -70,6 +71,14 @@ impl Depository for Proved {
         Ok(Answer::Refused(number))
     }
 
+    fn rate(&self) -> u64 {
+        let mut rate = [UNTOUCHED];
+        // SAFETY: as in `call`.
+        let number = unsafe { depository_rate(self.words.as_ptr(), BOOK_WORDS, rate.as_mut_ptr(), rate.len()) };
+        assert_eq!(number, 0, "a book of the right length is read");
+        rate[0]
+    }
+
     fn held(&self, security: u64) -> u64 {
         let mut held = [UNTOUCHED];
         // SAFETY: as in `call`.
@@ -110,6 +119,7 @@ impl Depository for Proved {
             ("no fresh book in one word less", keeps_wrong_length(BOOK_WORDS - 1)),
             ("no fresh book in one word more", keeps_wrong_length(BOOK_WORDS + 1)),
             ("a fresh book over any words", Proved::fresh().book().is_ok_and(|book| *book == Book::fresh())),
+            ("the rate of a fresh book is told", Proved::fresh().rate() == FIRST_RATE),
         ]
     }
 }

@@ -3,7 +3,8 @@
 use std::fmt;
 
 use reference::book::{Book, LAST_DAY};
-use reference::call::Answer;
+use reference::call::{AREA_BYTES, Answer};
+use reference::record::{Order, pack};
 
 use crate::coverage::Coverage;
 use crate::depository::Depository;
@@ -59,6 +60,7 @@ pub fn run_list<D: Depository>(list: &List, coverage: &mut Coverage) -> Result<u
     let mut generator = Generator::new(list.profile.clone(), list.seed);
     let mut sides = Sides::<D>::fresh();
     let mut after_last_day = 0;
+    coverage.new_list();
     for number in 1..=list.calls {
         let call = generator.next_call(&sides.book);
         let day = &sides.book.day;
@@ -122,10 +124,18 @@ impl<D: Depository> Sides<D> {
         difference.map_or_else(|text| text, |found| found.unwrap_or_else(|| "the books agree".to_string()))
     }
 
-    /// Holds the totals against the book under test.
+    /// One call with a good record and an area that is just long enough.
+    pub fn send(&mut self, order: &Order) -> Result<Answer, String> {
+        let call = Call { record: pack(&order.fields(), 0).to_vec(), area: vec![0x5A; AREA_BYTES] };
+        self.call(&call).map_err(|what| format!("{order:?}\n  {what}"))
+    }
+
+    /// Holds the totals against the book under test, and what is read of it
+    /// against the book of the reference.
     pub fn check_totals(&self) -> Result<(), String> {
         self.totals.check(&*self.under_test.book()?, |security| self.under_test.held(security))?;
-        self.held_of_others()
+        self.held_of_others()?;
+        self.rate_told()
     }
 
     /// Nothing is held of a security that is not admitted.
@@ -137,6 +147,11 @@ impl<D: Depository> Sides<D> {
             }
         }
         Ok(())
+    }
+
+    fn rate_told(&self) -> Result<(), String> {
+        let (expected, told) = (self.book.rate, self.under_test.rate());
+        if told == expected { Ok(()) } else { Err(format!("the rate is {expected}, but {told} is told")) }
     }
 }
 

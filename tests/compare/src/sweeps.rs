@@ -2,14 +2,13 @@
 //! types for each form that names them, and every minute of the day for each
 //! form in each state of a day.
 
-use reference::call::{AREA_BYTES, Answer};
+use reference::call::Answer;
 use reference::forms;
-use reference::record::{Field, Order, pack};
+use reference::record::{Field, Order};
 use reference::refusals;
 use reference::windows::cycle_minutes;
 
 use crate::depository::Depository;
-use crate::generator::Call;
 use crate::run::Sides;
 
 const CODE: u64 = 101;
@@ -18,14 +17,9 @@ const CODE: u64 = 101;
 const TYPES_ALLOWED: &[(u64, u64)] =
     &[(3, 4), (4, 4), (5, 8), (6, 3), (7, 3), (8, 4), (9, 4), (12, 4), (13, 4), (14, 8)];
 
-fn send<D: Depository>(sides: &mut Sides<D>, order: &Order) -> Result<Answer, String> {
-    let call = Call { record: pack(&order.fields(), 0).to_vec(), area: vec![0x5A; AREA_BYTES] };
-    sides.call(&call).map_err(|what| format!("{order:?}\n  {what}"))
-}
-
 /// Sends an order that must be accepted.
 fn accepted<D: Depository>(sides: &mut Sides<D>, order: Order) -> Result<(), String> {
-    match send(sides, &order)? {
+    match sides.send(&order)? {
         Answer::Accepted(_) => Ok(()),
         Answer::Refused(number) => Err(format!("{order:?} is refused with {number}")),
     }
@@ -48,7 +42,7 @@ pub fn types<D: Depository>() -> Result<Vec<(u64, bool)>, String> {
         for debited in types_tried(form.uses(Field::DebitedType)) {
             for credited in types_tried(form.uses(Field::CreditedType)) {
                 let order = Order { debited_type: debited, credited_type: credited, ..refused_later(number) };
-                let answer = send(&mut sides, &order)?;
+                let answer = sides.send(&order)?;
                 count += u64::from(answer != Answer::Refused(11));
             }
         }
@@ -180,7 +174,7 @@ fn every_minute<D: Depository>(before: &Sides<D>, order: &Order) -> Result<u64, 
     let mut sides = before.clone();
     let mut count = 0;
     for minute in 0..=1439 {
-        if let Answer::Accepted(_) = send(&mut sides, &Order { minute, ..*order })? {
+        if let Answer::Accepted(_) = sides.send(&Order { minute, ..*order })? {
             count += 1;
             sides = before.clone();
         }
@@ -248,5 +242,6 @@ fn good_orders() -> Vec<(Window, Order)> {
         (Working, Order { debited_member: 7, reference: 1, ..form(15, 0) }),
         (Cycle, form(16, 0)),
         (Close, form(17, 0)),
+        (Working, Order { quantity: 1, ..form(18, 0) }),
     ]
 }

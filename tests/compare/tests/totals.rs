@@ -7,6 +7,8 @@ use compare::generator::profile::profiles;
 use compare::run::{lists, run_list};
 use compare::totals::Totals;
 use reference::book::{Account, Book};
+use reference::call::{Answer, Counts};
+use reference::record::{Order, pack};
 
 /// A busy list that ends with shares, cash, pledges and waiting items.
 fn busy_list() -> (Totals, Book) {
@@ -80,6 +82,14 @@ fn cash_is_seen() {
 fn a_waiting_side_is_seen() {
     let text = complaint(|book| book.waiting.truncate(book.waiting.len() - 1));
     assert!(text.starts_with("sides taken in = gone + waiting"), "{text}");
+}
+
+#[test]
+fn a_rate_counts_nowhere() {
+    let (mut totals, book) = busy_list();
+    let order = Order { form: 18, minute: 500, quantity: 150_000, ..Order::default() };
+    totals.take(&pack(&order.fields(), 0), &Answer::Accepted(Counts::default()), &[]);
+    assert_eq!(totals.check(&book, |security| book.held(security)), Ok(()));
 }
 
 #[test]

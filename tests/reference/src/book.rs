@@ -9,6 +9,8 @@ pub const MOST_ACCOUNTS_AND_ITEMS: usize = 256;
 pub const LAST_DAY: u64 = 60_000;
 /// The most cash of one currency in the whole book, in hundredths.
 pub const CASH_CEILING: u64 = 1_000_000_000_000_000;
+/// The rate before any is set.
+pub const FIRST_RATE: u64 = 150_750;
 
 #[derive(Clone, Debug, Default, PartialEq, Eq)]
 pub struct Day {
@@ -144,7 +146,7 @@ impl Item {
     }
 }
 
-#[derive(Clone, Debug, Default, PartialEq, Eq)]
+#[derive(Clone, Debug, PartialEq, Eq)]
 pub struct Book {
     pub day: Day,
     /// In order of admission.
@@ -155,12 +157,21 @@ pub struct Book {
     pub cash: BTreeMap<Purse, u64>,
     /// The earliest arrival first.
     pub waiting: Vec<Item>,
+    /// Hundredths of LBP for one USD (RULES 3.14).
+    pub rate: u64,
 }
 
 impl Book {
     /// RULES 3.2.
     pub fn fresh() -> Book {
-        Book::default()
+        Book {
+            day: Day::default(),
+            securities: Vec::new(),
+            accounts: BTreeMap::new(),
+            cash: BTreeMap::new(),
+            waiting: Vec::new(),
+            rate: FIRST_RATE,
+        }
     }
 
     pub fn security(&self, code: u64) -> Option<&Security> {

@@ -202,6 +202,17 @@ pub const TABLE: &[Form] = &[
         rows: Written::Notices,
         takes_in: 0,
     },
+    Form {
+        number: 18,
+        name: "set rate",
+        // The quantity is the rate.
+        fields: &[Quantity],
+        ranges: &[],
+        window: windows::working_day,
+        effect: movements::set_rate,
+        rows: Written::Nothing,
+        takes_in: 0,
+    },
 ];
 
 /// Five forms that differ only in their name and in what refusals 11 and 12

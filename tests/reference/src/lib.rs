@@ -19,3 +19,4 @@ pub mod record;
 pub mod refusals;
 pub mod rows;
 pub mod windows;
+pub mod worked;

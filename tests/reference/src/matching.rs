@@ -6,28 +6,30 @@ use crate::call::Counts;
 use crate::record::Order;
 use crate::rows::Rows;
 
-/// By how much a receive may pass the deliver's amount (RULES 8.4).
-pub fn tolerance(currency: u64) -> u64 {
-    if currency == 1 { 2_000 } else { 3_015_000 }
+/// By how much a receive may pass the deliver's amount: twenty dollars, which
+/// are pounds at a rate (RULES 8.4).
+pub fn tolerance(rate: u64, currency: u64) -> u64 {
+    if currency == 1 { 2_000 } else { 20 * rate }
 }
 
-/// The place of the first single that an arrival pairs with (RULES 8.2).
+/// The place of the first single that an arrival pairs with (RULES 8.2), at
+/// the rate that is in the book now (RULES 8.9).
 pub fn partner(book: &Book, order: &Order) -> Option<usize> {
     let arrival = waiting_item(order);
     book.waiting.iter().position(|waiting| match (waiting.state, arrival.state) {
-        (State::Deliver { .. }, State::Receive { .. }) => fit(waiting, &arrival),
-        (State::Receive { .. }, State::Deliver { .. }) => fit(&arrival, waiting),
+        (State::Deliver { .. }, State::Receive { .. }) => fit(book.rate, waiting, &arrival),
+        (State::Receive { .. }, State::Deliver { .. }) => fit(book.rate, &arrival, waiting),
         _ => false,
     })
 }
 
-fn fit(deliver: &Item, receive: &Item) -> bool {
-    same_terms(deliver, receive) && amounts_agree(deliver, receive)
+fn fit(rate: u64, deliver: &Item, receive: &Item) -> bool {
+    same_terms(deliver, receive) && amounts_agree(rate, deliver, receive)
 }
 
 /// The receive never offers less than the deliver asks.
-pub fn amounts_agree(deliver: &Item, receive: &Item) -> bool {
-    receive.amount >= deliver.amount && receive.amount - deliver.amount <= tolerance(deliver.currency)
+pub fn amounts_agree(rate: u64, deliver: &Item, receive: &Item) -> bool {
+    receive.amount >= deliver.amount && receive.amount - deliver.amount <= tolerance(rate, deliver.currency)
 }
 
 /// All of RULES 8.3 but the amounts; the shareholder of an instruction is the

@@ -1,5 +1,6 @@
 //! What the forms do that have no file of their own: the opening of a day,
-//! and single movements of shares and cash (RULES 6.1 to 6.11).
+//! single movements of shares and cash, and the rate (RULES 6.1 to 6.11,
+//! 6.18).
 
 use crate::book::{Book, Purse, Security};
 use crate::call::Counts;
@@ -65,6 +66,12 @@ pub fn pay_out(book: &mut Book, order: &Order, rows: &mut Rows) -> Counts {
     let purse = Purse { member: order.debited_member, currency: order.currency };
     book.set_cash(purse, book.cash_of(&purse) - order.amount);
     rows.cash_movement(&purse, &outside_world(order), order.amount);
+    Counts::default()
+}
+
+/// Counts from the next arrival on; what waits goes on waiting (RULES 8.9).
+pub fn set_rate(book: &mut Book, order: &Order, _: &mut Rows) -> Counts {
+    book.rate = order.quantity;
     Counts::default()
 }
 

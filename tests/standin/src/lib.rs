@@ -77,6 +77,14 @@ fn count_words(counts: &Counts) -> [u64; COUNT_WORDS] {
 /// # Safety
 /// See depository.h.
 #[unsafe(no_mangle)]
+pub unsafe extern "C" fn depository_rate(book: *const u64, words: usize, values: *mut u64, values_words: usize) -> u64 {
+    let (words, values) = unsafe { (shared(book, words), unique(values, values_words)) };
+    tell(words, values, |book| book.rate)
+}
+
+/// # Safety
+/// See depository.h.
+#[unsafe(no_mangle)]
 pub unsafe extern "C" fn depository_held(
     book: *const u64,
     words: usize,
@@ -85,13 +93,18 @@ pub unsafe extern "C" fn depository_held(
     values_words: usize,
 ) -> u64 {
     let (words, values) = unsafe { (shared(book, words), unique(values, values_words)) };
+    tell(words, values, |book| book.held(security))
+}
+
+/// Puts one figure of a book into values of one word.
+fn tell(words: &[u64], values: &mut [u64], figure: impl Fn(&Book) -> u64) -> u64 {
     if words.len() != BOOK_WORDS {
         return WRONG_BOOK;
     }
-    let [held] = values else {
+    let [value] = values else {
         return WRONG_VALUES;
     };
-    *held = decode(words).expect("a book of this library").held(security);
+    *value = figure(&decode(words).expect("a book of this library"));
     0
 }
 

@@ -6,9 +6,9 @@ use mathlib.Core.Path.{_≡_, refl, sym, ap, subst, _∙_}
 use borrow.Author.Tests.{eq-eqb, ne-eqb}
 use lib.ListN.{length, take, replicate, length-set}
 use lib.Seq.{take-length}
-use Rattle.book.specs.Meaning.{bookLength, ledgerOf}
-use Rattle.book.specs.Stored.{Kept}
-use Rattle.book.proofs.Zeros.{zeros, zeros-mean, zeros-kept, zeros-more}
+use Rattle.book.specs.Meaning.{bookLength}
+use Rattle.book.specs.Stored.{Stored}
+use Rattle.book.proofs.Zeros.{zeros, zeros-mean, rated-mean, fresh-kept, zeros-more}
 use Rattle.book.proofs.fresh.Statement.{statement}
 use Rattle.book.proofs.fresh.Tie as tie
 
@@ -31,18 +31,26 @@ loop-again c =
     let l = c .before .loop in
     (omega arith, simp length-set (l .inv .1), zeros-more (l .book) (l .i) (omega arith) (l .inv .2))
 
-returns-2 : tie.Need-returns-2 Inv-loop μ-loop
-returns-2 c =
-    let l = c .before .loop in
+-- behind the loop every word is 0
+all-zeros : (c : tie.After-put-rate-arg Inv-loop μ-loop) → c .before .before .loop .book ≡ zeros
+all-zeros c =
+    let l = c .before .before .loop in
     let all : l .i ≡ bookLength = omega arith in
     let whole : length (l .book) ≡ l .i = omega arith in
-    let is : l .book ≡ zeros =
     sym (take-length (l .book)) ∙ ap (λ (n : ℕ). take n (l .book)) whole ∙ l .inv .2 ∙ ap (λ (n : ℕ). replicate n 0) all
-    in
+
+put-rate-requires : tie.Need-put-rate-requires Inv-loop μ-loop
+put-rate-requires c κs = subst Stored (sym (all-zeros c)) (zeros-mean .stored)
+
+returns-2 : tie.Need-returns-2 Inv-loop μ-loop
+returns-2 c =
+    let zeroed = c .before .before .before in
+    let rated = c .before .before .put-rate in
+    let m = rated-mean (zeroed .before .before .loop .book) (rated .last .0) (all-zeros zeroed) (rated .ensures) in
     record {
-      answers = sym (eq-eqb _ bookLength (c .before .before .if1 .left));
-      ledger = λ e. ap ledgerOf is ∙ zeros-mean .ledger;
-      kept = λ e. subst Kept (sym is) zeros-kept;
+      answers = sym (eq-eqb _ bookLength (zeroed .before .before .before .if1 .left));
+      ledger = λ e. m .ledger;
+      kept = λ e. fresh-kept _ m;
       untouched = λ e. absurd (true≢false e);
     }
 
@@ -50,4 +58,4 @@ pub fresh-spec : {M : Type 1} → statement M
 fresh-spec =
     tie.close
     (tie.spec Inv-loop μ-loop returns (λ c. (omega arith, c .if1 .left, refl)) (λ c. omega arith) (λ c. omega arith) (λ c. omega arith) (λ c. omega arith)
-    loop-again (λ c. omega (arith, c .before .before .if1 .left)) returns-2)
+    loop-again put-rate-requires (λ c. omega (arith, c .before .before .before .before .before .before .if1 .left)) returns-2)

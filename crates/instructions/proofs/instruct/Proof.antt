@@ -1,23 +1,24 @@
 -- `instructions::instruct` meets its contract. Assumes nothing.
-use Prim.Native.Nat.{ℕ, _<_}
+use Prim.Native.Nat.{_<_}
 use mathlib.Core.Path.{_≡_, sym, ap, _∙_}
 use borrow.Author.Needs.{needs}
 use lib.ListN.{length}
-use Rattle.rulebook.specs.Matching.{pairsWith}
+use Rattle.rulebook.specs.Waiting.{itemOf}
+use Rattle.rulebook.specs.Matching.{tolerance, pairsWith}
 use Rattle.rulebook.specs.declared.Item.{Item}
 use Rattle.words.specs.declared.Found.{Found}
 use Rattle.words.specs.declared.Found.the-variants.{At}
 use Rattle.book.specs.Meaning.{ledgerOf}
 use Rattle.search.specs.Place.{placeIn}
 use Rattle.search.proofs.Found.{found-passes}
-use Rattle.instructions.proofs.Arriving.{arriving, place, pair-room, pair-made, alone-room, alone-made}
+use Rattle.instructions.proofs.Arriving.{place, pair-room, pair-made, alone-room, alone-made}
 use Rattle.instructions.proofs.instruct.Statement.{statement}
 use Rattle.instructions.proofs.instruct.Tie as tie
 
-abbrev start : tie.After-first-pairing → tie.Start
-start c = c .before .before .before .before .before .before
+abbrev start : tie.After-first-partner → tie.Start
+start c = c .before .before .before .before
 
-abbrev searched : tie.After-found → tie.After-first-pairing
+abbrev searched : tie.After-found → tie.After-first-partner
 searched c = c .before .before
 
 abbrev found : tie.After-item-at → tie.After-found
@@ -33,14 +34,13 @@ removed c = c .before .before .before .before
 abbrev wanted : tie.Start → Found
 wanted s = place (s .args .book .now) (s .args .order)
 
-placed : (c : tie.After-first-pairing) → wanted (start c) ≡ c .first-pairing .result
+placed : (c : tie.After-first-partner) → wanted (start c) ≡ c .first-partner .result
+unfolding itemOf
 placed c =
-    let a = start c .args in
-    let ws = ledgerOf (a .book .now) .waiting in
+    let b = ledgerOf (start c .args .book .now) in
     sym
-    (c .first-pairing .ensures
-    ∙ ap (λ (x : Item). placeIn (pairsWith (c .before .tolerance-of .result .0) x) ws) (c .before .before .before .item-of .ensures)
-    ∙ ap (λ (n : ℕ). placeIn (pairsWith n (arriving (a .book .now) (a .order))) ws) (c .before .tolerance-of .ensures))
+    (c .first-partner .ensures
+    ∙ ap (λ (x : Item). placeIn (pairsWith (tolerance (b .rate) (x .currency)) x) (b .waiting)) (c .before .before .single-of .ensures))
 
 at : (c : tie.After-found) → wanted (start (searched c)) ≡ At (c .found .given .0 .0)
 at c = placed (searched c) ∙ c .found .given .1
@@ -72,8 +72,8 @@ returns c =
     let r = removed (p .before) in
     let i = read r in
     let f = found i in
-    let made = searched f .before .before .before in
-    pair-made _ _ _ _ _ _ _ _ _ (at f) (i .item-at .ensures) (made .item-of .ensures) (p .before .pair-of .ensures)
+    let made = searched f .before .before in
+    pair-made _ _ _ _ _ _ _ _ _ (at f) (i .item-at .ensures) (made .single-of .ensures) (p .before .pair-of .ensures)
     (r .remove .ensures) (p .push .ensures) (c .no-counts .ensures)
 
 returns-2 : tie.Need-returns-2
@@ -81,16 +81,15 @@ returns-2 c =
     let p = c .before .before .before in
     let told = p .before .before in
     let f = told .before .before in
-    let made = f .before .before .before in
-    alone-made _ _ (start f .pre .0) (placed f ∙ told .enum-told .given .1) _ _ _ (made .item-of .ensures) (p .push2 .ensures) (c .no-counts2 .ensures)
+    let made = f .before .before in
+    alone-made _ _ (start f .pre .0) (placed f ∙ told .enum-told .given .1) _ _ _ (made .single-of .ensures) (p .push2 .ensures) (c .no-counts2 .ensures)
 
 pub instruct-spec : {M : Type 1} → statement M
 instruct-spec =
     tie.close
     (tie.spec
     (λ c κs. search needs)
-    (λ c κs. search needs)
-    (λ c κs. search needs)
+    (λ c κs. let k = c .before .before .before .pre .0 .kept in (k .stored, k .premise .rate))
     (λ c. search needs)
     item-at-requires
     remove-requires

@@ -27,12 +27,12 @@ past k n l a = omega (arith, a)
 
 transfers : (c : tie.Then2) → let n = form (c .before .before) in (5 ≤ n) × (n < 10)
 transfers c =
-    let rest = c .before .before .match .rest .0 .0 .0 .0 .0 .0 in
+    let rest = c .before .before .match .rest .0 .0 .0 .0 .0 .0 .0 in
     (past 4 _ (past 3 _ (past 2 _ (past 1 _ (c .before .if1 .left) (rest .0 .0 .0 .1)) (rest .0 .0 .1)) (rest .0 .1)) (rest .1), c .if2 .taken)
 
 instructs : (c : tie.Then3) → let n = form (c .before .before .before) in (12 ≤ n) × (n < 14)
 instructs c =
-    let rest = c .before .before .before .match .rest .0 .0 .0 .0 in
+    let rest = c .before .before .before .match .rest .0 .0 .0 .0 .0 in
     (past 11 _ (past 10 _ (c .before .if2 .left) (rest .0 .1)) (rest .1), c .if3 .taken)
 
 either-way : {A B C : Type 0} → (A → C) → (B → C) → A ⊎ B → C
@@ -47,8 +47,8 @@ no-form c =
     let rest = c .before .match .rest in
     either-way (λ t. omega (arith, t .taken, has .0))
     (λ t.
-    let last = past 17 _ (past 16 _ (past 15 _ (past 14 _ (t .2 .left) (rest .0 .0 .0 .1)) (rest .0 .0 .1)) (rest .0 .1)) (rest .1) in
-    omega (arith, last, has .1))
+    let cycle = past 15 _ (past 14 _ (t .2 .left) (rest .0 .0 .0 .0 .1)) (rest .0 .0 .0 .1) in
+    omega (arith, past 18 _ (past 17 _ (past 16 _ cycle (rest .0 .0 .1)) (rest .0 .1)) (rest .1), has .1))
     (c .if1 .came)
 
 transfer-requires : tie.Need-transfer-requires
@@ -114,13 +114,17 @@ returns-10 c =
     let done = c .before .before .before .before in as-effect _ _ (effect-at 17 _ _ (done .before .before .before .match .keys10)) (done .close .ensures)
 
 returns-11 : tie.Need-returns-11
-returns-11 c =
+unfolding forms rowOf
+returns-11 c = let done = c .before .before in as-effect _ _ (effect-at 18 _ _ (done .before .before .match .keys11)) (done .set-rate .ensures _)
+
+returns-12 : tie.Need-returns-12
+returns-12 c =
     let done = c .before .before .before .before in
     let f = transfers (done .before .before .before) in
     as-effect _ _ (transfer-is _ _ (f .0) (f .1)) (done .transfer .ensures)
 
-returns-12 : tie.Need-returns-12
-returns-12 c =
+returns-13 : tie.Need-returns-13
+returns-13 c =
     let done = c .before .before in
     let f = instructs (done .before .before) in
     as-effect _ _ (instruct-is _ _ (f .0) (f .1)) (done .instruct .ensures _)
@@ -129,6 +133,7 @@ pub handle-spec : {M : Type 1} → statement M
 handle-spec =
     tie.close
     (tie.spec
+    (λ c κs. search needs)
     (λ c κs. search needs)
     (λ c κs. search needs)
     (λ c κs. search needs)
@@ -171,8 +176,10 @@ handle-spec =
     (λ c. search needs)
     returns-10
     (λ c. search needs)
-    (λ c. search needs)
     returns-11
     (λ c. search needs)
+    (λ c. search needs)
     returns-12
+    (λ c. search needs)
+    returns-13
     (λ c. absurd (no-form (c .before))))

@@ -14,11 +14,11 @@ use Rattle.rulebook.specs.declared.Item.{Item}
 use Rattle.rulebook.specs.declared.Order.{Order}
 use Rattle.rulebook.specs.declared.State.{State}
 use Rattle.rulebook.specs.declared.State.the-variants.{Single, Pair, Trade}
-use Rattle.rulebook.specs.Ledger.{Ledger, fresh, putDay, putHoldings, putWaiting}
-use Rattle.rulebook.specs.Waiting.{sidesOf, sides, isDeliver, isReceive, itemOf, senderOf, withState, marked, marking, cancelled, staying, unmarked, sentBy}
+use Rattle.rulebook.specs.Ledger.{Ledger, fresh, putDay, putHoldings, putWaiting, putRate}
+use Rattle.rulebook.specs.Waiting.{sidesOf, sides, isDeliver, isReceive, itemOf, senderOf, withState, marked, marking, cancelled, staying, unmarked, sentBy, singleOf}
 use Rattle.rulebook.specs.Matching.{tolerance, pairsWith, pairOf, arrive}
 use Rattle.rulebook.specs.Close.{closeKind, leaves, deletedAtClose, suspendedAtClose}
-use Rattle.rulebook.specs.Forms.{counts, outcome, moving, silent, openDay, admit, deposit, withdraw, transfer, payIn, payOut, instruct, trade, cancel, cycle, close, forms, effect, takesIn}
+use Rattle.rulebook.specs.Forms.{counts, outcome, moving, silent, openDay, admit, deposit, withdraw, transfer, payIn, payOut, instruct, trade, cancel, cycle, close, forms, effect, takesIn, setRate}
 use Rattle.rulebook.specs.declared.Counts.{Counts}
 use Rattle.rulebook.specs.Cycle.{settled, notSettled}
 
@@ -148,7 +148,7 @@ Keeps takes f = (b : Ledger) (o : Order) → takes + sides b.waiting ≡ gone (f
 
 instruct-keeps : Keeps 1 instruct
 unfolding instruct silent outcome counts putWaiting itemOf sidesOf
-instruct-keeps b o = omega (arith, arrive-sides (tolerance o.currency) (itemOf (Single (o.form is 12) o.reference) o) refl b.waiting)
+instruct-keeps b o = omega (arith, arrive-sides (tolerance b.rate o.currency) (singleOf o) refl b.waiting)
 
 trade-keeps : Keeps 2 trade
 unfolding trade silent outcome counts putWaiting sides itemOf sidesOf
@@ -170,11 +170,11 @@ close-keeps b o = omega (arith, close-sides b.day.number b.waiting)
 
 -- a form that leaves the waiting list as it was takes in none, and none is gone
 forms-keep : AllForms (λ n f. Keeps f.takes f.effect) 1 forms
-unfolding forms openDay admit deposit withdraw transfer payIn payOut moving silent outcome counts putDay putHoldings
+unfolding forms openDay admit deposit withdraw transfer payIn payOut setRate moving silent outcome counts putDay putHoldings putRate
 forms-keep =
     (λ b o. refl) and (λ b o. refl) and (λ b o. refl) and (λ b o. refl) and (λ b o. refl) and (λ b o. refl) and (λ b o. refl) and (λ b o. refl)
     and (λ b o. refl) and (λ b o. refl) and (λ b o. refl) and instruct-keeps and instruct-keeps and trade-keeps and cancel-keeps and cycle-keeps
-    and close-keeps and tt
+    and close-keeps and (λ b o. refl) and tt
 
 effect-keeps : (b : Ledger) (o : Order) → takesIn o + sides b.waiting ≡ gone (effect b o .counts) + sides (effect b o .after .waiting)
 unfolding effect takesIn

@@ -1,5 +1,5 @@
 -- What a waiting item is, kept by marks, pairs, the days and the close; and what two singles that pair agree in. Assumes nothing.
-use mathlib.Core.Path.{_≡_, refl, sym, subst}
+use mathlib.Core.Path.{_≡_, refl, sym, _∙_, subst}
 use mathlib.Core.Bool.{Bool, true, false, not, _&&_, _||_, false≢true}
 use mathlib.Core.List.{List, [], _∷_, map}
 use Prim.Native.Nat.{ℕ, suc, _+_, _-_, _≤_, _<_, _^_}
@@ -15,7 +15,7 @@ use Rattle.plain.proofs.Lists.{each-append, each-map, each-kept}
 use Rattle.rulebook.specs.AccountTypes.{free, alike}
 use Rattle.rulebook.specs.Ledger.{Holdings, admitted}
 use Rattle.rulebook.specs.Waiting.{isDeliver, isReceive, ownReference, withState, marked, marking, unmarked, sentBy}
-use Rattle.rulebook.specs.Matching.{agree, pairsWith, pairOf, arrive}
+use Rattle.rulebook.specs.Matching.{agree, pairsWith, pairOf, arrive, sameTerms}
 use Rattle.rulebook.specs.Close.{closeKind, leaves}
 use Rattle.rulebook.specs.Premise.{SingleFits, StateFits, ItemFits, Named, NotOverdue}
 use Rattle.rulebook.proofs.Types.{Quiet, zero-quiet, free-quiet, free-fits, alike-free}
@@ -31,7 +31,7 @@ pub record Agreed (d r : Item) : Type 0 where
   pub types : alike d.debited.typ r.credited.typ ≡ true
 
 agreed : (limit : ℕ) (d r : Item) → isDeliver d.state ≡ true → isReceive r.state ≡ true → agree limit d r ≡ true → Agreed d r
-unfolding agree
+unfolding agree sameTerms
 agreed limit d r x y e =
     let h₁ = both _ (r.amount.0 - d.amount.0 atMost limit) e in
     let h₂ = both _ (d.amount.0 atMost r.amount.0) (h₁ .0) in
@@ -51,12 +51,19 @@ agreed limit d r x y e =
       types = h₃ .1;
     }
 
-deliver-not-receive : (x : State) → isDeliver x ≡ true → isReceive x ≡ false
+pub deliver-not-receive : (x : State) → isDeliver x ≡ true → isReceive x ≡ false
 unfolding isDeliver isReceive
 deliver-not-receive (Single true r) e = refl
 deliver-not-receive (Single false r) e = absurd (false≢true e)
 deliver-not-receive (Pair d r dm rm) e = refl
 deliver-not-receive (Trade r) e = refl
+
+pub receive-not-deliver : (x : State) → isReceive x ≡ true → isDeliver x ≡ false
+receive-not-deliver x e = go (isDeliver x) refl
+  where
+    go : (t : Bool) → isDeliver x ≡ t → isDeliver x ≡ false
+    go true p = absurd (false≢true (sym (deliver-not-receive x p) ∙ e))
+    go false p = p
 
 -- which of the two is the deliver
 pub pairs :

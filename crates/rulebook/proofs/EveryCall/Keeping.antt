@@ -13,13 +13,13 @@ use Rattle.plain.specs.Lists.{_is_, within, keep, Each}
 use Rattle.plain.proofs.Lists.{_and_, total-append, each-so, each-both, each-append, each-kept}
 use Rattle.rulebook.specs.AccountTypes.{alike, wrongTypes}
 use Rattle.rulebook.specs.Field as Field
-use Rattle.rulebook.specs.Ledger.{Ledger, Holdings, accountOf, admitted, putDay, putHoldings, putWaiting, putSecurities, newSecurity}
+use Rattle.rulebook.specs.Ledger.{Ledger, Holdings, accountOf, admitted, putDay, putHoldings, putWaiting, putSecurities, newSecurity, putRate}
 use Rattle.rulebook.specs.Movements.{Movement, booked}
-use Rattle.rulebook.specs.Waiting.{isTrade, itemOf, senderOf, sentBy, marking, staying, bothMarked}
+use Rattle.rulebook.specs.Waiting.{isTrade, itemOf, senderOf, sentBy, marking, staying, bothMarked, singleOf}
 use Rattle.rulebook.specs.Matching.{tolerance}
 use Rattle.rulebook.specs.Cycle.{buyer, settled, notSettled, legs}
 use Rattle.rulebook.specs.Close.{leaves}
-use Rattle.rulebook.specs.Forms.{outcome, moving, silent, openDay, admit, deposit, withdraw, transfer, payIn, payOut, instruct, trade, cancel, cycle, close, forms, rowOf, used, least, effect}
+use Rattle.rulebook.specs.Forms.{outcome, moving, silent, openDay, admit, deposit, withdraw, transfer, payIn, payOut, instruct, trade, cancel, cycle, close, forms, rowOf, used, least, effect, setRate}
 use Rattle.rulebook.specs.Call.{putMinute}
 use Rattle.rulebook.specs.Premise.{SecurityFits, accountType, AccountFits, StateFits, ItemFits, Premise, today}
 use Rattle.rulebook.proofs.ByCall.{Effect, AllForms, not-read, by-form}
@@ -31,7 +31,7 @@ use Rattle.rulebook.proofs.EveryCall.References.{Once, arrive-sent, can
 use Rattle.rulebook.proofs.Halves.{Half, arrive-halves, kept-halves, closed-halves}
 use Rattle.rulebook.proofs.EveryCall.Items.{item-later, marking-fits, close-fits, arrive-fits}
 use Rattle.rulebook.proofs.EveryCall.Days.{DayAt, same-day, open-day, cycle-day, close-day}
-use Rattle.rulebook.proofs.EveryCall.NewItems.{single, deliver-item, receive-item, trade-item, deliver-sender, receive-sender, trade-sender}
+use Rattle.rulebook.proofs.EveryCall.NewItems.{deliver-item, receive-item, trade-item, deliver-sender, receive-sender, trade-sender}
 
 abbrev Waiting : Ledger → List Item → Type 0
 Waiting b ws = Each (ItemFits b.day.number (today b.day) b.holdings) ws
@@ -158,20 +158,20 @@ waiting-kept b minute ws p d i r v = record { owned = owned-of b p; items = i; r
 
 instruct-keeps :
     (n : ℕ) → (n is 17) ≡ false → within 12 14 n ≡ true → (n is 15) ≡ false
-    → ((b : Ledger) (o : Order) → Accepted b o → o.form ≡ n → ItemFits b.day.number (today b.day) b.holdings (single o))
-    → ((b : Ledger) (o : Order) → Accepted b o → o.form ≡ n → (s r : ℕ) → sentBy s r (single o) ≡ true → (s ≡ senderOf o) × (r ≡ o.reference))
+    → ((b : Ledger) (o : Order) → Accepted b o → o.form ≡ n → ItemFits b.day.number (today b.day) b.holdings (singleOf o))
+    → ((b : Ledger) (o : Order) → Accepted b o → o.form ≡ n → (s r : ℕ) → sentBy s r (singleOf o) ≡ true → (s ≡ senderOf o) × (r ≡ o.reference))
     → Keeps n instruct
 unfolding instruct silent outcome
 instruct-keeps n l t t₂ item sender b o e p a =
     waiting-kept b o.minute _ p (same-day n b o e l p.day a)
-    (arrive-fits _ _ b.holdings (tolerance o.currency) (single o) (item b o a e) b.waiting p.items)
+    (arrive-fits _ _ b.holdings (tolerance b.rate o.currency) (singleOf o) (item b o a e) b.waiting p.items)
     (λ s r. omega (
       arith,
-      arrive-sent s r (tolerance o.currency) (single o) b.waiting,
-      new-once (senderOf o) o.reference (single o) b.waiting p.references
+      arrive-sent s r (tolerance b.rate o.currency) (singleOf o) b.waiting,
+      new-once (senderOf o) o.reference (singleOf o) b.waiting p.references
           (none-waits b o n e t t₂ a.reference) (sender b o a e) s r,
     ))
-    (arrive-halves (tolerance o.currency) (single o) (unfold bothMarked itemOf in refl) b.waiting p.halves)
+    (arrive-halves (tolerance b.rate o.currency) (singleOf o) (unfold bothMarked itemOf in refl) b.waiting p.halves)
 
 trade-keeps : Keeps 14 trade
 unfolding trade silent outcome
@@ -271,6 +271,13 @@ cycle-keeps b o e p a =
       day = unfold cycle outcome putDay putHoldings putWaiting in cycle-day b o e p.day a;
     }
 
+-- the rate
+
+rate-keeps : Keeps 18 setRate
+unfolding setRate silent outcome putRate putMinute putDay
+rate-keeps b o e p a =
+    record { owned = owned-of b p; items = p.items; references = p.references; halves = p.halves; day = same-day 18 b o e refl p.day a }
+
 -- every form
 
 forms-keep : AllForms (λ n f. Keeps n f.effect) 1 forms
@@ -283,7 +290,7 @@ forms-keep =
     and transfer-keeps 8 refl refl refl refl refl (λ d c w. pledged-type c (block-types d c w .1))
     and transfer-keeps 9 refl refl refl refl refl (λ d c w. free-type c (unblock-types d c w .0))
     and payIn-keeps and payOut-keeps and instruct-keeps 12 refl refl refl deliver-item deliver-sender and instruct-keeps 13 refl refl refl receive-item
-    receive-sender and trade-keeps and cancel-keeps and cycle-keeps and close-keeps and tt
+    receive-sender and trade-keeps and cancel-keeps and cycle-keeps and close-keeps and rate-keeps and tt
 
 -- no order that was read has another form
 pub effect-keeps : (b : Ledger) (o : Order) → Premise b → Accepted b o → Kept o.minute (effect b o .after)

@@ -5,7 +5,6 @@ use mathlib.Core.List.{List, [], _∷_}
 use Prim.Native.Nat.{ℕ, _+_, _≤_}
 use native.Mathlib.Omega.{arith}
 use borrow.Author.Tests.{eqb-true}
-use Rattle.rulebook.specs.declared.Item.{Item}
 use Rattle.rulebook.specs.declared.Order.{Order}
 use Rattle.rulebook.specs.declared.State.{State}
 use Rattle.rulebook.specs.declared.State.the-variants.{Single, Trade}
@@ -16,7 +15,7 @@ use Rattle.rulebook.specs.AccountTypes.{free}
 use Rattle.rulebook.specs.Field as Field
 use Rattle.rulebook.specs.Forms.{forms, rowOf, used, least}
 use Rattle.rulebook.specs.Ledger.{Ledger, admitted}
-use Rattle.rulebook.specs.Waiting.{itemOf, senderOf, sentBy}
+use Rattle.rulebook.specs.Waiting.{itemOf, senderOf, sentBy, singleOf}
 use Rattle.rulebook.specs.Premise.{ReferenceFits, StateFits, NotOverdue, ItemFits, today}
 use Rattle.rulebook.proofs.Types.{one-of, deliver-free, receive-free, trade-alike}
 use Rattle.rulebook.proofs.Orders.{Accepted, needs, needed, uses, is-admitted, right-types, is-open, instruct-parties, instruct-days, trade-parties, trade-days}
@@ -84,9 +83,6 @@ module _ (n : ℕ) (b : Ledger) (o : Order) (e : o.form ≡ n) (a : Accepted b o
   open-today t = simp (is-open b o n e t a.right-day)
 
 -- the item of form 12 or 13, and what these two forms are in the tests
-abbrev pub single : Order → Item
-single o = itemOf (Single (o.form is 12) o.reference) o
-
 record Instructs (n : ℕ) : Type 0 where
   not-5-9 : within 5 9 n ≡ false
   not-6-9 : within 6 9 n ≡ false
@@ -100,7 +96,7 @@ record Instructs (n : ℕ) : Type 0 where
 single-item :
     (n : ℕ) (b : Ledger) (o : Order) → o.form ≡ n → Accepted b o → Uses n → Instructs n → (if o.form is 12 then free o.debited.typ else free o.credited.typ)
     ≡ true
-    → (if o.form is 12 then o.credited.typ else o.debited.typ) ≡ 0 → ItemFits b.day.number (today b.day) b.holdings (single o)
+    → (if o.form is 12 then o.credited.typ else o.debited.typ) ≡ 0 → ItemFits b.day.number (today b.day) b.holdings (singleOf o)
 single-item n b o e a u i own other =
     let p = instruct-parties b o n e (i .not-5-9) (i .is-12-13) (i .not-6-9) (i .not-5-14) a.parties in
     let d = instruct-days b o n e (i .not-5-9) (i .is-12-13) (i .not-14) a.days in
@@ -116,7 +112,7 @@ single-item n b o e a u i own other =
     (omega (arith, t, d))
 
 module _ (b : Ledger) (o : Order) (a : Accepted b o) where
-  pub deliver-item : o.form ≡ 12 → ItemFits b.day.number (today b.day) b.holdings (single o)
+  pub deliver-item : o.form ≡ 12 → ItemFits b.day.number (today b.day) b.holdings (singleOf o)
   unfolding used least forms rowOf
   deliver-item e =
       single-item 12 b o e a (refl and refl and refl and refl and refl and refl and refl and refl and refl and refl and tt)
@@ -124,7 +120,7 @@ module _ (b : Ledger) (o : Order) (a : Accepted b o) where
       (simp e (deliver-free o.debited.typ o.credited.typ (right-types 12 b o e a.types)))
       (simp e (a.ranges.no-credited-type (uses 12 Field.credited-type o e false refl)))
 
-  pub receive-item : o.form ≡ 13 → ItemFits b.day.number (today b.day) b.holdings (single o)
+  pub receive-item : o.form ≡ 13 → ItemFits b.day.number (today b.day) b.holdings (singleOf o)
   unfolding used least forms rowOf
   receive-item e =
       single-item 13 b o e a (refl and refl and refl and refl and refl and refl and refl and refl and refl and refl and tt)
@@ -151,11 +147,11 @@ module _ (b : Ledger) (o : Order) (a : Accepted b o) where
   both-are : (x y z w : ℕ) → (x is y && z is w) ≡ true → (x ≡ y) × (z ≡ w)
   both-are x y z w q = let p = both (x is y) (z is w) q in (eqb-true x y (p .0), eqb-true z w (p .1))
 
-  pub deliver-sender : o.form ≡ 12 → (s r : ℕ) → sentBy s r (single o) ≡ true → (s ≡ senderOf o) × (r ≡ o.reference)
+  pub deliver-sender : o.form ≡ 12 → (s r : ℕ) → sentBy s r (singleOf o) ≡ true → (s ≡ senderOf o) × (r ≡ o.reference)
   unfolding sentBy itemOf senderOf
   deliver-sender e s r q = simp e (both-are s o.debited.member r o.reference (simp e at q))
 
-  pub receive-sender : o.form ≡ 13 → (s r : ℕ) → sentBy s r (single o) ≡ true → (s ≡ senderOf o) × (r ≡ o.reference)
+  pub receive-sender : o.form ≡ 13 → (s r : ℕ) → sentBy s r (singleOf o) ≡ true → (s ≡ senderOf o) × (r ≡ o.reference)
   unfolding sentBy itemOf senderOf
   receive-sender e s r q = simp e (both-are s o.credited.member r o.reference (simp e at q))
 

@@ -1,4 +1,5 @@
-//! The comparison: fixed lists, fresh lists, and the record alone.
+//! The comparison: fixed lists, fresh lists, worked lists, and the record
+//! alone.
 //!
 //!     compare                        all lists, with a fresh seed besides
 //!     compare --seed N               all lists, N in place of the fresh seed
@@ -18,6 +19,7 @@ use compare::record_alone;
 use compare::run::{List, list_to_last_day, lists, run_list};
 use compare::sweeps;
 use reference::book::Book;
+use reference::worked;
 
 const FIXED_SEED: u64 = 1;
 const FIXED_ROUNDS: u64 = 14;
@@ -107,7 +109,9 @@ fn run<D: Depository>(options: &Options) -> Tally {
     let mut all = lists(FIXED_SEED, FIXED_ROUNDS, 1);
     all.push(list_to_last_day(FIXED_SEED, all.len() + 1));
     all.extend(lists(options.seed, FRESH_ROUNDS, all.len() + 1));
-    if tally.failed == 0 && run_lists::<D>(&all, &mut coverage, &mut tally) {
+    let agree = tally.failed == 0 && run_lists::<D>(&all, &mut coverage, &mut tally);
+    worked_checks::<D>(&mut tally);
+    if agree {
         sweep_checks::<D>(&mut tally);
         coverage_checks(&coverage, &mut tally);
     }
@@ -132,14 +136,23 @@ fn run_lists<D: Depository>(all: &[List], coverage: &mut Coverage, tally: &mut T
     true
 }
 
+/// A seed that is both runs once.
 fn record_checks<D: Depository>(fresh: u64, tally: &mut Tally) {
-    for seed in [FIXED_SEED, fresh] {
+    let seeds = if fresh == FIXED_SEED { vec![fresh] } else { vec![FIXED_SEED, fresh] };
+    for seed in seeds {
         match record_alone::run::<D>(seed, RECORD_ROUNDS) {
             Ok(reached) => reached.cells().into_iter().for_each(|(name, count)| {
                 tally.check(count > 0, || format!("empty: {name}, seed {seed}"));
             }),
             Err(text) => tally.check(false, || format!("{text}, seed {seed}")),
         }
+    }
+}
+
+fn worked_checks<D: Depository>(tally: &mut Tally) {
+    for list in worked::lists() {
+        let result = compare::worked::run::<D>(&list);
+        tally.check(result.is_ok(), || result.err().unwrap_or_default());
     }
 }
 

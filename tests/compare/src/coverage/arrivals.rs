@@ -103,12 +103,15 @@ impl Coverage {
     pub(super) fn arrival(&mut self, book: &Book, order: &Order) {
         let arrival = waiting_item(order);
         let others: Vec<&Item> = book.waiting.iter().filter(|item| is_other_form(item, &arrival)).collect();
+        let place = partner(book, order);
         for other in &others {
             let (deliver, receive) = if order.form == 12 { (&arrival, *other) } else { (*other, &arrival) };
-            self.difference(order, deliver, receive);
-            self.near_miss(order, deliver, receive);
+            self.difference(book, order, deliver, receive);
+            self.near_miss(book, order, deliver, receive);
+            self.meeting(book, order, [deliver, receive], place.map(|place| &book.waiting[place]));
         }
-        let Some(place) = partner(book, order) else {
+        self.note_rate(book, order, &arrival);
+        let Some(place) = place else {
             return self.event("arrival does not match");
         };
         let single = &book.waiting[place];
@@ -144,28 +147,20 @@ impl Coverage {
         }
     }
 
-    fn near_miss(&mut self, order: &Order, deliver: &Item, receive: &Item) {
+    fn near_miss(&mut self, book: &Book, order: &Order, deliver: &Item, receive: &Item) {
         if let [term] = other_terms(deliver, receive)[..]
-            && amounts_agree(deliver, receive)
+            && amounts_agree(book.rate, deliver, receive)
         {
             self.reach(Cell::NearMiss { term, arriving: order.form });
         }
     }
 
-    fn difference(&mut self, order: &Order, deliver: &Item, receive: &Item) {
-        if !same_terms(deliver, receive) {
-            return;
+    fn difference(&mut self, book: &Book, order: &Order, deliver: &Item, receive: &Item) {
+        if same_terms(deliver, receive)
+            && let Some(step) = step(book.rate, deliver, receive)
+        {
+            self.reach(Cell::Difference { currency: order.currency, arriving: order.form, step });
         }
-        let most = tolerance(order.currency) as i64;
-        let step = match receive.amount as i64 - deliver.amount as i64 {
-            -1 => Step::MinusOne,
-            0 => Step::Zero,
-            difference if difference == most => Step::Tolerance,
-            difference if difference == most + 1 => Step::ToleranceAndOne,
-            difference if (1..most).contains(&difference) => Step::Inside,
-            _ => return,
-        };
-        self.reach(Cell::Difference { currency: order.currency, arriving: order.form, step });
     }
 
     /// An order that is refused with 18.
@@ -179,6 +174,19 @@ impl Coverage {
         } else {
             self.event(of_form(order.form, &names[3..]));
         }
+    }
+}
+
+/// Where the amounts of a deliver and a receive lie to the tolerance at a rate.
+pub(super) fn step(rate: u64, deliver: &Item, receive: &Item) -> Option<Step> {
+    let most = tolerance(rate, deliver.currency) as i64;
+    match receive.amount as i64 - deliver.amount as i64 {
+        -1 => Some(Step::MinusOne),
+        0 => Some(Step::Zero),
+        difference if difference == most => Some(Step::Tolerance),
+        difference if difference == most + 1 => Some(Step::ToleranceAndOne),
+        difference if (1..most).contains(&difference) => Some(Step::Inside),
+        _ => None,
     }
 }
 

@@ -61,10 +61,6 @@ impl Coverage {
         self.left_trades(book, &due, &settling, &left);
     }
 
-    fn named(&mut self, events: &[(bool, &'static str)]) {
-        events.iter().filter(|(holds, _)| *holds).for_each(|(_, name)| self.event(name));
-    }
-
     fn settled_trades(&mut self, book: &Book, settled: &Trades) {
         for trade in settled {
             let marked = matches!(trade.state, State::Pair { deliver, receive } if deliver.marked || receive.marked);

@@ -7,6 +7,7 @@ mod cycles;
 pub mod damages;
 mod edges;
 mod endings;
+mod rates;
 pub mod table;
 
 use std::collections::BTreeMap;
@@ -49,6 +50,12 @@ pub enum Cell {
         arriving: u64,
         step: arrivals::Step,
     },
+    /// The same in LBP, by the rate at which the two meet.
+    AtRate {
+        rate: rates::Rate,
+        arriving: u64,
+        step: arrivals::Step,
+    },
     /// A single that fits but for one term.
     NearMiss {
         term: arrivals::Term,
@@ -58,7 +65,7 @@ pub enum Cell {
     Event(&'static str),
 }
 
-const EVENTS: &[&[&str]] = &[SIZES, arrivals::EVENTS, cycles::EVENTS, endings::EVENTS];
+const EVENTS: &[&[&str]] = &[SIZES, arrivals::EVENTS, rates::EVENTS, cycles::EVENTS, endings::EVENTS];
 
 const SIZES: &[&str] = &[
     "area of 0 bytes",
@@ -83,6 +90,8 @@ const SIZES: &[&str] = &[
 #[derive(Default)]
 pub struct Coverage {
     reached: BTreeMap<Cell, u64>,
+    /// Of the list that runs.
+    rates: rates::History,
     pub calls: u64,
     pub accepted: u64,
 }
@@ -94,6 +103,15 @@ impl Coverage {
 
     pub fn event(&mut self, name: &'static str) {
         self.reach(Cell::Event(name));
+    }
+
+    fn named(&mut self, events: &[(bool, &'static str)]) {
+        events.iter().filter(|(holds, _)| *holds).for_each(|(_, name)| self.event(name));
+    }
+
+    /// The next calls are those of another list.
+    pub fn new_list(&mut self) {
+        self.rates = rates::History::default();
     }
 
     pub fn count(&self, cell: &Cell) -> u64 {
@@ -135,18 +153,21 @@ impl Coverage {
         self.edge(book, order, true);
         self.extremes(order);
         match order.form {
+            1 => self.opening(book),
             5..=9 => self.movement(book, order),
             12 | 13 => self.arrival(book, order),
             15 => self.cancellation(book, order),
             16 => self.cycle(book),
             17 => self.close(book),
+            18 => self.new_rate(book, order),
             _ => {}
         }
     }
 
     fn extremes(&mut self, order: &Order) {
         let at_most = |field: Field| order.fields()[field as usize] == usual_range(field).1;
-        if at_most(Field::Quantity) {
+        // A rate is no quantity of shares.
+        if at_most(Field::Quantity) && order.form != 18 {
             self.event("largest quantity accepted");
         }
         if at_most(Field::Amount) {
@@ -183,7 +204,7 @@ impl Coverage {
             (book.day.number == LAST_DAY && book.day.open, "day 60,000 open"),
             (book.day.number == LAST_DAY && !book.day.open, "day 60,000 closed"),
         ];
-        states.into_iter().filter(|(holds, _)| *holds).for_each(|(_, name)| self.event(name));
+        self.named(&states);
     }
 }
 
@@ -221,6 +242,7 @@ pub fn wanted() -> Vec<Cell> {
     cells.extend(wanted_pairs());
     cells.extend(edges::wanted());
     cells.extend(arrivals::wanted());
+    cells.extend(rates::wanted());
     cells.extend(damages::wanted().into_iter().map(Cell::Damage));
     cells.extend(EVENTS.iter().flat_map(|names| names.iter()).map(|name| Cell::Event(name)));
     cells

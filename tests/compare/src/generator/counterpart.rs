@@ -1,6 +1,6 @@
 //! Instructions that answer a waiting single, or miss it by one term.
 
-use reference::book::Item;
+use reference::book::{Item, State};
 use reference::matching::tolerance;
 use reference::record::Order;
 
@@ -9,8 +9,8 @@ use super::draft::{Desk, MOST};
 impl Desk<'_> {
     /// The other instruction of a waiting single, its amount often at an end
     /// of the tolerance or just past it.
-    pub fn counterpart(&mut self, form: u64, single: &Item) -> Order {
-        let most = tolerance(single.currency);
+    pub fn counterpart(&mut self, single: &Item) -> Order {
+        let most = tolerance(self.book.rate, single.currency);
         let difference = match self.random.below(20) {
             0..=7 => 0,
             8..=10 => most as i64,
@@ -18,11 +18,18 @@ impl Desk<'_> {
             12 => -1,
             _ => self.random.between(0, most) as i64,
         };
-        let sign = if form == 13 { 1 } else { -1 };
+        let order = self.answer(single, difference);
+        if self.random.percent(15) { self.with_other_term(order) } else { order }
+    }
+
+    /// The other instruction of a single. The receive is this much above the
+    /// deliver, as far as amounts go.
+    pub fn answer(&mut self, single: &Item, difference: i64) -> Order {
+        let delivers = matches!(single.state, State::Deliver { .. });
+        let (form, sign) = if delivers { (13, 1) } else { (12, -1) };
         let amount = (single.amount as i64 + sign * difference).clamp(1, MOST as i64) as u64;
         let own_type = self.like(single.deliverer.account_type.max(single.receiver.account_type));
-        let order = Order { amount, reference: self.reference(), ..terms_of(single, form, own_type) };
-        if self.random.percent(15) { self.with_other_term(order) } else { order }
+        Order { amount, reference: self.reference(), ..terms_of(single, form, own_type) }
     }
 
     /// The same instruction with one of the terms of matching changed.

@@ -66,6 +66,7 @@ impl Desk<'_> {
             14 => self.exchange_trade(),
             15 => self.cancellation(),
             16 | 17 => Some(Order::default()),
+            18 => Some(self.new_rate()),
             _ => None,
         };
         order.map(|order| Order { form, ..order })
@@ -221,12 +222,12 @@ impl Desk<'_> {
         if self.random.percent(55)
             && let Some(single) = self.random.maybe_pick(&singles)
         {
-            return Some(self.counterpart(form, &single));
+            return Some(self.counterpart(&single));
         }
         self.new_instruction(form)
     }
 
-    fn new_instruction(&mut self, form: u64) -> Option<Order> {
+    pub fn new_instruction(&mut self, form: u64) -> Option<Order> {
         let kept = if self.random.percent(70) { self.kept_account(&FREE) } else { None };
         let from = match kept {
             Some(account) => account,

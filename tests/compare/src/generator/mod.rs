@@ -5,6 +5,7 @@ mod counterpart;
 pub mod damage;
 pub mod draft;
 pub mod profile;
+mod rates;
 mod scenario;
 mod spoil;
 
@@ -128,11 +129,9 @@ impl Generator {
     }
 
     fn daytime(&mut self, book: &Book) -> Order {
-        if self.random.permille(self.profile.scenarios) {
-            self.prepared = self.desk(book).scenario();
-            if let Some(order) = self.next_prepared(book) {
-                return order;
-            }
+        self.prepared = self.group(book);
+        if let Some(order) = self.next_prepared(book) {
+            return order;
         }
         if self.random.percent(self.profile.faults) {
             return self.faulty(book);
@@ -143,6 +142,17 @@ impl Generator {
             return order;
         }
         self.acceptable(book)
+    }
+
+    /// Now and then orders that belong together.
+    fn group(&mut self, book: &Book) -> VecDeque<Order> {
+        if self.random.permille(self.profile.scenarios) {
+            return self.desk(book).scenario();
+        }
+        if self.random.permille(self.profile.moving_rates) {
+            return self.desk(book).moving_rate();
+        }
+        VecDeque::new()
     }
 
     /// The next order of a prepared group; the group ends where it is refused.

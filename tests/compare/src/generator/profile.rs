@@ -27,17 +27,19 @@ pub struct Profile {
     pub edges: u64,
     /// Prepared groups of trades, begun this often, in thousandths.
     pub scenarios: u64,
+    /// Instructions around a new rate, begun this often, in thousandths.
+    pub moving_rates: u64,
     /// Settlement days of instructions are at most this far ahead.
     pub days_ahead: u64,
-    /// Quantities and amounts near the fields' ends, in percent.
+    /// Quantities, amounts and rates near the fields' ends, in percent.
     pub large_values: u64,
     /// Days of kind 2, in percent.
     pub fridays: u64,
 }
 
 /// All forms: 2 admit, 3 deposit, 4 withdrawal, 5 transfer, 6 to 9 pledge to
-/// unblock, 10 and 11 cash, 12 to 14 trades, 15 cancel, 16 cycle.
-const BUSY: &[u64] = &[0, 0, 4, 12, 12, 10, 5, 5, 5, 5, 14, 4, 16, 16, 10, 5, 8];
+/// unblock, 10 and 11 cash, 12 to 14 trades, 15 cancel, 16 cycle, 18 rate.
+const BUSY: &[u64] = &[0, 0, 4, 12, 12, 10, 5, 5, 5, 5, 14, 4, 16, 16, 10, 5, 8, 0, 2];
 
 const USUAL: Profile = Profile {
     name: "busy trading",
@@ -52,6 +54,7 @@ const USUAL: Profile = Profile {
     short_areas: 5,
     edges: 3,
     scenarios: 15,
+    moving_rates: 3,
     days_ahead: 4,
     large_values: 3,
     fridays: 40,
@@ -63,7 +66,7 @@ const FULL_ACCOUNTS: Profile = Profile {
     members: 64,
     shareholders: 60,
     calls_a_day: (60, 300),
-    weights: &[0, 0, 2, 40, 3, 14, 8, 6, 8, 6, 4, 1, 5, 5, 3, 1, 2],
+    weights: &[0, 0, 2, 40, 3, 14, 8, 6, 8, 6, 4, 1, 5, 5, 3, 1, 2, 0, 1],
     faults: 15,
     ..USUAL
 };
@@ -72,7 +75,7 @@ const FULL_ITEMS: Profile = Profile {
     name: "full items",
     members: 12,
     calls_a_day: (20, 120),
-    weights: &[0, 0, 3, 8, 2, 3, 1, 1, 1, 1, 4, 1, 30, 30, 12, 4, 1],
+    weights: &[0, 0, 3, 8, 2, 3, 1, 1, 1, 1, 4, 1, 30, 30, 12, 4, 1, 0, 1],
     faults: 12,
     scenarios: 40,
     days_ahead: 20,
@@ -82,7 +85,7 @@ const FULL_ITEMS: Profile = Profile {
 const FULL_SECURITIES: Profile = Profile {
     name: "full securities",
     securities: 40,
-    weights: &[0, 0, 30, 14, 6, 10, 5, 4, 5, 4, 6, 4, 8, 8, 6, 3, 3],
+    weights: &[0, 0, 30, 14, 6, 10, 5, 4, 5, 4, 6, 4, 8, 8, 6, 3, 3, 0, 1],
     faults: 12,
     ..USUAL
 };
@@ -95,7 +98,7 @@ const CASH: Profile = Profile {
     calls: 9_000,
     members: 64,
     calls_a_day: (20, 200),
-    weights: &[0, 0, 1, 3, 1, 1, 1, 1, 1, 1, 70, 3, 4, 4, 3, 1, 1],
+    weights: &[0, 0, 1, 3, 1, 1, 1, 1, 1, 1, 70, 3, 4, 4, 3, 1, 1, 0, 1],
     faults: 16,
     large_values: 85,
     ..USUAL
@@ -106,7 +109,7 @@ const CANCEL_AND_CLOSE: Profile = Profile {
     members: 4,
     shareholders: 2,
     calls_a_day: (4, 30),
-    weights: &[0, 0, 2, 6, 2, 2, 1, 1, 1, 1, 4, 3, 20, 20, 8, 16, 5],
+    weights: &[0, 0, 2, 6, 2, 2, 1, 1, 1, 1, 4, 3, 20, 20, 8, 16, 5, 0, 1],
     days_ahead: 3,
     ..USUAL
 };
@@ -115,7 +118,7 @@ const EDGES_OF_WINDOWS: Profile = Profile {
     name: "edges of windows",
     securities: 40,
     calls_a_day: (6, 40),
-    weights: &[0, 0, 10, 12, 12, 10, 5, 5, 5, 5, 14, 4, 16, 16, 10, 5, 8],
+    weights: &[0, 0, 10, 12, 12, 10, 5, 5, 5, 5, 14, 4, 16, 16, 10, 5, 8, 0, 2],
     faults: 2,
     edges: 70,
     scenarios: 5,
@@ -128,6 +131,7 @@ const FULL_CYCLES: Profile = Profile {
     weights: &[0, 0, 2, 6, 4, 3, 1, 1, 1, 1, 6, 4, 0, 0, 0, 0, 4],
     faults: 2,
     scenarios: 300,
+    moving_rates: 0,
     ..USUAL
 };
 
@@ -137,10 +141,26 @@ const NETTING: Profile = Profile {
     members: 5,
     shareholders: 1,
     calls_a_day: (10, 60),
-    weights: &[0, 0, 2, 5, 2, 2, 1, 1, 1, 1, 6, 4, 12, 12, 20, 2, 6],
+    weights: &[0, 0, 2, 5, 2, 2, 1, 1, 1, 1, 6, 4, 12, 12, 20, 2, 6, 0, 1],
     faults: 3,
     scenarios: 60,
     days_ahead: 2,
+    ..USUAL
+};
+
+const MOVING_RATE: Profile = Profile {
+    name: "moving rate",
+    calls: 1_500,
+    securities: 2,
+    members: 4,
+    shareholders: 1,
+    calls_a_day: (4, 30),
+    weights: &[0, 0, 1, 3, 1, 1, 1, 1, 1, 1, 6, 1, 24, 24, 2, 4, 3, 0, 6],
+    faults: 3,
+    scenarios: 0,
+    moving_rates: 120,
+    days_ahead: 5,
+    large_values: 30,
     ..USUAL
 };
 
@@ -157,6 +177,7 @@ pub fn profiles() -> Vec<Profile> {
         EDGES_OF_WINDOWS,
         FULL_CYCLES,
         NETTING,
+        MOVING_RATE,
     ]
 }
 

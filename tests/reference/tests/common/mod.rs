@@ -111,6 +111,15 @@ pub fn cancel(sender: u64, reference: u64, minute: u64) -> Order {
     Order { debited_member: sender, reference, ..form(15, minute) }
 }
 
+pub fn set_rate(rate: u64, minute: u64) -> Order {
+    Order { quantity: rate, ..form(18, minute) }
+}
+
+/// The same instruction for LBP.
+pub fn in_pounds(order: Order) -> Order {
+    Order { currency: LBP, ..order }
+}
+
 pub fn record(order: &Order) -> [u8; 40] {
     pack(&order.fields(), 0)
 }

@@ -1,9 +1,0 @@
--- `item::pair_up` meets its contract. Assumes nothing.
-use borrow.Author.Needs.{needs}
-use Rattle.rulebook.specs.Matching.{pairOf}
-use Rattle.item.proofs.pair_up.Statement.{statement}
-use Rattle.item.proofs.pair_up.Tie as tie
-
-pub pair-up-spec : {M : Type 1} → statement M
-unfolding pairOf
-pair-up-spec = tie.close (tie.spec (λ c κs. search needs) (λ c κs. search needs) (λ c. cc))

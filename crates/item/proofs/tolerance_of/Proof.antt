@@ -1,9 +1,0 @@
--- `item::tolerance_of` meets its contract. Assumes nothing.
-use borrow.Author.Tests.{ne-eqb}
-use Rattle.rulebook.specs.Matching.{tolerance}
-use Rattle.item.proofs.tolerance_of.Statement.{statement}
-use Rattle.item.proofs.tolerance_of.Tie as tie
-
-pub tolerance-of-spec : {M : Type 1} → statement M
-unfolding tolerance
-tolerance-of-spec = tie.close (tie.spec (λ c. cc) (λ c. rw (ne-eqb _ _ (c .if1 .left))))

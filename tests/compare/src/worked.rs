@@ -1,0 +1,17 @@
+//! The worked lists of the reference, on both sides.
+
+use reference::worked::List;
+
+use crate::depository::Depository;
+use crate::run::Sides;
+
+/// Runs a list on both sides, with the totals after each call: what is not as
+/// it should be.
+pub fn run<D: Depository>(list: &List) -> Result<(), String> {
+    let mut sides = Sides::<D>::fresh();
+    list.run(|order| {
+        let answer = sides.send(order)?;
+        sides.check_totals()?;
+        Ok((answer, sides.book.clone()))
+    })
+}
