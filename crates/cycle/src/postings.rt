@@ -8,7 +8,7 @@ ghost use Rattle.marks.specs.Marks.{markedOf, withRows};
 ghost use Rattle.legs.specs.Ready.{Ready};
 use marks::Marks;
 
-// Each marked trade's four rows go into the area behind those before it.
+// The rows of each marked trade, one trade's four behind another's.
 pub fn write_marked(area: &mut [u8], book: &[u64], marks: Marks)
     requires { ⌜ (4096 ≤ length (now area)) × Stored (now book) × Ready (ledgerOf (now book)) ⌝ }
     ensures { λ u. ⌜ now (area .exit) ≡ withRows (markedOf marks (waitingOf (now (book .entry)))) (now (area .entry)) ⌝ }

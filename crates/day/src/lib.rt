@@ -11,7 +11,7 @@ ghost use Rattle.checking.specs.Given.{Given};
 use rulebook::Counts;
 use rulebook::Order;
 
-// 1. Open day adds 1 to the day, sets the day kind and sets cycles run to 0.
+// 1. The next day, of the kind that the order names, with no cycle run yet.
 pub fn open_day(book: &mut [u64], order: Order) -> Counts
     requires { ⌜ Given (now book) order × (order .form ≡ 1) ⌝ }
     ensures { λ r. ⌜ ((area : List ℕ) → Handled (openDay (ledgerOf (now (book .entry))) order) (now (book .exit)) area area r) ⌝ }
@@ -25,7 +25,7 @@ pub fn open_day(book: &mut [u64], order: Order) -> Counts
     rows::no_counts()
 }
 
-// Every accepted call sets the last minute.
+// The minute of a call that was accepted becomes the book's last one.
 pub fn put_minute(book: &mut [u64], minute: u64)
     requires { ⌜ Stored (now book) ⌝ }
     ensures { λ u. ⌜ Becomes (putMinute minute) (now (book .entry)) (now (book .exit)) ⌝ }

@@ -30,7 +30,7 @@ fn pair_of(arriving: Item, waits: Item) -> Item
     matching::pair_up(arriving, waits)
 }
 
-// 12 and 13. The earlier single is removed and the pair goes last. Otherwise the single goes last.
+// 12 and 13. Where a partner waits it leaves its place, and the two are one pair at the end of the list; else the single waits there.
 pub fn instruct(book: &mut [u64], order: Order) -> Counts
     requires { ⌜ Given (now book) order × ((order .form oneOf (12 ∷ 13 ∷ [])) ≡ true) ⌝ }
     ensures { λ r. ⌜ ((area : List ℕ) → Handled (instruct (ledgerOf (now (book .entry))) order) (now (book .exit)) area area r) ⌝ }
@@ -66,7 +66,7 @@ pub fn trade(book: &mut [u64], order: Order) -> Counts
 
 // ---- cancels
 
-// 15. Cancel marks the sender's half; the second half removes the pair and writes its notice.
+// 15. A mark on the half of the one who cancels; with both marks the pair leaves, and a notice tells it.
 pub fn cancel(book: &mut [u64], order: Order, area: &mut [u8]) -> Counts
     requires { ⌜ Accepted (now book) order (now area) × (order .form ≡ 15) ⌝ }
     ensures { λ r. ⌜ Handled (cancel (ledgerOf (now (book .entry))) order) (now (book .exit)) (now (area .entry)) (now (area .exit)) r ⌝ }

@@ -64,7 +64,7 @@ fn with_state(state: State, item: Item) -> Item
 
 // ---- senders and references
 
-// The sender of form 12 is its debited member, of form 13 its credited one; exchange trades form one sender, which no member is.
+// Who sends an order: the deliverer a deliver, the receiver a receive, the exchange, which has no member's number, a trade; who cancels, a cancel.
 pub fn sender_of(order: Order) -> u64
     ensures { λ r. ⌜ r ≡ senderOf order ⌝ }
 {
@@ -104,7 +104,7 @@ pub fn sent_by(sender: u64, reference: u64, item: Item) -> bool
     }
 }
 
-// A single is one side; a pair or exchange trade two.
+// How many sides an item in that state counts.
 pub fn sides_of(state: State) -> u64
     ensures { λ r. ⌜ r ≡ sidesOf state ⌝ }
 {
@@ -117,7 +117,7 @@ pub fn sides_of(state: State) -> u64
 
 // ---- marks
 
-// The item to cancel is unmatched, or this sender has marked it.
+// What this sender cannot cancel: a single, or a pair that bears the sender's mark.
 pub fn not_cancellable(sender: u64, item: Item) -> bool
     ensures { λ r. ⌜ r ≡ notCancellable sender item ⌝ }
 {
@@ -138,7 +138,7 @@ pub fn not_cancellable(sender: u64, item: Item) -> bool
     }
 }
 
-// Cancel marks the sender's half.
+// The item with this sender's mark.
 pub fn mark(sender: u64, item: Item) -> Item
     ensures { λ r. ⌜ r ≡ marked sender item ⌝ }
 {
@@ -191,7 +191,7 @@ pub fn both_marked(state: State) -> bool
     }
 }
 
-// Marks are dropped.
+// The item without marks.
 pub fn unmark(item: Item) -> Item
     ensures { λ r. ⌜ r ≡ unmarked item ⌝ }
 {

@@ -39,7 +39,7 @@ module _ (book octets area : List ℕ) (kept : Kept book) where
     refused = λ number f. (refl, refl);
   }
 
-  -- 1. The lent area is shorter than 4,096 bytes.
+  -- 1. Too short an area.
   pub too-short : length area < 4_096 → Called book octets area (Answer.Refused 1) book area
   too-short l = unchanged 1 (unfold callOf in rw (lt-ltb (length area) 4_096 l))
 
@@ -48,7 +48,7 @@ module _ (book octets area : List ℕ) (kept : Kept book) where
     unfolding callOf
     reads r e = rw (le-ltb (length area) 4_096 room, e)
 
-    -- 2 to 5. A record that cannot be read ends the call there.
+    -- 2 to 5. A record that does not read.
     pub unread : (n : ℕ) → readOf octets ≡ Read.Refused n → Called book octets area (Answer.Refused n) book area
     unfolding readCall
     unread n e = unchanged n (reads (Read.Refused n) e)

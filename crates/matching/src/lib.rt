@@ -39,8 +39,7 @@ fn are_close(limit: Cents, less: Cents, more: Cents) -> bool
     more.0 - less.0 <= limit.0
 }
 
-// Equal in security, shareholder, days, quantity, currency, both members naming each other, both types book entry or both physical, and receive
-// amount less deliver amount between 0 and a limit.
+// Whether a deliver and a receive have their terms in common, and amounts within the limit.
 fn do_agree(limit: Cents, deliver: Item, receive: Item) -> bool
     ensures { λ r. ⌜ r ≡ agree (limit .0) deliver receive ⌝ }
 {
@@ -56,7 +55,7 @@ fn do_agree(limit: Cents, deliver: Item, receive: Item) -> bool
         & are_close(limit, deliver.amount, receive.amount)
 }
 
-// An arriving 12 or 13 pairs with a waiting single of the other form.
+// Whether one of the two delivers, the other receives, and they agree.
 pub fn pairs_with(limit: Cents, arriving: Item, waits: Item) -> bool
     ensures { λ r. ⌜ r ≡ pairsWith (limit .0) arriving waits ⌝ }
 {
@@ -70,7 +69,7 @@ pub fn pairs_with(limit: Cents, arriving: Item, waits: Item) -> bool
             & do_agree(limit, arriving, waits))
 }
 
-// The pair takes the receiver's amount.
+// The pair of a deliver and a receive, at what the buyer offers.
 pub fn pair_up(deliver: Item, receive: Item) -> Item
     ensures { λ r. ⌜ r ≡ pairOf deliver receive ⌝ }
 {

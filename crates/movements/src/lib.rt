@@ -17,7 +17,7 @@ fn two_rows() -> Counts
     counts
 }
 
-// 2. Admit: 90 to 91; issued and outside both become the quantity.
+// 2. A new security, all of its issue outside, with the rows of that movement.
 pub fn admit(book: &mut [u64], order: Order, area: &mut [u8]) -> Counts
     requires { ⌜ Accepted (now book) order (now area) × (order .form ≡ 2) ⌝ }
     ensures { λ r. ⌜ Handled (admit (ledgerOf (now (book .entry))) order) (now (book .exit)) (now (area .entry)) (now (area .exit)) r ⌝ }

@@ -22,7 +22,7 @@ fn is_due(item: Item, day: u64) -> bool
     }
 }
 
-// The pairs and exchange trades whose settlement day has come.
+// The trades that are due today, by their marks.
 pub fn due_marks(book: &[u64]) -> Marks
     requires { ⌜ Stored (now book) × (length (ledgerOf (now book) .waiting) ≤ 64) ⌝ }
     ensures { λ r. ⌜ Taken (ledgerOf (now (book .entry))) r ⌝ }

@@ -39,7 +39,7 @@ fn write_posting(area: &mut [u8], p: Posting)
     bits::pack_bits(area, &POSTING_WIDTHS, &values);
 }
 
-// A movement is a debit row, then a credit row.
+// The two rows of a movement, the debit's before the credit's.
 fn write_movement(area: &mut [u8], debit: Posting, credit: Posting)
     requires { ⌜ (32 ≤ length (now area)) × PostingFits debit × PostingFits credit ⌝ }
     ensures { λ u. ⌜ now (area .exit) ≡ (postingBytes debit ++ postingBytes credit) ++ drop 32 (now (area .entry)) ⌝ }

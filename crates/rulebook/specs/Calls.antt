@@ -38,7 +38,7 @@ pub record Made : Type 0 where
   pub answer : Answer
   pub area : List ℕ
 
--- RULES 12.1: each call gets the book that the one before it left, accepted or refused
+-- RULES 12.1: every further call works on what the last one left, whether or not that was accepted
 unfoldable pub callsOn : Ledger → List Call → List Made
 callsOn book [] = []
 callsOn book (c ∷ rest) =

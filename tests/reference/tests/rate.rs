@@ -127,7 +127,7 @@ fn dollars_do_not_follow_the_rate() {
     }
 }
 
-/// In one minute the order of the calls decides.
+/// All in one minute: what came first counts.
 #[test]
 fn the_rate_at_the_second_instruction_counts() {
     for (rate, items) in [(50, 1), (49, 2)] {
