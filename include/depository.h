@@ -12,7 +12,7 @@
  * other value and any length is answered.
  *
  * Every function answers 0 where it did what it is for. Otherwise it answers
- * a number, and every buffer is as it was: a refusal, 1 to 18, or one of
+ * a number, and every buffer is as it was: a refusal, 1 to 21, or one of
  * enum depository_wrong. Lengths are looked at before everything else, in the
  * order of that enum.
  */
@@ -26,16 +26,17 @@
 extern "C" {
 #endif
 
-#define DEPOSITORY_BOOK_WORDS 1772u
+#define DEPOSITORY_BOOK_WORDS 1821u
 #define DEPOSITORY_RECORD_BYTES 40u
 #define DEPOSITORY_AREA_BYTES 4096u
 #define DEPOSITORY_ROW_BYTES 16u
 #define DEPOSITORY_FIELD_WORDS 18u
 #define DEPOSITORY_COUNT_WORDS 6u
 #define DEPOSITORY_DAY_WORDS 5u
-#define DEPOSITORY_SIZE_WORDS 3u
+#define DEPOSITORY_SIZE_WORDS 4u
 #define DEPOSITORY_SECURITY_WORDS 4u
 #define DEPOSITORY_ITEM_WORDS 17u
+#define DEPOSITORY_REQUEST_WORDS 5u
 
 /* What is answered for a buffer whose length is not the one that its function
  * names, and for a place behind the last. No refusal has such a number. */
@@ -94,7 +95,8 @@ enum depository_day_value {
 enum depository_size_value {
     DEPOSITORY_SECURITIES = 0,
     DEPOSITORY_ACCOUNTS = 1,
-    DEPOSITORY_ITEMS = 2
+    DEPOSITORY_ITEMS = 2,
+    DEPOSITORY_REQUESTS = 3
 };
 
 /* Places in the values of depository_security. */
@@ -136,6 +138,16 @@ enum depository_state {
     DEPOSITORY_EXCHANGE_TRADE = 4
 };
 
+/* Places in the values of depository_request. The type is the one that the
+ * shares came from, 10 or 20; until the request ends they stand in type 50. */
+enum depository_request_value {
+    DEPOSITORY_REQUEST_SECURITY = 0,
+    DEPOSITORY_REQUEST_TYPE = 1,
+    DEPOSITORY_REQUEST_SHAREHOLDER = 2,
+    DEPOSITORY_REQUEST_QUANTITY = 3,
+    DEPOSITORY_REQUEST_DAY = 4
+};
+
 /* Makes a fresh book, whatever the words held: day 0, closed, the rate
  * 150,750, nothing else. */
 uint64_t depository_fresh(uint64_t *book, size_t book_words);
@@ -144,7 +156,7 @@ uint64_t depository_fresh(uint64_t *book, size_t book_words);
  * their sizes nor of what they hold; `counts_words` is
  * DEPOSITORY_COUNT_WORDS. Answers 0 if the call is accepted: the book has
  * moved, the area begins with the rows and is the same behind them, and the
- * counts are those of the call. Refusals are 1 to 18. */
+ * counts are those of the call. Refusals are 1 to 21. */
 uint64_t depository_call(uint64_t *book, size_t book_words,
                          const uint8_t *record, size_t record_bytes,
                          uint8_t *area, size_t area_bytes,
@@ -172,8 +184,8 @@ uint64_t depository_rate(const uint64_t *book, size_t book_words,
                          uint64_t *values, size_t values_words);
 
 /* How many securities are admitted, how many accounts there are (each of
- * another balance than 0), how many items wait; `values_words` is
- * DEPOSITORY_SIZE_WORDS. */
+ * another balance than 0), how many items wait, how many requests for paper
+ * are open; `values_words` is DEPOSITORY_SIZE_WORDS. */
 uint64_t depository_sizes(const uint64_t *book, size_t book_words,
                           uint64_t *values, size_t values_words);
 
@@ -206,6 +218,13 @@ uint64_t depository_cash(const uint64_t *book, size_t book_words,
 uint64_t depository_item(const uint64_t *book, size_t book_words,
                          size_t place,
                          uint64_t *values, size_t values_words);
+
+/* The request for paper that a member has open under a reference: security,
+ * type, shareholder, quantity, and the day on which it was made. All are 0 if
+ * there is none. `values_words` is DEPOSITORY_REQUEST_WORDS. */
+uint64_t depository_request(const uint64_t *book, size_t book_words,
+                            uint64_t member, uint64_t reference,
+                            uint64_t *values, size_t values_words);
 
 #ifdef __cplusplus
 }
