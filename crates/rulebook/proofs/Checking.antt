@@ -6,8 +6,8 @@ use Prim.Native.Nat.{ℕ, _≤_}
 use native.Mathlib.Omega.{arith}
 use borrow.Author.Tests.{ne-eqb}
 use Rattle.plain.specs.Lists.{if_then_else_, _is_, first}
-use Rattle.rulebook.specs.Ledger.{Holdings}
-use Rattle.rulebook.specs.Refusals.{dayTests, orderTests, itemTests}
+use Rattle.rulebook.specs.Ledger.{Holdings, Requests}
+use Rattle.rulebook.specs.Refusals.{dayTests, orderTests, itemTests, requestTests}
 use Rattle.rulebook.specs.declared.Day.{Day}
 use Rattle.rulebook.specs.declared.Item.{Item}
 use Rattle.rulebook.specs.declared.Order.{Order}
@@ -67,3 +67,7 @@ order-numbered holdings today order = omega arith
 pub items-numbered : (waiting : List Item) (order : Order) → Numbered (itemTests waiting order)
 unfolding itemTests
 items-numbered waiting order = omega arith
+
+pub requests-numbered : (requests : Requests) (today : ℕ) (order : Order) → Numbered (requestTests requests today order)
+unfolding requestTests
+requests-numbered requests today order = omega arith

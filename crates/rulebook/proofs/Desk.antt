@@ -1,11 +1,11 @@
 -- The desk checks, by computation. Assumes nothing.
 use mathlib.Core.Path.{refl}
 use Rattle.bits.specs.Bits.{number, bytes, leading, field}
-use Rattle.rulebook.specs.AccountTypes.{bookEntry, physical, free, alike, pledgePairs, blockPairs, listed, pledgedOrBlocked, wrongTypes}
+use Rattle.rulebook.specs.AccountTypes.{bookEntry, physical, free, alike, pledgePairs, blockPairs, listed, pledgedOrBlocked, paperPairs, ends, wrongTypes}
 use Rattle.rulebook.specs.Field.{widths, places, ceiling}
 use Rattle.rulebook.specs.Record.{fieldsOf, orderOf, noForm, unusedNotZero, usedOutOfRange, fieldsIn, readRefusal, readOf, recordOf, writeRefusal, writtenOf, areaWritten}
 use Rattle.plain.specs.Lists.{sumBelow}
-use Rattle.rulebook.specs.Ledger.{fresh, putDay, putHoldings, putWaiting, accountOf, sameAccount, counted, putBalance, putCash, putSecurities, putOutside, admitted, issuedOf, outsideOf, cashTotal, putRate}
+use Rattle.rulebook.specs.Ledger.{fresh, putDay, putHoldings, putWaiting, accountOf, sameAccount, counted, putBalance, putCash, putSecurities, putOutside, admitted, issuedOf, outsideOf, cashTotal, putRate, putRequests, putRequest, requestAccount}
 use Rattle.rulebook.specs.Movements.{credit, debit, credits, debits, booked}
 use Rattle.rulebook.specs.Windows.{byKind, cycleMinutes, officeEnd}
 use Rattle.rulebook.specs.Rows.{postingWidths, noticeWidths, postingBytes, postingIn, postingOf, noticeBytes, deliverReference, receiveReference, noticeOf, postingRows, rowBytes, rowsBytes}
@@ -13,27 +13,29 @@ use Rattle.rulebook.specs.Waiting.{itemOf, isDeliver, isReceive, isTrade
 use Rattle.rulebook.specs.Matching.{tolerance, agree, pairsWith, pairOf, arrive, sameTerms}
 use Rattle.rulebook.specs.Cycle.{seller, buyer, taken, due, settlingOf, over, sharesBrought, sharesTaken, cashBrought, cashTaken, bringsShares, takesShares, bringsCash, takesCash, sharesMissing, cashMissing, debitsShort, anyShort, dropLast, rounds, settling, withMark, withoutMark, legs, settled, notSettled, dropped}
 use Rattle.rulebook.specs.Close.{closeKind, leaves, deletedAtClose, suspendedAtClose, closeNotice}
-use Rattle.rulebook.specs.Forms.{counts, outcome, moving, silent, openDay, admit, deposit, withdraw, transfer, payIn, payOut, instruct, trade, cancel, cycle, close, forms, rowOf, used, least, most, windowOf, effect, setRate}
-use Rattle.rulebook.specs.Refusals.{wrongDay, wrongCycle, goesBack, outsideWindow, wrongSecurity, wrongPair, wrongParties, wrongDays, wrongReference, wrongCancel, tooLittle, overCeiling, noSpace, dayTests, orderTests, itemTests, roomTests, refusals}
+use Rattle.rulebook.specs.Forms.{counts, outcome, moving, silent, openDay, admit, deposit, withdraw, transfer, payIn, payOut, instruct, trade, cancel, cycle, close, forms, rowOf, used, least, most, windowOf, effect, setRate, requestPaper, endRequest}
+use Rattle.rulebook.specs.Refusals.{wrongDay, wrongCycle, goesBack, outsideWindow, wrongSecurity, wrongPair, wrongParties, wrongDays, wrongReference, wrongCancel, wrongRequest, endsTooSoon, tooManyRequests, tooLittle, overCeiling, noSpace, dayTests, orderTests, itemTests, requestTests, roomTests, refusals}
 use Rattle.rulebook.specs.Call.{answerNumber, refused, putMinute, accepted, orderCall, readCall, callOf}
-use Rattle.rulebook.specs.Calls.{resultOf, recordIn, callsOn, bookAfter}
-use Rattle.rulebook.specs.Desk.{Desk, party, nobody, order, opens, admits, deposits, pledges, paysIn, delivers, receives, deliversPounds, receivesPounds, setsRate, runs, sells, manyDelivers, send, calls, result, started, full, waits, cycled}
+use Rattle.rulebook.specs.Calls.{resultOf, recordIn, callsOn, bookAfter, acceptedOf, acceptedCalls, sum, sharesOf, lastAsked, leftWith, leftOnPaper, withdrawals}
+use Rattle.rulebook.specs.Desk.{Desk, party, nobody, order, opens, admits, deposits, pledges, paysIn, delivers, receives, deliversPounds, receivesPounds, setsRate, runs, sells, manyDelivers, closes, asksPaper, endsPaper, send, calls, result, started, full, asked, nextDay, waits, cycled}
 
 pub desk : Desk
 unfolding
-    party nobody order opens admits deposits pledges paysIn delivers receives deliversPounds receivesPounds setsRate runs sells manyDelivers send calls result started full waits cycled
-    number bytes leading field bookEntry physical free alike pledgePairs blockPairs listed pledgedOrBlocked wrongTypes widths places fieldsOf orderOf
-    ceiling used least most noForm unusedNotZero usedOutOfRange fieldsIn readRefusal readOf recordOf writeRefusal writtenOf areaWritten fresh putDay
-    putHoldings putWaiting putRate accountOf sameAccount counted putBalance putCash putSecurities putOutside admitted issuedOf outsideOf sumBelow cashTotal
+    party nobody order opens admits deposits pledges paysIn delivers receives deliversPounds receivesPounds setsRate runs sells manyDelivers closes
+    asksPaper endsPaper send calls result started full asked nextDay waits cycled number bytes leading field bookEntry physical free alike pledgePairs
+    blockPairs listed pledgedOrBlocked paperPairs ends wrongTypes widths places fieldsOf orderOf ceiling used least most noForm unusedNotZero
+    usedOutOfRange fieldsIn readRefusal readOf recordOf writeRefusal writtenOf areaWritten fresh putDay putHoldings putWaiting putRate putRequests
+    putRequest requestAccount accountOf sameAccount counted putBalance putCash putSecurities putOutside admitted issuedOf outsideOf sumBelow cashTotal
     credit debit credits debits booked byKind cycleMinutes officeEnd postingWidths noticeWidths postingBytes postingIn postingOf noticeBytes
     deliverReference receiveReference noticeOf postingRows rowBytes rowsBytes itemOf isDeliver isReceive isTrade ownReference sidesOf sides senderOf
-    sentBy notCancellable withState marked bothMarked marking cancelled staying unmarked tolerance sameTerms agree pairsWith pairOf arrive seller buyer taken
-    over sharesBrought sharesTaken cashBrought cashTaken bringsShares takesShares bringsCash takesCash sharesMissing cashMissing due settlingOf
-    debitsShort anyShort dropLast rounds settling withMark withoutMark legs settled notSettled dropped closeKind leaves deletedAtClose
-    suspendedAtClose closeNotice counts outcome moving silent openDay admit deposit withdraw transfer payIn payOut instruct trade cancel cycle close setRate
-    forms rowOf windowOf effect wrongDay wrongCycle goesBack outsideWindow wrongSecurity wrongPair wrongParties wrongDays wrongReference wrongCancel
-    tooLittle overCeiling noSpace dayTests orderTests itemTests roomTests refusals answerNumber refused putMinute accepted orderCall readCall callOf resultOf
-    recordIn callsOn bookAfter
+    sentBy notCancellable withState marked bothMarked marking cancelled staying unmarked tolerance sameTerms agree pairsWith pairOf arrive seller
+    buyer taken over sharesBrought sharesTaken cashBrought cashTaken bringsShares takesShares bringsCash takesCash sharesMissing cashMissing due
+    settlingOf debitsShort anyShort dropLast rounds settling withMark withoutMark legs settled notSettled dropped closeKind leaves deletedAtClose
+    suspendedAtClose closeNotice counts outcome moving silent openDay admit deposit withdraw transfer payIn payOut instruct trade cancel cycle close
+    setRate requestPaper endRequest forms rowOf windowOf effect wrongDay wrongCycle goesBack outsideWindow wrongSecurity wrongPair wrongParties
+    wrongDays wrongReference wrongCancel wrongRequest endsTooSoon tooManyRequests tooLittle overCeiling noSpace dayTests orderTests itemTests
+    requestTests roomTests refusals answerNumber refused putMinute accepted orderCall readCall callOf resultOf recordIn callsOn bookAfter acceptedOf
+    acceptedCalls sum sharesOf lastAsked leftWith leftOnPaper withdrawals
 desk = record {
   p1 = refl;
   p2 = refl;
@@ -50,4 +52,8 @@ desk = record {
   p13 = refl;
   p14 = refl;
   p15 = refl;
+  p16 = refl;
+  p17 = (refl, refl);
+  p18 = refl;
+  p19 = refl;
 }

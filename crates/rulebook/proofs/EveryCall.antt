@@ -1,5 +1,6 @@
 -- The premise: the fresh book meets it, and every call keeps it, accepted or refused. Assumes nothing.
--- its parts: the number of accounts; who has a balance or cash; waiting items; their references; the day; what an order brings in; all forms; the rate
+-- its parts: the number of accounts; who has a balance or cash; waiting items; their references; the day; what an order brings in; all forms; the rate;
+-- the requests
 pub mod Counting
 pub mod Owners
 pub mod Items
@@ -8,6 +9,7 @@ pub mod Days
 pub mod NewItems
 pub mod Keeping
 pub mod Rated
+pub mod Requested
 use mathlib.Core.Path.{_≡_, refl, subst}
 use mathlib.Core.Bool.{Bool, true, false}
 use mathlib.Core.List.{List, [], _∷_}
@@ -36,6 +38,7 @@ use Rattle.rulebook.proofs.EveryCall.Owners.{fresh-owned}
 use Rattle.rulebook.proofs.EveryCall.Days.{fresh-day}
 use Rattle.rulebook.proofs.EveryCall.Keeping.{effect-keeps as form-keeps}
 use Rattle.rulebook.proofs.EveryCall.Rated.{order-rate}
+use Rattle.rulebook.proofs.EveryCall.Requested.{fresh-requested, order-requested}
 
 pub fresh-premise : Premise fresh
 unfolding fresh
@@ -53,6 +56,10 @@ fresh-premise = record {
   halves = tt;
   day = fresh-day;
   rate = record { least = omega arith; most = omega arith };
+  sixteen = fresh-requested .sixteen;
+  numbered = fresh-requested .numbered;
+  requests = fresh-requested .fits;
+  awaited = fresh-requested .awaited;
 }
 
 -- held + outside = issued
@@ -107,6 +114,7 @@ order-premise b o bytes p e z =
     let a = accepted b o bytes e z in
     let t = order-step b o bytes p e z in
     let k = form-keeps b o p a in
+    let r = order-requested b o p a t in
     record {
       sizes = unfold putMinute putDay in minute-sizes o.minute (effect b o .after) (space-sizes b o a.space);
       counted = step-counted o.form b o (effect b o) t p.counted;
@@ -121,6 +129,10 @@ order-premise b o bytes p e z =
       halves = k.halves;
       day = k.day;
       rate = order-rate b o p.rate a;
+      sixteen = r .sixteen;
+      numbered = r .numbered;
+      requests = r .fits;
+      awaited = r .awaited;
     }
 
 -- and so does any call, with any record and any area

@@ -12,6 +12,8 @@ pub mod Desk
 pub mod CheckingOrder
 -- the rate: of every list of calls, what pairs by it, what form 18 does and meets
 pub mod Rates
+-- requests for paper: their shares are there, they stay until they are ended, and can be ended on every later day
+pub mod Rematerialization
 -- the premise: the fresh book meets it (`fresh-premise`) and every call keeps it (`call-premise`), so the number of accounts that a book carries is
 -- the number of those with a balance (`accounts-counted`)
 pub mod EveryCall
@@ -42,6 +44,8 @@ pub mod Below
 pub mod Types
 pub mod Held
 pub mod Securities
+-- one request that is opened or ended, and that its shares are there
+pub mod Requests
 pub mod Reading
 pub mod Sums
 -- checking orders: the test of a number (`none-applies`), one order behind another (`first-append`)

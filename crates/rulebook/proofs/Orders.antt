@@ -8,21 +8,21 @@ use native.Mathlib.Omega.{arith}
 use lib.Pow.{pow-pos}
 use lib.Dec.{leb}
 use lib.ListN.{length, getD}
-use borrow.Author.Tests.{eqb-true, leb-true, leb-false, ltb-false, not-false}
+use borrow.Author.Tests.{eqb-true, eqb-false, leb-true, leb-false, ltb-false, not-false}
 use Rattle.bits.specs.Bits.{leading, field}
 use Rattle.rulebook.specs.declared.Order.{Order}
 use Rattle.rulebook.specs.declared.Read.{Read}
 use Rattle.plain.specs.Lists.{if_then_else_, _is_, _isNot_, _below_, _atMost_, _oneOf_, within, some, first}
-use Rattle.rulebook.specs.AccountTypes.{wrongTypes}
+use Rattle.rulebook.specs.AccountTypes.{ends, wrongTypes}
 use Rattle.rulebook.specs.Field as Field
 use Rattle.rulebook.specs.Field.{places, widths, ceiling, always, ruleIn}
 use Rattle.rulebook.proofs.ByCall.{by-test}
-use Rattle.rulebook.specs.Forms.{Form, forms, used, least, most, windowOf}
+use Rattle.rulebook.specs.Forms.{Form, endedRequest, forms, used, least, most, windowOf}
 use Rattle.rulebook.specs.Record.{orderOf, fieldsIn, noForm, unusedNotZero, usedOutOfRange, fieldTests, readRefusal, readOf}
 use Rattle.rulebook.specs.Ledger.{Ledger, accountOf, sameAccount, admitted, outsideOf}
 use Rattle.rulebook.specs.Windows.{cycleMinutes}
 use Rattle.rulebook.specs.Waiting.{senderOf, sentBy}
-use Rattle.rulebook.specs.Refusals.{wrongDay, wrongCycle, goesBack, outsideWindow, wrongSecurity, wrongPair, wrongParties, wrongDays, wrongReference, wrongCancel, tooLittle, overCeiling, noSpace, dayTests, orderTests, itemTests, roomTests, refusals}
+use Rattle.rulebook.specs.Refusals.{wrongDay, wrongCycle, goesBack, outsideWindow, wrongSecurity, wrongPair, wrongParties, wrongDays, wrongReference, wrongCancel, wrongRequest, endsTooSoon, tooManyRequests, asksSecurity, debitsShares, tooLittle, overCeiling, noSpace, dayTests, orderTests, itemTests, requestTests, roomTests, refusals}
 use Rattle.rulebook.proofs.Checking.{none-applies}
 use Rattle.rulebook.specs.Ranges.{PartyInRange}
 
@@ -210,12 +210,15 @@ pub record Accepted (b : Ledger) (o : Order) : Type 0 where
   pub days : wrongDays b.day.number o ≡ false
   pub reference : wrongReference b.waiting o ≡ false
   pub cancel : wrongCancel b.waiting o ≡ false
+  pub request : wrongRequest b.requests o ≡ false
+  pub too-soon : endsTooSoon b.day.number b.requests o ≡ false
+  pub sixteen : tooManyRequests b.requests o ≡ false
   pub little : tooLittle b.holdings o ≡ false
   pub ceiling : overCeiling b.holdings o ≡ false
   pub space : noSpace b o ≡ false
 
 pub accepted : (b : Ledger) (o : Order) (bytes : List ℕ) → readOf bytes ≡ Read.Order o → first (refusals b o) ≡ 0 → Accepted b o
-unfolding refusals dayTests orderTests itemTests roomTests
+unfolding refusals dayTests orderTests itemTests requestTests roomTests
 accepted b o bytes e z =
     let passed = none-applies (refusals b o) (omega arith) z in
     record {
@@ -231,6 +234,9 @@ accepted b o bytes e z =
       days = passed 13;
       reference = passed 14;
       cancel = passed 15;
+      request = passed 19;
+      too-soon = passed 20;
+      sixteen = passed 21;
       little = passed 16;
       ceiling = passed 17;
       space = passed 18;
@@ -324,9 +330,38 @@ module _ (b : Ledger) (o : Order) where
       go true false p = absurd (false≢true (sym p))
       go false y p = absurd (false≢true (sym p))
 
+-- 19, 20 and 21
+
+-- a form 19's reference is not open
+pub not-open : (b : Ledger) (o : Order) → o.form ≡ 19 → wrongRequest b.requests o ≡ false → endedRequest b o .quantity .0 ≡ 0
+unfolding wrongRequest
+not-open b o e w = go (endedRequest b o .quantity .0 is 0) refl (simp e at w)
+  where
+    go : (t : Bool) → (endedRequest b o .quantity .0 is 0) ≡ t → (not t || false) ≡ false → endedRequest b o .quantity .0 ≡ 0
+    go true p q = eqb-true _ 0 p
+    go false p q = absurd (false≢true (sym q))
+
+-- a form 20's is, and its credited type ends the request
+pub is-ended :
+    (b : Ledger) (o : Order) → o.form ≡ 20 → wrongRequest b.requests o ≡ false
+    → (1 ≤ endedRequest b o .quantity .0) × (ends (endedRequest b o .typ) o.credited.typ ≡ true)
+unfolding wrongRequest
+is-ended b o e w = go (endedRequest b o .quantity .0 is 0) (ends (endedRequest b o .typ) o.credited.typ) refl refl (simp e at w)
+  where
+    go :
+        (t u : Bool) → (endedRequest b o .quantity .0 is 0) ≡ t → ends (endedRequest b o .typ) o.credited.typ ≡ u → not (not t && u) ≡ false
+        → (1 ≤ endedRequest b o .quantity .0) × (ends (endedRequest b o .typ) o.credited.typ ≡ true)
+    go true u p s q = absurd (false≢true (sym q))
+    go false true p s q = (omega (arith, eqb-false (endedRequest b o .quantity .0) 0 p), s)
+    go false false p s q = absurd (false≢true (sym q))
+
+pub fewer-open : (b : Ledger) (o : Order) → o.form ≡ 19 → tooManyRequests b.requests o ≡ false → b.requests.number ≤ 15
+unfolding tooManyRequests
+fewer-open b o e w = ltb-false _ _ (simp e at w)
+
 -- 10
 pub is-admitted :
-    (n : ℕ) (b : Ledger) (o : Order) → o.form ≡ n → (within 3 9 n || within 12 14 n) ≡ true → (n is 2) ≡ false → wrongSecurity b.holdings o ≡ false
+    (n : ℕ) (b : Ledger) (o : Order) → o.form ≡ n → asksSecurity n ≡ true → (n is 2) ≡ false → wrongSecurity b.holdings o ≡ false
     → some (λ x. x.code is o.security) b.holdings.securities ≡ true
 unfolding wrongSecurity admitted
 is-admitted n b o e t t₂ w = go (some (λ x. x.code is o.security) b.holdings.securities) (simp (e, t, t₂) at w)
@@ -349,17 +384,17 @@ none-of false false z e = (refl, refl, e)
 pub little-parts :
     (b : Ledger) (o : Order) → tooLittle b.holdings o ≡ false
     → ((o.form is 3 && outsideOf o.security b.holdings below o.quantity.0) ≡ false)
-    × ((within 4 9 o.form && b.holdings.balance (accountOf o.security o.debited) below o.quantity.0) ≡ false)
+    × ((debitsShares o.form && b.holdings.balance (accountOf o.security o.debited) below o.quantity.0) ≡ false)
     × ((o.form is 11 && b.holdings.cash o.debited.member o.currency below o.amount.0) ≡ false)
 unfolding tooLittle
 little-parts b o e =
     none-of (o.form is 3 && outsideOf o.security b.holdings below o.quantity.0)
-    (within 4 9 o.form && b.holdings.balance (accountOf o.security o.debited) below o.quantity.0)
+    (debitsShares o.form && b.holdings.balance (accountOf o.security o.debited) below o.quantity.0)
     (o.form is 11 && b.holdings.cash o.debited.member o.currency below o.amount.0)
     e
 
 pub debit-enough :
-    (b : Ledger) (o : Order) → tooLittle b.holdings o ≡ false → within 4 9 o.form ≡ true → o.quantity.0 ≤ b.holdings.balance (accountOf o.security o.debited)
+    (b : Ledger) (o : Order) → tooLittle b.holdings o ≡ false → debitsShares o.form ≡ true → o.quantity.0 ≤ b.holdings.balance (accountOf o.security o.debited)
 debit-enough b o e w = ltb-false _ _ (simp w at (little-parts b o e .1))
 
 pub right-types : (n : ℕ) (b : Ledger) (o : Order) → o.form ≡ n → wrongPair o ≡ false → wrongTypes n o.debited.typ o.credited.typ ≡ false

@@ -14,7 +14,7 @@ use Rattle.rulebook.specs.Rows.{postingRows}
 use Rattle.rulebook.specs.Waiting.{senderOf, marking, cancelled, bothMarked}
 use Rattle.rulebook.specs.Cycle.{legs, settled}
 use Rattle.rulebook.specs.Close.{leaves}
-use Rattle.rulebook.specs.Forms.{outcome, moving, silent, openDay, admit, deposit, withdraw, transfer, payIn, payOut, instruct, trade, cancel, cycle, close, forms, effect, setRate}
+use Rattle.rulebook.specs.Forms.{outcome, moving, silent, openDay, admit, deposit, withdraw, transfer, payIn, payOut, instruct, trade, cancel, cycle, close, forms, effect, setRate, requestPaper, endRequest}
 use Rattle.rulebook.specs.Premise.{Sizes}
 use Rattle.rulebook.proofs.ByCall.{Effect, AllForms, by-form}
 use Rattle.rulebook.proofs.Rounds.{cycle-length}
@@ -61,7 +61,7 @@ close-rows b o s =
     omega (arith, r, keep-length (leaves b.day.number) b.waiting, s.items)
 
 forms-write : AllForms (λ n f. Writes f.effect) 1 forms
-unfolding forms openDay admit deposit withdraw transfer payIn payOut instruct trade setRate
+unfolding forms openDay admit deposit withdraw transfer payIn payOut instruct trade setRate requestPaper endRequest
 forms-write =
     (λ b o. silent-rows _)
     and (λ b o s. moving-rows _ (omega arith) _) and (λ b o s. moving-rows _ (omega arith) _) and (λ b o s. moving-rows _ (omega arith) _)
@@ -69,7 +69,7 @@ forms-write =
     and (λ b o s. moving-rows _ (omega arith) _) and (λ b o s. moving-rows _ (omega arith) _) and (λ b o s. moving-rows _ (omega arith) _)
     and (λ b o s. moving-rows _ (omega arith) _)
     and (λ b o. silent-rows _) and (λ b o. silent-rows _) and (λ b o. silent-rows _) and cancel-rows and cycle-rows and close-rows
-    and (λ b o. silent-rows _) and tt
+    and (λ b o. silent-rows _) and (λ b o s. moving-rows _ (omega arith) _) and (λ b o s. moving-rows _ (omega arith) _) and tt
 
 pub effect-rows : (b : Ledger) (o : Order) → Sizes b → length (effect b o .rows) ≤ 256
 unfolding effect

@@ -63,6 +63,14 @@ counted-most n = go (n is 0)
     go true = omega arith
     go false = omega arith
 
+pub counted-none : counted 0 ≡ 0
+unfolding counted
+counted-none = refl
+
+pub counted-some : (n : ℕ) → 1 ≤ n → counted n ≡ 1
+unfolding counted
+counted-some n l = simp (ne-eqb n 0 (λ p. omega arith))
+
 counted-less : (n k : ℕ) → counted (n - k) ≤ counted n
 unfolding counted
 counted-less zero k = let z : 0 - k ≡ 0 = omega arith in rw z (omega arith)
@@ -178,7 +186,7 @@ forms-stay =
     and (λ e b o s. grows e) and (λ e b o s. grows e) and (λ e b o s. grows e) and (λ e b o s. grows e) and (λ e b o s. grows e)
     and (λ _ b o s. moving-stays _ refl b s) and (λ _ b o s. moving-stays _ refl b s) and (λ e b o s. grows e) and (λ e b o s. grows e) and (λ e b o s. grows e)
     and (λ _ b o s. cancel-stays b o s) and (λ _ b o s. cycle-stays b o s) and (λ _ b o s. close-stays b o s)
-    and (λ _ b o s. same-stays b (setRate b o .after) refl refl s) and tt
+    and (λ _ b o s. same-stays b (setRate b o .after) refl refl s) and (λ e b o s. grows e) and (λ e b o s. grows e) and tt
 
 pub never-grows : (b : Ledger) (o : Order) → (o.form oneOf neverGrows) ≡ true → Sizes b → noSpace b o ≡ false
 unfolding effect

@@ -8,23 +8,25 @@ use borrow.Author.Tests.{ltb-true, ltb-false, lt-ltb, le-ltb, ne-eqb, eqb-true, 
 use lib.ListN.{length, length-append}
 use Rattle.rulebook.specs.declared.Item.{Item}
 use Rattle.rulebook.specs.declared.Order.{Order}
+use Rattle.rulebook.specs.declared.Request.{Request}
 use Rattle.rulebook.specs.declared.Security.{Security}
 use Rattle.rulebook.specs.declared.State.the-variants.{Trade}
 use Rattle.plain.specs.Lists.{if_then_else_, _is_, _isNot_, _below_, _oneOf_, some}
-use Rattle.rulebook.specs.Ledger.{Ledger, accountOf, sameAccount, counted, putBalance, putSecurities, putOutside, putHoldings, putWaiting, newSecurity}
+use Rattle.rulebook.specs.AccountTypes.{requested, ends}
+use Rattle.rulebook.specs.Ledger.{Ledger, Holdings, accountOf, requestAccount, sameAccount, counted, putBalance, putSecurities, putOutside, putHoldings, putWaiting, putRequests, newSecurity}
 use Rattle.rulebook.specs.declared.Account.{Account}
-use Rattle.rulebook.specs.Movements.{account, type91, type90, move, credit, debit, credits, debits, booked}
+use Rattle.rulebook.specs.Movements.{Place, Movement, account, type91, type90, move, credit, debit, credits, debits, booked}
 use Rattle.rulebook.specs.Waiting.{itemOf, singleOf}
 use Rattle.rulebook.specs.Matching.{tolerance, pairsWith, arrive}
-use Rattle.rulebook.specs.Forms.{Outcome, outcome, moving, silent, admit, deposit, transfer, instruct, trade, forms, rowOf, effect}
+use Rattle.rulebook.specs.Forms.{Outcome, outcome, moving, silent, admit, deposit, transfer, instruct, trade, newRequest, endedRequest, requestPaper, endRequest, forms, rowOf, effect}
 use Rattle.rulebook.specs.Refusals.{noSpace, wrongPair, wrongParties}
 use Rattle.rulebook.specs.Premise.{Sizes}
 use Rattle.rulebook.proofs.ByCall.{effect-at}
 use Rattle.rulebook.proofs.Held.{put-other}
 use Rattle.rulebook.proofs.Places.{is-sym}
-use Rattle.rulebook.proofs.Types.{put-in-apart, pledge-types, release-types, block-types, unblock-types}
+use Rattle.rulebook.proofs.Types.{free-quiet, entry-free, ends-free, request-entry, put-in-apart, pledge-types, release-types, block-types, unblock-types}
 use Rattle.rulebook.proofs.Orders.{right-types}
-use Rattle.rulebook.proofs.Sizes.{booked-listed}
+use Rattle.rulebook.proofs.Sizes.{counted-none, counted-some, opened, booked-accounts, booked-listed}
 
 -- the test, on the counts that a book would have
 abbrev full : (securities items accounts : ℕ) → Bool
@@ -47,14 +49,6 @@ below-same a b c d f g = go (a below b) refl
         not-less : (u : Bool) → (c below d) ≡ u → d ≤ c
         not-less true q = let l = g (ltb-true c d q) in let m = ltb-false a b p in absurd (omega arith)
         not-less false q = ltb-false c d q
-
-counted-some : (n : ℕ) → 1 ≤ n → counted n ≡ 1
-unfolding counted
-counted-some n l = simp (ne-eqb n 0 (λ p. omega arith))
-
-counted-none : counted 0 ≡ 0
-unfolding counted
-counted-none = refl
 
 module _ (b : Ledger) (o : Order) (z : Sizes b) where
   abbrev securities : ℕ
@@ -168,10 +162,10 @@ module _ (b : Ledger) (o : Order) (z : Sizes b) where
   abbrev has : Account → ℕ
   has a = b.holdings.balance a
 
-  opens-by : (t : Bool) → (has to is 0) ≡ t → full securities items (accounts + 1 - counted (has to)) ≡ (t && 255 below (accounts + items))
-  opens-by true p =
-      let c : counted (has to) ≡ 0 = ap counted (eqb-true (has to) 0 p) ∙ counted-none in
-      let q : accounts + 1 - counted (has to) ≡ accounts + 1 = omega (arith, c) in
+  opens-by : (a : Account) (t : Bool) → (has a is 0) ≡ t → full securities items (accounts + 1 - counted (has a)) ≡ (t && 255 below (accounts + items))
+  opens-by a true p =
+      let c : counted (has a) ≡ 0 = ap counted (eqb-true (has a) 0 p) ∙ counted-none in
+      let q : accounts + 1 - counted (has a) ≡ accounts + 1 = omega (arith, c) in
       rw q
       (simp (
         le-ltb 32 securities z.securities,
@@ -179,10 +173,10 @@ module _ (b : Ledger) (o : Order) (z : Sizes b) where
         below-same 256 (accounts + 1 + items) 255 (accounts + items) (λ l. omega arith)
             (λ l. omega arith),
       ))
-  opens-by false p =
-      let n = eqb-false (has to) 0 p in
-      let c = counted-some (has to) (omega (arith, n)) in
-      let q : accounts + 1 - counted (has to) ≡ accounts = omega (arith, c) in
+  opens-by a false p =
+      let n = eqb-false (has a) 0 p in
+      let c = counted-some (has a) (omega (arith, n)) in
+      let q : accounts + 1 - counted (has a) ≡ accounts = omega (arith, c) in
       rw q (simp (le-ltb 32 securities z.securities, le-ltb 64 items z.items, le-ltb 256 (accounts + items) z.accounts))
 
   pub deposit-space : o.form ≡ 3 → 1 ≤ o.quantity.0 → noSpace b o ≡ (has to is 0 && 255 below (accounts + items))
@@ -195,30 +189,52 @@ module _ (b : Ledger) (o : Order) (z : Sizes b) where
       let c = counted-some (has to + o.quantity.0) (omega arith) in
       space-is 3 b o e (putHoldings (booked ms b.holdings) b) refl securities items (accounts + 1 - counted (has to)) (booked-listed ms b.holdings) refl
       (a ∙ ap (λ (k : ℕ). accounts + k - counted (has to)) c)
-      ∙ opens-by (has to is 0) refl
+      ∙ opens-by to (has to is 0) refl
 
-  -- 5 to 9. the same, where the debited one keeps a balance
+  -- shares that go from one account to another: the same, where the debited one keeps a balance
+  module _ (x y : Account) (k : ℕ) (some : 1 ≤ k) (enough : k ≤ has x) (apart : sameAccount y x ≡ false) where
+    shift-by :
+        (t : Bool) → (has x is k) ≡ t
+        → full securities items (accounts + 1 - counted (has y) + counted (has x - k) - 1) ≡ (has y is 0 && not t && 255 below (accounts + items))
+    shift-by true p =
+        let m = eqb-true (has x) k p in
+        let d : has x - k ≡ 0 = omega (arith, m) in
+        let c : counted (has x - k) ≡ 0 = ap counted d ∙ counted-none in
+        let l : accounts + 1 - counted (has y) + counted (has x - k) - 1 ≤ accounts = omega (arith, c) in
+        simp (
+          le-ltb 32 securities z.securities,
+          le-ltb 64 items z.items,
+          le-ltb 256 (accounts + 1 - counted (has y) + counted (has x - k) - 1 + items) (omega (arith, l, z.accounts)),
+          and-false,
+        )
+    shift-by false p =
+        let m = eqb-false (has x) k p in
+        let c = counted-some (has x - k) (omega (arith, m)) in
+        let l : accounts + 1 - counted (has y) + counted (has x - k) - 1 ≡ accounts + 1 - counted (has y) = omega (arith, c) in
+        rw l (simp and-true (opens-by y (has y is 0) refl))
 
-  shift-by :
-      (t : Bool) → (has from is o.quantity.0) ≡ t → o.quantity.0 ≤ has from
-      → full securities items (accounts + 1 - counted (has to) + counted (has from - o.quantity.0) - 1) ≡ (has to is 0 && not t && 255 below (accounts + items))
-  shift-by true p l =
-      let m = eqb-true (has from) o.quantity.0 p in
-      let d : has from - o.quantity.0 ≡ 0 = omega (arith, m) in
-      let c : counted (has from - o.quantity.0) ≡ 0 = ap counted d ∙ counted-none in
-      let k : accounts + 1 - counted (has to) + counted (has from - o.quantity.0) - 1 ≤ accounts = omega (arith, c) in
-      simp (
-        le-ltb 32 securities z.securities,
-        le-ltb 64 items z.items,
-        le-ltb 256
-            (accounts + 1 - counted (has to) + counted (has from - o.quantity.0) - 1 + items) (omega (arith, k, z.accounts)),
-        and-false,
-      )
-  shift-by false p l =
-      let m = eqb-false (has from) o.quantity.0 p in
-      let c = counted-some (has from - o.quantity.0) (omega (arith, m)) in
-      let k : accounts + 1 - counted (has to) + counted (has from - o.quantity.0) - 1 ≡ accounts + 1 - counted (has to) = omega (arith, c) in
-      rw k (simp and-true (opens-by (has to is 0) refl))
+    shift-space :
+        (n : ℕ) → o.form ≡ n → (after : Ledger) → rowOf n .effect b o .after ≡ after
+        → after.holdings ≡ booked (move (account x) (account y) k ∷ []) b.holdings → after.waiting ≡ b.waiting
+        → noSpace b o ≡ (has y is 0 && has x isNot k && 255 below (accounts + items))
+    shift-space n e after f same waits =
+        let ms = move (account x) (account y) k ∷ [] in
+        let h = putBalance y (has y + k) b.holdings in
+        let f₂ : h .balance x ≡ has x = put-other b.holdings y (has y + k) x apart in
+        let g : h .accounts ≡ accounts + counted (has y + k) - counted (has y) = unfold putBalance in refl in
+        let a : booked ms b.holdings .accounts ≡ h .accounts + counted (h .balance x - k) - counted (h .balance x) =
+        unfold booked credits debits credit debit putBalance in refl
+        in
+        let c = counted-some (has y + k) (omega arith) in
+        let c₂ = counted-some (has x) (omega arith) in
+        let r : booked ms b.holdings .accounts ≡ accounts + 1 - counted (has y) + counted (has x - k) - 1 =
+        omega (arith, a, g, c, c₂, ap (λ (v : ℕ). counted (v - k)) f₂, ap counted f₂)
+        in
+        space-is n b o e after f securities items _ (ap (λ (h : Holdings). length h.securities) same ∙ booked-listed ms b.holdings)
+        (ap (λ (ws : List Item). length ws) waits) (ap (λ (h : Holdings). h.accounts) same ∙ r)
+        ∙ shift-by (has x is k) refl
+
+  -- 5 to 9
 
   shift-form : (k : ℕ) → k ≤ 4 → rowOf (5 + k) .effect b o ≡ transfer b o
   unfolding forms rowOf
@@ -234,22 +250,59 @@ module _ (b : Ledger) (o : Order) (z : Sizes b) where
       → noSpace b o ≡ (has to is 0 && has from isNot o.quantity.0 && 255 below (accounts + items))
   unfolding transfer moving outcome putHoldings
   transfer-space l u q e d =
-      let ms = move (account from) (account to) o.quantity.0 ∷ [] in
-      let h = putBalance to (has to + o.quantity.0) b.holdings in
-      let f : h .balance from ≡ has from = put-other b.holdings to (has to + o.quantity.0) from d in
-      let g : h .accounts ≡ accounts + counted (has to + o.quantity.0) - counted (has to) = unfold putBalance in refl in
-      let a : booked ms b.holdings .accounts ≡ h .accounts + counted (h .balance from - o.quantity.0) - counted (h .balance from) =
-      unfold booked credits debits credit debit putBalance in refl
-      in
-      let c = counted-some (has to + o.quantity.0) (omega arith) in
-      let c₂ = counted-some (has from) (omega arith) in
-      let r : booked ms b.holdings .accounts ≡ accounts + 1 - counted (has to) + counted (has from - o.quantity.0) - 1 =
-      omega (arith, a, g, c, c₂, ap (λ (x : ℕ). counted (x - o.quantity.0)) f, ap counted f)
-      in
       let n : 5 + (o.form - 5) ≡ o.form = omega arith in
-      space-is (5 + (o.form - 5)) b o (sym n) (putHoldings (booked ms b.holdings) b)
-      (ap (λ (x : Outcome). x .after) (shift-form (o.form - 5) (omega arith))) securities items _ (booked-listed ms b.holdings) refl r
-      ∙ shift-by (has from is o.quantity.0) refl e
+      shift-space from to o.quantity.0 q e d (5 + (o.form - 5)) (sym n) (transfer b o .after)
+      (ap (λ (x : Outcome). x .after) (shift-form (o.form - 5) (omega arith))) refl refl
+
+  -- 19
+
+  abbrev requesting : Account
+  requesting = requestAccount requested o.debited.member (newRequest b.day.number o)
+
+  pub request-space :
+      o.form ≡ 19 → 1 ≤ o.quantity.0 → o.quantity.0 ≤ has from → sameAccount requesting from ≡ false
+      → noSpace b o ≡ (has requesting is 0 && has from isNot o.quantity.0 && 255 below (accounts + items))
+  unfolding forms rowOf requestPaper moving outcome putHoldings putRequests
+  request-space n q e d = shift-space from requesting o.quantity.0 q e d 19 n (requestPaper b o .after) refl refl refl
+
+  -- 20, to a type of paper or outside
+
+  abbrev ended : Request
+  ended = endedRequest b o
+
+  abbrev awaiting : Account
+  awaiting = requestAccount requested o.debited.member ended
+
+  abbrev paper : Account
+  paper = requestAccount o.credited.typ o.debited.member ended
+
+  pub ending-space :
+      o.form ≡ 20 → (o.credited.typ is 91) ≡ false → 1 ≤ ended.quantity.0 → ended.quantity.0 ≤ has awaiting → sameAccount paper awaiting ≡ false
+      → noSpace b o ≡ (has paper is 0 && has awaiting isNot ended.quantity.0 && 255 below (accounts + items))
+  unfolding forms rowOf endRequest moving outcome putHoldings putRequests
+  ending-space n t q e d =
+      shift-space awaiting paper ended.quantity.0 q e d 20 n (endRequest b o .after) refl
+      (ap (λ (p : Place). booked (move (account awaiting) p ended.quantity.0 ∷ []) b.holdings) to-paper) refl
+    where
+      to-paper : (if o.credited.typ is 91 then type91 ended.security else account paper) ≡ account paper
+      to-paper = rw t
+
+  pub leaving-space : o.form ≡ 20 → (o.credited.typ is 91) ≡ true → noSpace b o ≡ false
+  unfolding forms rowOf endRequest moving outcome putHoldings putRequests
+  leaving-space n t =
+      space-is 20 b o n (endRequest b o .after) refl securities items (booked ms b.holdings .accounts)
+      (booked-listed ms b.holdings) refl refl
+      ∙ simp (
+        le-ltb 32 securities z.securities,
+        le-ltb 64 items z.items,
+        le-ltb 256 (booked ms b.holdings .accounts + items) (omega (arith, booked-accounts ms b.holdings, none, z.accounts)),
+      )
+    where
+      ms : List Movement
+      ms = move (account awaiting) (if o.credited.typ is 91 then type91 ended.security else account paper) ended.quantity.0 ∷ []
+
+      none : opened ms ≡ 0
+      none = rw t
 
 -- ---- the two accounts of an accepted form 5 to 9 differ
 
@@ -289,3 +342,23 @@ module _ (b : Ledger) (o : Order) where
 
   pub sides-apart : 5 ≤ o.form → o.form ≤ 9 → wrongPair o ≡ false → wrongParties o ≡ false → sameAccount credited debited ≡ false
   sides-apart l u = shift-apart (o.form - 5) (omega arith) (omega arith)
+
+-- ---- so do those of forms 19 and 20
+
+module _ (b : Ledger) (o : Order) where
+  pub request-apart :
+      o.form ≡ 19 → wrongPair o ≡ false
+      → sameAccount (requestAccount requested o.debited.member (newRequest b.day.number o)) (accountOf o.security o.debited) ≡ false
+  unfolding requestAccount accountOf
+  request-apart e w =
+      let entry = request-entry o.debited.typ o.credited.typ (right-types 19 b o e w) in
+      types-apart (requestAccount requested o.debited.member (newRequest b.day.number o)) (accountOf o.security o.debited)
+      (is-sym requested o.debited.typ ∙ free-quiet o.debited.typ (entry-free o.debited.typ entry) .2)
+
+  pub ending-apart :
+      (o.credited.typ is 91) ≡ false → ends (endedRequest b o .typ) o.credited.typ ≡ true
+      → sameAccount (requestAccount o.credited.typ o.debited.member (endedRequest b o)) (requestAccount requested o.debited.member (endedRequest b o)) ≡ false
+  unfolding requestAccount
+  ending-apart n w =
+      types-apart (requestAccount o.credited.typ o.debited.member (endedRequest b o)) (requestAccount requested o.debited.member (endedRequest b o))
+      (free-quiet o.credited.typ (ends-free (endedRequest b o .typ) o.credited.typ n w) .2)

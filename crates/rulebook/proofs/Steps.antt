@@ -1,8 +1,9 @@
 -- Every form makes a step: movements that its order says, that its rows show, and that nothing cuts off. Assumes nothing.
--- what a step is; the forms that make one movement; the cycle
+-- what a step is; the forms that make one movement; the cycle; requests
 pub mod OneCall
 pub mod Moving
 pub mod Settling
+pub mod Requesting
 use mathlib.Core.Path.{_≡_, refl, ap, sym}
 use mathlib.Core.Bool.{Bool, true, false, false≢true}
 use mathlib.Core.List.{List, [], _∷_}
@@ -25,6 +26,7 @@ use Rattle.rulebook.proofs.Orders.{accepted}
 use Rattle.rulebook.proofs.Steps.OneCall.{writesAt, Figures, admits-none, Step, Steps}
 use Rattle.rulebook.proofs.Steps.Moving.{admit-steps, deposit-steps, withdraw-steps, transfer-steps, pledge-steps, release-steps, block-steps, unblock-steps, payIn-steps, payOut-steps}
 use Rattle.rulebook.proofs.Steps.Settling.{cycle-steps}
+use Rattle.rulebook.proofs.Steps.Requesting.{request-steps, end-steps}
 
 -- ---- a form that moves nothing: 1, 12 to 15, 17 and 18
 
@@ -38,16 +40,19 @@ each-off n (k ∷ rest) e = go (n is k) refl (each-off n rest)
 
 -- the forms that move shares or cash of their own
 abbrev movers : List ℕ
-movers = 2 ∷ 3 ∷ 4 ∷ 6 ∷ 7 ∷ 8 ∷ 9 ∷ 10 ∷ 11 ∷ []
+movers = 2 ∷ 3 ∷ 4 ∷ 6 ∷ 7 ∷ 8 ∷ 9 ∷ 10 ∷ 11 ∷ 19 ∷ 20 ∷ []
 
-no-figures : (n : ℕ) (o : Order) → (n oneOf movers) ≡ false → Figures n o []
-no-figures n o e =
+no-figures : (n : ℕ) (b : Ledger) (o : Order) → (n oneOf movers) ≡ false → Figures n b o []
+no-figures n b o e =
     let t = each-off n movers e in
+    let asks = t .1 .1 .1 .1 .1 .1 .1 .1 .1 .0 in
+    let ends = t .1 .1 .1 .1 .1 .1 .1 .1 .1 .1 .0 in
     record {
-      held = λ s. simp (t .1 .0, t .1 .1 .0);
-      outside = λ s. simp (t .0, t .1 .0, t .1 .1 .0);
+      held = λ s. simp (t .1 .0, t .1 .1 .0, ends);
+      outside = λ s. simp (t .0, t .1 .0, t .1 .1 .0, ends);
       cash = λ c. simp (t .1 .1 .1 .1 .1 .1 .1 .0, t .1 .1 .1 .1 .1 .1 .1 .1 .0);
       pledged = λ a q. (simp (t .1 .1 .1 .1 .0, t .1 .1 .1 .1 .1 .1 .0), simp (t .1 .1 .1 .0, t .1 .1 .1 .1 .1 .0));
+      awaited = λ a q. (simp ends, simp asks);
     }
 
 still :
@@ -64,7 +69,7 @@ still n b o x p t e r l = record {
   rows = r;
   notices = λ _. refl;
   counted = l;
-  figures = no-figures n o t;
+  figures = no-figures n b o t;
 }
 
 -- ---- all forms
@@ -83,7 +88,7 @@ all-steps =
     and cycle-steps
     and (λ b o e p a. still 17 b o (close b o) p refl refl (λ z. absurd (omega (arith, z))) refl)
     and (λ b o e p a. still 18 b o (setRate b o) p refl refl (λ _. refl) refl)
-    and tt
+    and request-steps and end-steps and tt
 
 -- an order that was read and that no test refuses makes a step; no order that was read has another form
 pub order-step : (b : Ledger) (o : Order) (bytes : List ℕ) → Premise b → readOf bytes ≡ Read.Order o → first (refusals b o) ≡ 0 → Step o.form b o (effect b o)

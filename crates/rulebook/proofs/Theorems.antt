@@ -26,6 +26,7 @@ use Rattle.rulebook.proofs.Sizes.{cycle-space}
 use Rattle.rulebook.proofs.EveryCall.{fresh-premise, call-premise}
 use Rattle.rulebook.proofs.Demand3.{demand3}
 use Rattle.rulebook.proofs.Rates.{rate-of-calls, tolerances, rate-alone, rate-refusals}
+use Rattle.rulebook.proofs.Rematerialization.{awaited-of-calls, ending-covered, request-stays, request-ends, request-refusals, ending-refusals}
 use Rattle.rulebook.proofs.Desk.{desk}
 
 -- the writer writes where nothing refuses
@@ -92,5 +93,11 @@ theorems = record {
   tolerances = tolerances;
   rateAlone = rate-alone;
   rateRefusals = rate-refusals;
+  awaitedOfCalls = awaited-of-calls;
+  endingCovered = ending-covered;
+  requestStays = request-stays;
+  requestEnds = request-ends;
+  requestRefusals = request-refusals;
+  endingRefusals = ending-refusals;
   desk = desk;
 }

@@ -1,6 +1,6 @@
 -- What the tables of account types say: of free types, of pledged or blocked ones, and of the pairs that test 11 lets through. Assumes nothing.
 use mathlib.Core.Path.{_≡_, refl, sym, ap, subst, _∙_}
-use mathlib.Core.Bool.{Bool, true, false, _&&_, false≢true, true≢false}
+use mathlib.Core.Bool.{Bool, true, false, _&&_, _||_, false≢true, true≢false}
 use mathlib.Core.List.{List, [], _∷_}
 use Prim.Native.Nat.{ℕ, _<_, _^_}
 use native.Mathlib.Omega.{arith}
@@ -8,16 +8,16 @@ use borrow.Author.Tests.{eqb-true}
 use Rattle.plain.specs.Lists.{_is_, _oneOf_, Each}
 use Rattle.plain.proofs.Tests.{both, or-cases}
 use Rattle.plain.proofs.Lists.{_and_}
-use Rattle.rulebook.specs.AccountTypes.{bookEntry, physical, free, alike, pledgePairs, blockPairs, listed, pledgedOrBlocked, wrongTypes}
+use Rattle.rulebook.specs.AccountTypes.{bookEntry, physical, free, alike, pledgePairs, blockPairs, listed, pledgedOrBlocked, requested, paperPairs, ends, wrongTypes}
 use Rattle.rulebook.specs.Premise.{accountType}
 
 -- no type of 90 or 91, which rows use for counts
 abbrev pub Account·type : ℕ → Type 0
 Account·type t = (t oneOf (90 ∷ 91 ∷ [])) ≡ false
 
--- neither pledged nor blocked, and an account's
+-- an account's, and neither pledged nor blocked nor that of requests
 abbrev pub Quiet : ℕ → Type 0
-Quiet t = (pledgedOrBlocked t ≡ false) × Account·type t
+Quiet t = (pledgedOrBlocked t ≡ false) × Account·type t × ((t is requested) ≡ false)
 
 -- ---- what holds of each of a table's lines holds of one of them
 
@@ -29,7 +29,7 @@ one-of P (x ∷ rest) t a e = go (t is x) refl (one-of P rest t (a .1))
     go true p later = subst P (sym (eqb-true t x p)) (a .0)
     go false p later = later (simp p at e)
 
-listed-of : (P : ℕ → ℕ → Type 0) (xs : List (ℕ × ℕ)) (s t : ℕ) → Each (λ x. P (x .0) (x .1)) xs → listed xs s t ≡ true → P s t
+pub listed-of : (P : ℕ → ℕ → Type 0) (xs : List (ℕ × ℕ)) (s t : ℕ) → Each (λ x. P (x .0) (x .1)) xs → listed xs s t ≡ true → P s t
 unfolding listed
 listed-of P [] s t a e = absurd (false≢true e)
 listed-of P (x ∷ rest) s t a e = go (s is x .0 && t is x .1) refl (listed-of P rest s t (a .1))
@@ -49,7 +49,7 @@ free-all P a b c d t e =
 
 pub free-quiet : (t : ℕ) → free t ≡ true → Quiet t
 unfolding pledgedOrBlocked
-free-quiet = free-all Quiet (refl, refl) (refl, refl) (refl, refl) (refl, refl)
+free-quiet = free-all Quiet (refl, refl, refl) (refl, refl, refl) (refl, refl, refl) (refl, refl, refl)
 
 pub free-fits : (t : ℕ) → free t ≡ true → t < 2 ^ 8
 free-fits = free-all (λ t. t < 2 ^ 8) (omega arith) (omega arith) (omega arith) (omega arith)
@@ -61,7 +61,7 @@ free-type = free-all (λ t. accountType t ≡ true) refl refl refl refl
 -- a type that is not used is 0
 pub zero-quiet : Quiet 0
 unfolding pledgedOrBlocked
-zero-quiet = (refl, refl)
+zero-quiet = (refl, refl, refl)
 
 -- both of two types that are alike are free
 pub alike-free : (s t : ℕ) → alike s t ≡ true → (free s ≡ true) × (free t ≡ true)
@@ -77,6 +77,11 @@ alike-free s t e =
     on-paper : (k : ℕ) → (k oneOf physical) ≡ true → free k ≡ true
     on-paper k = one-of (λ k. free k ≡ true) physical k (refl and refl and tt)
 
+-- a book-entry type is free
+pub entry-free : (t : ℕ) → (t oneOf bookEntry) ≡ true → free t ≡ true
+unfolding free bookEntry physical
+entry-free t = one-of (λ t. free t ≡ true) bookEntry t (refl and refl and tt)
+
 -- ---- pledged or blocked types
 
 pledged-all : (P : ℕ → Type 0) → Each P (11 ∷ 21 ∷ 121 ∷ 12 ∷ 22 ∷ 112 ∷ 122 ∷ []) → (t : ℕ) → pledgedOrBlocked t ≡ true → P t
@@ -90,10 +95,27 @@ pub pledged-type : (t : ℕ) → pledgedOrBlocked t ≡ true → accountType t �
 unfolding accountType free pledgedOrBlocked bookEntry physical
 pledged-type = pledged-all (λ t. accountType t ≡ true) (refl and refl and refl and refl and refl and refl and refl and tt)
 
+-- ---- the type of requests
+
+pub requested-free : pledgedOrBlocked requested ≡ false
+unfolding pledgedOrBlocked
+requested-free = refl
+
+pub requested-type : accountType requested ≡ true
+unfolding accountType free pledgedOrBlocked bookEntry physical
+requested-type = refl
+
+-- no pledged or blocked type is that of requests
+pub pledged-not-requested : (t : ℕ) → pledgedOrBlocked t ≡ true → (t is requested) ≡ false
+pledged-not-requested = pledged-all (λ t. (t is requested) ≡ false) (refl and refl and refl and refl and refl and refl and refl and tt)
+
 -- an account's type fits a record
 pub type-fits : (t : ℕ) → accountType t ≡ true → t < 2 ^ 8
 unfolding accountType
-type-fits t e = or-cases (t < 2 ^ 8) (free t) (pledgedOrBlocked t) e (free-fits t) (pledged-all (λ k. k < 2 ^ 8) (omega arith) t)
+type-fits t e =
+    or-cases (t < 2 ^ 8) (free t || pledgedOrBlocked t) (t is requested) e
+    (λ p. or-cases (t < 2 ^ 8) (free t) (pledgedOrBlocked t) p (free-fits t) (pledged-all (λ k. k < 2 ^ 8) (omega arith) t))
+    (λ p. omega (arith, eqb-true t requested p))
 
 -- ---- pairs: a pledge or a block goes from a free account to a pledged or blocked one
 
@@ -115,6 +137,17 @@ put-in-apart s t p = go (s is t) refl
     go : (x : Bool) → (s is t) ≡ x → (s is t) ≡ false
     go true e = absurd (false≢true (sym (free-quiet s (p .0) .0) ∙ ap pledgedOrBlocked (eqb-true s t e) ∙ p .1))
     go false e = e
+
+-- ---- what ends a request: 91, or a type of paper
+
+-- the type of paper is free
+paper-pair : (s t : ℕ) → listed paperPairs s t ≡ true → free t ≡ true
+unfolding free bookEntry physical paperPairs
+paper-pair s t e = listed-of (λ s t. free t ≡ true) paperPairs s t (refl and refl and tt) e
+
+pub ends-free : (s t : ℕ) → (t is 91) ≡ false → ends s t ≡ true → free t ≡ true
+unfolding ends
+ends-free s t n e = paper-pair s t (simp n at e)
 
 -- ---- what passes test 11: at each form one table is asked
 
@@ -150,6 +183,10 @@ module _ (d c : ℕ) where
   pub unblock-types : wrongTypes 9 d c ≡ false → PutIn c d
   unfolding wrongTypes
   unblock-types w = asked (listed blockPairs c d) (PutIn c d) (block-pair c d) (λ p. simp p at w)
+
+  pub request-entry : wrongTypes 19 d c ≡ false → (d oneOf bookEntry) ≡ true
+  unfolding wrongTypes
+  request-entry w = asked (d oneOf bookEntry) ((d oneOf bookEntry) ≡ true) (λ e. e) (λ p. simp p at w)
 
   pub deliver-free : wrongTypes 12 d c ≡ false → free d ≡ true
   unfolding wrongTypes

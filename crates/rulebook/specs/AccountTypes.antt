@@ -33,6 +33,18 @@ listed pairs a b = some (λ pair. a is pair .0 && b is pair .1) pairs
 unfoldable pub pledgedOrBlocked : ℕ → Bool
 pledgedOrBlocked typ = typ oneOf (11 ∷ 21 ∷ 121 ∷ 12 ∷ 22 ∷ 112 ∷ 122 ∷ [])
 
+-- RULES 5.9: shares for which paper is requested, until the request ends
+abbrev pub requested : ℕ
+requested = 50
+
+-- RULES 5.5: from the type that the shares came from to the one that they go to as paper
+unfoldable pub paperPairs : List (ℕ × ℕ)
+paperPairs = (10, 110) ∷ (20, 120) ∷ []
+
+-- RULES 5.10: a credited type ends a request for shares of a type: its paper's, or 91 for shares that leave
+unfoldable pub ends : (came credited : ℕ) → Bool
+ends came credited = credited is 91 || listed paperPairs came credited
+
 -- RULES 5.5, 5.6: the types that an order names are not those of its form. A release and an unblock go the other way
 unfoldable pub wrongTypes : ℕ → ℕ → ℕ → Bool
 wrongTypes form debited credited =
@@ -43,3 +55,5 @@ wrongTypes form debited credited =
     || (form is 7 && not (listed pledgePairs credited debited))
     || (form is 8 && not (listed blockPairs debited credited))
     || (form is 9 && not (listed blockPairs credited debited))
+    || (form is 19 && not (debited oneOf bookEntry))
+    || (form is 20 && not (credited is 91 || credited oneOf physical))

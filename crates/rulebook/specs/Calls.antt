@@ -82,8 +82,25 @@ issues security = sum (sharesOf 2 security)
 unfoldable pub deposits : (security : ℕ) → List Made → ℕ
 deposits security = sum (sharesOf 3 security)
 
+-- RULES 12.19: for how many shares of a security a member asked last under a reference, among earlier calls that stand with the last of them first
+unfoldable pub lastAsked : (security member reference : ℕ) → (earlier : List Accepted) → ℕ
+lastAsked security member reference [] = 0
+lastAsked security member reference (c ∷ earlier) =
+    let before = lastAsked security member reference earlier in
+    if c.order.form is 19 && c.order.debited.member is member && c.order.reference is reference then sharesOf 19 security c else before
+
+-- what left on paper with a call: for a form 20 that credits 91, what its form 19 asked for
+unfoldable pub leftWith : (security : ℕ) → (earlier : List Accepted) → Accepted → ℕ
+leftWith security earlier c =
+    if c.order.form is 20 && c.order.credited.typ is 91 then lastAsked security c.order.debited.member c.order.reference earlier else 0
+
+unfoldable pub leftOnPaper : (security : ℕ) → (earlier calls : List Accepted) → ℕ
+leftOnPaper security earlier [] = 0
+leftOnPaper security earlier (c ∷ rest) = leftWith security earlier c + leftOnPaper security (c ∷ earlier) rest
+
+-- by form 4, and on paper
 unfoldable pub withdrawals : (security : ℕ) → List Made → ℕ
-withdrawals security = sum (sharesOf 4 security)
+withdrawals security history = sum (sharesOf 4 security) history + leftOnPaper security [] (acceptedCalls history)
 
 unfoldable pub payIns : (currency : ℕ) → List Made → ℕ
 payIns currency = sum (cashOfForm 10 currency)

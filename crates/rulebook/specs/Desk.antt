@@ -9,7 +9,7 @@ use Rattle.rulebook.specs.Ledger.{Ledger, fresh}
 use Rattle.rulebook.specs.Record.{recordOf}
 use Rattle.rulebook.specs.Forms.{counts}
 use Rattle.rulebook.specs.Call.{Result}
-use Rattle.rulebook.specs.Calls.{resultOf, bookAfter, Call, call}
+use Rattle.rulebook.specs.Calls.{resultOf, callsOn, bookAfter, Call, call, withdrawals}
 use Rattle.rulebook.specs.declared.Order.{Order}
 use Rattle.rulebook.specs.declared.Answer.{Answer}
 use Rattle.rulebook.specs.declared.Party.{Party}
@@ -76,6 +76,16 @@ setsRate minute rate = order 18 minute 0 0 nobody nobody rate 0 0 0 0
 unfoldable pub runs : ℕ → Order
 runs minute = order 16 minute 0 0 nobody nobody 0 0 0 0 0
 
+unfoldable pub closes : ℕ → Order
+closes minute = order 17 minute 0 0 nobody nobody 0 0 0 0 0
+
+-- 7 asks for paper, and ends the request into a type
+unfoldable pub asksPaper : (minute quantity reference : ℕ) → Order
+asksPaper minute quantity reference = order 19 minute 101 0 (party 7 20 5) nobody quantity 0 0 0 reference
+
+unfoldable pub endsPaper : (minute credited reference : ℕ) → Order
+endsPaper minute credited reference = order 20 minute 0 0 (party 7 0 0) (party 0 credited 0) 0 0 0 0 reference
+
 -- a deliver and a receive that pair
 unfoldable pub sells : (seller buyer quantity amount reference : ℕ) → List Order
 sells seller buyer quantity amount reference =
@@ -103,6 +113,13 @@ started = calls fresh (opens 470 1 ∷ admits 500 1_000 ∷ [])
 -- the same with 64 items waiting
 unfoldable pub full : Ledger
 full = calls started (manyDelivers 64)
+
+-- 7 has 300 shares and has asked for paper of 100 more; the same on the next day
+unfoldable pub asked : Ledger
+asked = calls started (deposits 510 7 400 ∷ asksPaper 520 100 9 ∷ [])
+
+unfoldable pub nextDay : Ledger
+nextDay = calls asked (runs 960 ∷ runs 960 ∷ runs 960 ∷ closes 960 ∷ opens 470 1 ∷ [])
 
 -- the states and the amounts of what waits
 unfoldable pub waits : Ledger → List (State × ℕ)
@@ -155,3 +172,21 @@ pub record Desk : Type 0 where
   pub p15 :
       waits (calls started (deliversPounds 500 100_000 1 ∷ setsRate 501 150_749 ∷ receivesPounds 502 3_115_000 2 ∷ setsRate 503 150_750 ∷ []))
       ≡ (Single true 1, 100_000) ∷ (Single false 2, 3_115_000) ∷ []
+  -- A.16: the rows of a request, from type 20 to type 50
+  pub p16 :
+      take 32 (result (calls started (deposits 510 7 400 ∷ [])) (asksPaper 520 100 9) .area)
+      ≡ 0x00 ∷ 0x65 ∷ 0x01 ∷ 0xC5 ∷ 0x00 ∷ 0x00 ∷ 0x00 ∷ 0x05 ∷ 0x00 ∷ 0x00 ∷ 0x00 ∷ 0x00 ∷ 0x00 ∷ 0x00 ∷ 0x00 ∷ 0x64
+      ∷ 0x80 ∷ 0x65 ∷ 0x01 ∷ 0xCC ∷ 0x80 ∷ 0x00 ∷ 0x00 ∷ 0x05 ∷ 0x00 ∷ 0x00 ∷ 0x00 ∷ 0x00 ∷ 0x00 ∷ 0x00 ∷ 0x00 ∷ 0x64 ∷ []
+  -- A.17: it does not end on its own day, nor in the paper of another type
+  pub p17 :
+      (result asked (endsPaper 521 120 9) .answer ≡ Answer.Refused 20) × (result nextDay (endsPaper 510 110 9) .answer ≡ Answer.Refused 19)
+  -- A.18: on the next day it does, and to 91 the credit row has neither member nor shareholder
+  pub p18 :
+      take 32 (result nextDay (endsPaper 510 91 9) .area)
+      ≡ 0x00 ∷ 0x65 ∷ 0x01 ∷ 0xCC ∷ 0x80 ∷ 0x00 ∷ 0x00 ∷ 0x05 ∷ 0x00 ∷ 0x00 ∷ 0x00 ∷ 0x00 ∷ 0x00 ∷ 0x00 ∷ 0x00 ∷ 0x64
+      ∷ 0x80 ∷ 0x65 ∷ 0x00 ∷ 0x16 ∷ 0xC0 ∷ 0x00 ∷ 0x00 ∷ 0x00 ∷ 0x00 ∷ 0x00 ∷ 0x00 ∷ 0x00 ∷ 0x00 ∷ 0x00 ∷ 0x00 ∷ 0x64 ∷ []
+  -- A.19: then 300 are held, 100 withdrawn on paper
+  pub p19 :
+      withdrawals 101 (callsOn fresh (map send (opens 470 1 ∷ admits 500 1_000 ∷ deposits 510 7 400 ∷ asksPaper 520 100 9
+      ∷ runs 960 ∷ runs 960 ∷ runs 960 ∷ closes 960 ∷ opens 470 1 ∷ endsPaper 510 91 9 ∷ [])))
+      ≡ 100

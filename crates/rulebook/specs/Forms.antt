@@ -6,10 +6,11 @@ use mathlib.Core.List.{List, [], _∷_, _++_, map}
 use lib.ListN.{length, getD}
 use Rattle.plain.specs.Lists.{if_then_else_, _is_, keep, some}
 use Rattle.rulebook.specs.Field.{Rule, from1, from1To, always, ruleIn, D, C, all, allBut, security, currency, debited-member, debited-type, credited-member, credited-type, quantity, amount, settlement-day, reference}
-use Rattle.rulebook.specs.Ledger.{Ledger, accountOf, putDay, putHoldings, putWaiting, putRate, putSecurities, oneMoreCycle, opening, closing, newSecurity}
+use Rattle.rulebook.specs.AccountTypes.{requested}
+use Rattle.rulebook.specs.Ledger.{Ledger, Requests, noRequest, accountOf, requestAccount, putDay, putHoldings, putWaiting, putRate, putRequests, putRequest, putSecurities, oneMoreCycle, opening, closing, newSecurity}
 use Rattle.rulebook.specs.declared.Day.{Day}
 use Rattle.rulebook.specs.Windows.{Window, openingHours, counterHours, officeHours, paymentHours, cycleHours, closingHours}
-use Rattle.rulebook.specs.Movements.{account, type90, type91, cashOf, member0, Movement, move, booked}
+use Rattle.rulebook.specs.Movements.{Place, account, type90, type91, cashOf, member0, Movement, move, booked}
 use Rattle.rulebook.specs.Rows.{Row, notice, noticeOf, postingRows}
 use Rattle.rulebook.specs.Waiting.{itemOf, singleOf, sides, senderOf, marking, cancelled, staying, unmarked}
 use Rattle.rulebook.specs.Matching.{tolerance, arrive}
@@ -18,6 +19,7 @@ use Rattle.rulebook.specs.Close.{deletedAtClose, suspendedAtClose, leave
 use Rattle.rulebook.specs.declared.Order.{Order}
 use Rattle.rulebook.specs.declared.Item.{Item}
 use Rattle.rulebook.specs.declared.Counts.{Counts}
+use Rattle.rulebook.specs.declared.Request.{Request}
 use Rattle.rulebook.specs.declared.State.the-variants.{Trade}
 
 pub record Outcome : Type 0 where
@@ -125,6 +127,46 @@ close book order =
 unfoldable pub setRate : Ledger → Order → Outcome
 setRate book order = silent (putRate order.quantity.0 book)
 
+-- the request that an order makes today
+abbrev pub newRequest : (today : ℕ) → Order → Request
+newRequest today order =
+    record { security = order.security; typ = order.debited.typ; shareholder = order.debited.shareholder; quantity = order.quantity; day = today }
+
+-- RULES 6.19: from the debited account to type 50 of the same member and shareholder; the request is open under the member's reference
+unfoldable pub requestPaper : Ledger → Order → Outcome
+requestPaper book order =
+    moving (move (account (accountOf order.security order.debited)) (account (requestAccount requested member request)) order.quantity.0 ∷ [])
+    (putRequests (putRequest member order.reference request book.requests) book)
+  where
+    member : ℕ
+    member = order.debited.member
+
+    request : Request
+    request = newRequest book.day.number order
+
+-- the request that an order's member has under its reference, and so the one that it ends: of quantity 0 where none is open
+abbrev pub requestOf : Requests → Order → Request
+requestOf requests order = requests.asked order.debited.member order.reference
+
+abbrev pub endedRequest : Ledger → Order → Request
+endedRequest book order = requestOf book.requests order
+
+-- where the shares of an ended request go: to the credited type, or outside
+abbrev pub paperPlace : (credited member : ℕ) → Request → Place
+paperPlace credited member request = if credited is 91 then type91 request.security else account (requestAccount credited member request)
+
+-- RULES 6.20: the request's whole quantity from type 50 to the credited type of the same member and shareholder, or to 91; it is open no more
+unfoldable pub endRequest : Ledger → Order → Outcome
+endRequest book order =
+    moving (move (account (requestAccount requested member request)) (paperPlace order.credited.typ member request) request.quantity.0 ∷ [])
+    (putRequests (putRequest member order.reference noRequest book.requests) book)
+  where
+    member : ℕ
+    member = order.debited.member
+
+    request : Request
+    request = endedRequest book order
+
 -- Everything that the rules say of a form (RULES 2.2, 4.7, 6).
 pub record Form : Type 0 where
   pub name : String
@@ -190,6 +232,10 @@ forms =
     ∷ row "close" [] closingHours close notices 0
     -- 18, RULES 6.18; the quantity is the rate
     ∷ row "set rate" (needs (quantity ∷ [])) officeHours setRate postings 0
+    -- 19, RULES 6.19
+    ∷ row "request paper" (needs (security ∷ D ++ (quantity ∷ reference ∷ []))) counterHours requestPaper postings 0
+    -- 20, RULES 6.20; the debited member is the one that made the request
+    ∷ row "end request" (needs (debited-member ∷ credited-type ∷ reference ∷ [])) counterHours endRequest postings 0
     ∷ []
 
 -- what stands for a number that no form has

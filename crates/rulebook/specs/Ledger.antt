@@ -9,6 +9,7 @@ use Rattle.rulebook.specs.declared.Day.{Day}
 use Rattle.rulebook.specs.declared.Security.{Security}
 use Rattle.rulebook.specs.declared.Shares.{Shares}
 use Rattle.rulebook.specs.declared.Item.{Item}
+use Rattle.rulebook.specs.declared.Request.{Request}
 
 pub record Holdings : Type 0 where
   -- in the order in which they were admitted
@@ -20,6 +21,12 @@ pub record Holdings : Type 0 where
   -- in hundredths; 0 where a member has none
   pub cash : (member currency : ℕ) → ℕ
 
+pub record Requests : Type 0 where
+  -- RULES 3.15, 3.16: by member and reference, a map, so that their order is free; of quantity 0 where none is open
+  pub asked : (member reference : ℕ) → Request
+  -- how many are open
+  pub number : ℕ
+
 pub record Ledger : Type 0 where
   pub day : Day
   pub holdings : Holdings
@@ -27,10 +34,15 @@ pub record Ledger : Type 0 where
   pub waiting : List Item
   -- RULES 3.14: hundredths of LBP for one USD
   pub rate : ℕ
+  pub requests : Requests
 
 -- RULES 3.14: the rate as long as none was set
 abbrev pub firstRate : ℕ
 firstRate = 150_750
+
+-- what stands where no request is open
+abbrev pub noRequest : Request
+noRequest = record { security = 0; typ = 0; shareholder = 0; quantity = record { 0 = 0 }; day = 0 }
 
 -- RULES 3.2
 unfoldable pub fresh : Ledger
@@ -39,20 +51,24 @@ fresh = record {
   holdings = record { securities = []; balance = λ account. 0; accounts = 0; cash = λ member currency. 0 };
   waiting = [];
   rate = firstRate;
+  requests = record { asked = λ member reference. noRequest; number = 0 };
 }
 
 -- the book with one part replaced
 unfoldable pub putDay : Day → Ledger → Ledger
-putDay day book = record { day = day; holdings = book.holdings; waiting = book.waiting; rate = book.rate }
+putDay day book = record { day = day; holdings = book.holdings; waiting = book.waiting; rate = book.rate; requests = book.requests }
 
 unfoldable pub putHoldings : Holdings → Ledger → Ledger
-putHoldings holdings book = record { day = book.day; holdings = holdings; waiting = book.waiting; rate = book.rate }
+putHoldings holdings book = record { day = book.day; holdings = holdings; waiting = book.waiting; rate = book.rate; requests = book.requests }
 
 unfoldable pub putWaiting : List Item → Ledger → Ledger
-putWaiting waiting book = record { day = book.day; holdings = book.holdings; waiting = waiting; rate = book.rate }
+putWaiting waiting book = record { day = book.day; holdings = book.holdings; waiting = waiting; rate = book.rate; requests = book.requests }
 
 unfoldable pub putRate : (rate : ℕ) → Ledger → Ledger
-putRate rate book = record { day = book.day; holdings = book.holdings; waiting = book.waiting; rate = rate }
+putRate rate book = record { day = book.day; holdings = book.holdings; waiting = book.waiting; rate = rate; requests = book.requests }
+
+unfoldable pub putRequests : Requests → Ledger → Ledger
+putRequests requests book = record { day = book.day; holdings = book.holdings; waiting = book.waiting; rate = book.rate; requests = requests }
 
 -- RULES 4.1 to 4.6, 4.14: the day with another last minute, with one more cycle run, when it opens as a day of a kind, and when it closes
 abbrev pub withMinute : ℕ → Day → Day
@@ -71,10 +87,19 @@ closing day = record { opened = false; number = day.number; kind = day.kind; cyc
 unfoldable pub accountOf : ℕ → Party → Account
 accountOf security party = record { security = security; member = party.member; typ = party.typ; shareholder = party.shareholder }
 
+-- a member's account of the shares of a request, in a type
+unfoldable pub requestAccount : (typ member : ℕ) → Request → Account
+requestAccount typ member request = record { security = request.security; member = member; typ = typ; shareholder = request.shareholder }
+
+-- the shares of a request that lie in an account of its member
+abbrev pub askedUnder : Account → Request → ℕ
+askedUnder account request =
+    if request.security is account.security && request.shareholder is account.shareholder then request.quantity.0 else 0
+
 unfoldable pub sameAccount : Account → Account → Bool
 sameAccount a b = a.security is b.security && a.member is b.member && a.typ is b.typ && a.shareholder is b.shareholder
 
--- 1 where there is an account, which has a non-zero balance
+-- 1 where there is an account, which has a non-zero balance, or a request, which has a non-zero quantity
 unfoldable pub counted : ℕ → ℕ
 counted balance = if balance is 0 then 0 else 1
 
@@ -85,6 +110,13 @@ putBalance account balance h = record {
   balance = λ other. if sameAccount account other then balance else h.balance other;
   accounts = h.accounts + counted balance - counted (h.balance account);
   cash = h.cash;
+}
+
+-- the one definition that changes a request; it keeps their number. A request of quantity 0 is none
+unfoldable pub putRequest : (member reference : ℕ) → Request → Requests → Requests
+putRequest member reference request r = record {
+  asked = λ m n. if member is m && reference is n then request else r.asked m n;
+  number = r.number + counted request.quantity.0 - counted (r.asked member reference .quantity .0);
 }
 
 unfoldable pub putCash : (member currency amount : ℕ) → Holdings → Holdings
@@ -117,6 +149,10 @@ issuedOf security h = total (λ s. if s.code is security then s.issued.0 else 0)
 
 unfoldable pub outsideOf : ℕ → Holdings → ℕ
 outsideOf security h = total (λ s. if s.code is security then s.outside.0 else 0) h.securities
+
+-- RULES 3.17: for how many shares of an account paper is requested, over the references that a record can name
+unfoldable pub askedOf : Account → Requests → ℕ
+askedOf account r = sumBelow (2 ^ 32) λ reference. askedUnder account (r.asked account.member reference)
 
 -- over all members
 unfoldable pub cashTotal : ℕ → Holdings → ℕ

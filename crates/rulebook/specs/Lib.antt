@@ -18,5 +18,6 @@ pub mod Calls
 pub mod Ranges
 pub mod Premise
 pub mod Rates
+pub mod Rematerialization
 pub mod Desk
 pub mod Theorems

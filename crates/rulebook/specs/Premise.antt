@@ -4,9 +4,9 @@ use mathlib.Core.Bool.{Bool, true, false, _||_}
 use mathlib.Core.List.{List}
 use mathlib.Core.Path.{_≡_}
 use lib.ListN.{length}
-use Rattle.plain.specs.Lists.{if_then_else_, _is_, total, Each, sumBelow}
-use Rattle.rulebook.specs.AccountTypes.{free, alike, pledgedOrBlocked}
-use Rattle.rulebook.specs.Ledger.{Holdings, Ledger, accountOf, sameAccount, counted, admitted, issuedOf, outsideOf, cashTotal, held}
+use Rattle.plain.specs.Lists.{if_then_else_, _is_, _oneOf_, total, Each, sumBelow}
+use Rattle.rulebook.specs.AccountTypes.{bookEntry, free, alike, pledgedOrBlocked, requested}
+use Rattle.rulebook.specs.Ledger.{Holdings, Ledger, Requests, accountOf, sameAccount, counted, admitted, issuedOf, outsideOf, askedOf, cashTotal, held}
 use Rattle.rulebook.specs.declared.Day.{Day}
 use Rattle.rulebook.specs.declared.Account.{Account}
 use Rattle.rulebook.specs.Windows.{cycleMinutes, officeEnd}
@@ -14,6 +14,7 @@ use Rattle.rulebook.specs.Waiting.{sentBy, bothMarked}
 use Rattle.rulebook.specs.declared.Party.{Party}
 use Rattle.rulebook.specs.declared.Security.{Security}
 use Rattle.rulebook.specs.declared.Item.{Item}
+use Rattle.rulebook.specs.declared.Request.{Request}
 use Rattle.rulebook.specs.declared.State.{State}
 use Rattle.rulebook.specs.declared.State.the-variants.{Single, Pair, Trade}
 
@@ -29,6 +30,10 @@ accountCount h =
     sumBelow (2 ^ 14) λ security. sumBelow (2 ^ 10) λ member. sumBelow (2 ^ 8) λ typ. sumBelow (2 ^ 30) λ shareholder.
     counted (h.balance (record { security = security; member = member; typ = typ; shareholder = shareholder }))
 
+-- how many requests are open, over all that a record's fields can name
+unfoldable pub requestCount : Requests → ℕ
+requestCount r = sumBelow (2 ^ 10) λ member. sumBelow (2 ^ 32) λ reference. counted (r.asked member reference .quantity .0)
+
 -- how many securities have a code, and an admitted security
 abbrev pub withCode : ℕ → List Security → ℕ
 withCode code securities = total (λ s. if s.code is code then 1 else 0) securities
@@ -39,9 +44,9 @@ pub record SecurityFits (s : Security) : Type 0 where
   pub issued-least : 1 ≤ s.issued.0
   pub issued-most : s.issued.0 < 2 ^ 40
 
--- RULES 5.1: free, pledged or blocked
+-- RULES 5.1, 5.9: free, pledged or blocked, or that of requests
 unfoldable pub accountType : ℕ → Bool
-accountType typ = free typ || pledgedOrBlocked typ
+accountType typ = free typ || pledgedOrBlocked typ || typ is requested
 
 -- RULES 1.12, 1.13: a member and a shareholder
 pub record Named (member shareholder : ℕ) : Type 0 where
@@ -153,6 +158,16 @@ pub record RateFits (rate : ℕ) : Type 0 where
   pub least : 1 ≤ rate
   pub most : rate < 2 ^ 40
 
+-- an open request: of shares of a book-entry type, made today or before
+pub record RequestFits (number : ℕ) (h : Holdings) (member reference : ℕ) (r : Request) : Type 0 where
+  pub listed : admitted r.security h ≡ true
+  pub security : r.security < 2 ^ 14
+  pub named : Named member r.shareholder
+  pub referenced : ReferenceFits reference
+  pub typ : (r.typ oneOf bookEntry) ≡ true
+  pub quantity : r.quantity.0 < 2 ^ 40
+  pub day : r.day ≤ number
+
 pub record Premise (b : Ledger) : Type 0 where
   pub sizes : Sizes b
   -- the number of accounts is the number of those with a balance
@@ -174,3 +189,10 @@ pub record Premise (b : Ledger) : Type 0 where
   pub halves : Each (λ item. bothMarked item.state ≡ false) b.waiting
   pub day : DayFits b.day
   pub rate : RateFits b.rate
+  -- RULES 3.1: at most sixteen requests; their number is the number of those that are open
+  pub sixteen : b.requests.number ≤ 16
+  pub numbered : b.requests.number ≡ requestCount b.requests
+  pub requests : (member reference : ℕ) → 1 ≤ b.requests.asked member reference .quantity .0
+      → RequestFits b.day.number b.holdings member reference (b.requests.asked member reference)
+  -- RULES 3.17: an account of type 50 has what is requested, and nothing else
+  pub awaited : (a : Account) → a.typ ≡ requested → b.holdings.balance a ≡ askedOf a b.requests

@@ -1,17 +1,18 @@
--- Refusals 6 to 18, in checking order (RULES 7).
+-- Refusals 6 to 21, in checking order (RULES 7).
 use Prim.Native.Nat.{ℕ, _+_}
 use mathlib.Core.Bool.{Bool, not, _||_, _&&_}
 use mathlib.Core.List.{List, [], _∷_, _++_}
 use lib.ListN.{length}
 use Rattle.plain.specs.Lists.{if_then_else_, _is_, _isNot_, _below_, _atMost_, _oneOf_, within, some}
-use Rattle.rulebook.specs.AccountTypes.{wrongTypes}
+use Rattle.rulebook.specs.AccountTypes.{wrongTypes, ends}
 use Rattle.rulebook.specs.Windows.{cycleMinutes}
-use Rattle.rulebook.specs.Ledger.{Ledger, Holdings, accountOf, sameAccount, admitted, outsideOf, cashTotal}
+use Rattle.rulebook.specs.Ledger.{Ledger, Holdings, Requests, accountOf, sameAccount, admitted, outsideOf, cashTotal}
 use Rattle.rulebook.specs.Waiting.{senderOf, sentBy, notCancellable}
-use Rattle.rulebook.specs.Forms.{windowOf, effect}
+use Rattle.rulebook.specs.Forms.{requestOf, windowOf, effect}
 use Rattle.rulebook.specs.declared.Day.{Day}
 use Rattle.rulebook.specs.declared.Item.{Item}
 use Rattle.rulebook.specs.declared.Order.{Order}
+use Rattle.rulebook.specs.declared.Request.{Request}
 
 -- RULES 7.6: no day can open, or none is open
 unfoldable pub wrongDay : Day → Order → Bool
@@ -32,10 +33,17 @@ goesBack day order = order.form isNot 1 && order.minute below day.minute
 unfoldable pub outsideWindow : Day → Order → Bool
 outsideWindow day order = not (within (windowOf day order .0) (windowOf day order .1) order.minute)
 
+-- the forms whose security is to be admitted, and those that take shares from the debited account
+abbrev pub asksSecurity : ℕ → Bool
+asksSecurity form = within 3 9 form || within 12 14 form || form is 19
+
+abbrev pub debitsShares : ℕ → Bool
+debitsShares form = within 4 9 form || form is 19
+
 -- RULES 7.10: an unknown security, or one that is admitted again
 unfoldable pub wrongSecurity : Holdings → Order → Bool
 wrongSecurity holdings order =
-    ((within 3 9 order.form || within 12 14 order.form) && not (admitted order.security holdings))
+    (asksSecurity order.form && not (admitted order.security holdings))
     || (order.form is 2 && admitted order.security holdings)
 
 -- RULES 7.11: types that the form does not allow
@@ -72,11 +80,29 @@ wrongCancel waiting order =
     order.form is 15
     && some (λ item. sentBy (senderOf order) order.reference item && notCancellable (senderOf order) item) waiting
 
+-- a request of quantity 0 is none
+abbrev pub isOpen : Request → Bool
+isOpen request = request.quantity.0 isNot 0
+
+-- RULES 7.19: a reference that the member has open, or one to end that it has not, or that the credited type does not end
+unfoldable pub wrongRequest : Requests → Order → Bool
+wrongRequest requests order =
+    (order.form is 19 && isOpen (requestOf requests order))
+    || (order.form is 20 && not (isOpen (requestOf requests order) && ends (requestOf requests order .typ) order.credited.typ))
+
+-- RULES 7.20: an ending on the day of the request
+unfoldable pub endsTooSoon : (today : ℕ) → Requests → Order → Bool
+endsTooSoon today requests order = order.form is 20 && requestOf requests order .day is today
+
+-- RULES 7.21: sixteen are open
+unfoldable pub tooManyRequests : Requests → Order → Bool
+tooManyRequests requests order = order.form is 19 && 15 below requests.number
+
 -- RULES 7.16: too little where the movement takes from
 unfoldable pub tooLittle : Holdings → Order → Bool
 tooLittle holdings order =
     (order.form is 3 && outsideOf order.security holdings below order.quantity.0)
-    || (within 4 9 order.form && holdings.balance (accountOf order.security order.debited) below order.quantity.0)
+    || (debitsShares order.form && holdings.balance (accountOf order.security order.debited) below order.quantity.0)
     || (order.form is 11 && holdings.cash order.debited.member order.currency below order.amount.0)
 
 -- RULES 7.17: above the ceiling of a currency's cash
@@ -114,6 +140,14 @@ itemTests waiting order =
     ∷ (15, wrongCancel waiting order)
     ∷ []
 
+-- what it says of an open request
+unfoldable pub requestTests : Requests → (today : ℕ) → Order → List (ℕ × Bool)
+requestTests requests today order =
+    (19, wrongRequest requests order)
+    ∷ (20, endsTooSoon today requests order)
+    ∷ (21, tooManyRequests requests order)
+    ∷ []
+
 -- whether the book has enough, and room
 unfoldable pub roomTests : Ledger → Order → List (ℕ × Bool)
 roomTests book order =
@@ -122,7 +156,9 @@ roomTests book order =
     ∷ (18, noSpace book order)
     ∷ []
 
--- RULES 7.0: four stages, one behind the other
+-- RULES 7.0: five stages, one behind the other
 unfoldable pub refusals : Ledger → Order → List (ℕ × Bool)
 refusals book order =
-    dayTests book.day order ++ (orderTests book.holdings book.day.number order ++ (itemTests book.waiting order ++ roomTests book order))
+    dayTests book.day order
+    ++ (orderTests book.holdings book.day.number order
+    ++ (itemTests book.waiting order ++ (requestTests book.requests book.day.number order ++ roomTests book order)))

@@ -13,6 +13,7 @@ use Rattle.rulebook.specs.Checks.{CheckingOrder}
 use Rattle.rulebook.specs.Calls.{Call, resultOf, Demand3}
 use Rattle.rulebook.specs.Premise.{Premise}
 use Rattle.rulebook.specs.Rates.{RateOfCalls, Tolerances, RateAlone, RateRefusals}
+use Rattle.rulebook.specs.Rematerialization.{AwaitedOfCalls, EndingCovered, RequestStays, RequestEnds, RequestRefusals, EndingRefusals}
 use Rattle.rulebook.specs.Desk.{Desk}
 use Rattle.rulebook.specs.declared.Order.{Order}
 use Rattle.rulebook.specs.declared.Read.{Read}
@@ -47,5 +48,14 @@ pub record Theorems : Type 0 where
   -- RULES 6.18: form 18 changes nothing but the rate and the minute, and meets refusals 6, 8 and 9 alone
   pub rateAlone : RateAlone
   pub rateRefusals : RateRefusals
+  -- RULES 12.20, 12.21: type 50 has what the open requests ask for, so an ending never lacks balance
+  pub awaitedOfCalls : AwaitedOfCalls
+  pub endingCovered : EndingCovered
+  -- RULES 12.22, 12.23: a request stays until it is ended, and can be ended on every later day
+  pub requestStays : RequestStays
+  pub requestEnds : RequestEnds
+  -- RULES 6.19, 6.20: what the two forms meet
+  pub requestRefusals : RequestRefusals
+  pub endingRefusals : EndingRefusals
   -- RULES, appendix A
   pub desk : Desk

@@ -88,6 +88,15 @@ pub struct Security {
     pub outside: Shares,
 }
 
+// A request for paper (RULES 3.15): of which shares, the type that they came from, how many, and the day on which it was made.
+pub struct Request {
+    pub security: u64,
+    pub typ: u64,
+    pub shareholder: u64,
+    pub quantity: Shares,
+    pub day: u64,
+}
+
 // The state of a waiting item (RULES 1.19): a single is a deliver or else a receive.
 pub enum State {
     Single {

@@ -14,11 +14,11 @@ use Rattle.rulebook.specs.declared.Item.{Item}
 use Rattle.rulebook.specs.declared.Order.{Order}
 use Rattle.rulebook.specs.declared.State.{State}
 use Rattle.rulebook.specs.declared.State.the-variants.{Single, Pair, Trade}
-use Rattle.rulebook.specs.Ledger.{Ledger, fresh, putDay, putHoldings, putWaiting, putRate}
+use Rattle.rulebook.specs.Ledger.{Ledger, fresh, putDay, putHoldings, putWaiting, putRate, putRequests}
 use Rattle.rulebook.specs.Waiting.{sidesOf, sides, isDeliver, isReceive, itemOf, senderOf, withState, marked, marking, cancelled, staying, unmarked, sentBy, singleOf}
 use Rattle.rulebook.specs.Matching.{tolerance, pairsWith, pairOf, arrive}
 use Rattle.rulebook.specs.Close.{closeKind, leaves, deletedAtClose, suspendedAtClose}
-use Rattle.rulebook.specs.Forms.{counts, outcome, moving, silent, openDay, admit, deposit, withdraw, transfer, payIn, payOut, instruct, trade, cancel, cycle, close, forms, effect, takesIn, setRate}
+use Rattle.rulebook.specs.Forms.{counts, outcome, moving, silent, openDay, admit, deposit, withdraw, transfer, payIn, payOut, instruct, trade, cancel, cycle, close, forms, effect, takesIn, setRate, requestPaper, endRequest}
 use Rattle.rulebook.specs.declared.Counts.{Counts}
 use Rattle.rulebook.specs.Cycle.{settled, notSettled}
 
@@ -170,11 +170,12 @@ close-keeps b o = omega (arith, close-sides b.day.number b.waiting)
 
 -- a form that leaves the waiting list as it was takes in none, and none is gone
 forms-keep : AllForms (λ n f. Keeps f.takes f.effect) 1 forms
-unfolding forms openDay admit deposit withdraw transfer payIn payOut setRate moving silent outcome counts putDay putHoldings putRate
+unfolding forms openDay admit deposit withdraw transfer payIn payOut setRate requestPaper endRequest moving silent outcome counts putDay putHoldings
+    putRate putRequests
 forms-keep =
     (λ b o. refl) and (λ b o. refl) and (λ b o. refl) and (λ b o. refl) and (λ b o. refl) and (λ b o. refl) and (λ b o. refl) and (λ b o. refl)
     and (λ b o. refl) and (λ b o. refl) and (λ b o. refl) and instruct-keeps and instruct-keeps and trade-keeps and cancel-keeps and cycle-keeps
-    and close-keeps and (λ b o. refl) and tt
+    and close-keeps and (λ b o. refl) and (λ b o. refl) and (λ b o. refl) and tt
 
 effect-keeps : (b : Ledger) (o : Order) → takesIn o + sides b.waiting ≡ gone (effect b o .counts) + sides (effect b o .after .waiting)
 unfolding effect takesIn

@@ -1,4 +1,4 @@
--- Custody, issued counts, cash and pledged accounts: what is kept is what came less what went, over any list of calls. Assumes nothing.
+-- Issued counts, cash and pledged accounts: what is kept is what came less what went, over any list of calls. Assumes nothing.
 use mathlib.Core.Path.{_≡_, refl}
 use mathlib.Core.Bool.{Bool, true, false}
 use mathlib.Core.List.{List}
@@ -10,16 +10,16 @@ use Rattle.rulebook.specs.declared.Read.{Read}
 use Rattle.plain.specs.Lists.{first}
 use Rattle.rulebook.specs.AccountTypes.{pledgedOrBlocked}
 use Rattle.rulebook.specs.Record.{readOf}
-use Rattle.rulebook.specs.Ledger.{Holdings, Ledger, fresh, cashTotal, issuedOf, putDay, held}
+use Rattle.rulebook.specs.Ledger.{Holdings, Ledger, fresh, cashTotal, issuedOf, putDay}
 use Rattle.rulebook.specs.declared.Account.{Account}
 use Rattle.rulebook.specs.Movements.{account}
 use Rattle.rulebook.specs.Forms.{effect}
 use Rattle.rulebook.specs.Refusals.{refusals}
 use Rattle.rulebook.specs.Call.{putMinute}
-use Rattle.rulebook.specs.Calls.{Call, callsOn, bookAfter, Accepted, sum, sharesOf, cashOfForm, issues, deposits, withdrawals, payIns, payOuts, putIn, released}
+use Rattle.rulebook.specs.Calls.{Call, callsOn, bookAfter, Accepted, sum, sharesOf, cashOfForm, issues, payIns, payOuts, putIn, released}
 use Rattle.rulebook.specs.Premise.{Premise}
 use Rattle.rulebook.proofs.ByCall.{acceptedCall, by-call, sum-none}
-use Rattle.rulebook.proofs.Sums.{none-held, held-exact, none-paid, cash-exact}
+use Rattle.rulebook.proofs.Sums.{none-paid, cash-exact}
 use Rattle.rulebook.proofs.Steps.OneCall.{putInAt, releasedAt, Step, step-issued}
 use Rattle.rulebook.proofs.Steps.{order-step}
 use Rattle.rulebook.proofs.EveryCall.{fresh-premise, order-premise}
@@ -43,15 +43,6 @@ module _
         keeps (fresh .holdings) ≡ 0 → (calls : List Call) → keeps (bookAfter fresh calls .holdings) + sum goes (callsOn fresh calls)
         ≡ sum comes (callsOn fresh calls)
     by-step z calls = omega (arith, z, by-call Premise (λ b. keeps b.holdings) comes goes list-step fresh fresh-premise calls)
-
--- held is deposits less withdrawals
-pub custody : (s : ℕ) (calls : List Call) → held s (bookAfter fresh calls .holdings) + withdrawals s (callsOn fresh calls) ≡ deposits s (callsOn fresh calls)
-unfolding withdrawals deposits
-custody s =
-    by-step (held s) (sharesOf 3 s) (sharesOf 4 s)
-    (λ b o area t. unfold sharesOf in omega
-    (arith, held-exact s (t .moves) b.holdings (effect b o .after .holdings) (t .proper) (t .changes), t .figures .held s))
-    (none-held s)
 
 -- the issued count is what was admitted
 pub issued : (s : ℕ) (calls : List Call) → issuedOf s (bookAfter fresh calls .holdings) ≡ issues s (callsOn fresh calls)

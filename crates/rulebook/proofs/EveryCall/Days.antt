@@ -63,7 +63,7 @@ all-end : AllForms Ends 1 forms
 unfolding forms rowOf
 all-end =
     (λ _ d o. office-least d.kind) and office and counter and counter and counter and counter and counter and counter and counter and office and office
-    and payment and payment and office and office and (λ _ d o. omega arith) and (λ e. absurd (false≢true (sym e))) and office and tt
+    and payment and payment and office and office and (λ _ d o. omega arith) and (λ e. absurd (false≢true (sym e))) and office and counter and counter and tt
   where
     office : false ≡ false → (d : Day) (o : Order) → officeHours d o .1 ≤ officeEnd d.kind
     office _ d o = omega arith

@@ -1,32 +1,34 @@
 -- Parts 3 to 7 of the premise, form by form. Assumes nothing.
 use mathlib.Core.Path.{_≡_, refl, subst}
-use mathlib.Core.Bool.{true, false, not, _||_, false≢true}
+use mathlib.Core.Bool.{Bool, true, false, not, _||_, false≢true}
 use mathlib.Core.List.{List, [], _∷_, _++_}
 use Prim.Native.Nat.{ℕ, _+_}
 use native.Mathlib.Omega.{arith}
 use Rattle.rulebook.specs.declared.Item.{Item}
 use Rattle.rulebook.specs.declared.Order.{Order}
+use Rattle.rulebook.specs.declared.Request.{Request}
 use Rattle.rulebook.specs.declared.Security.{Security}
 use Rattle.rulebook.specs.declared.State.{State}
 use Rattle.rulebook.specs.declared.State.the-variants.{Single, Pair, Trade}
-use Rattle.plain.specs.Lists.{_is_, within, keep, Each}
+use Rattle.plain.specs.Lists.{if_then_else_, _is_, within, keep, Each}
 use Rattle.plain.proofs.Lists.{_and_, total-append, each-so, each-both, each-append, each-kept}
 use Rattle.rulebook.specs.AccountTypes.{alike, wrongTypes}
 use Rattle.rulebook.specs.Field as Field
-use Rattle.rulebook.specs.Ledger.{Ledger, Holdings, accountOf, admitted, putDay, putHoldings, putWaiting, putSecurities, newSecurity, putRate}
-use Rattle.rulebook.specs.Movements.{Movement, booked}
+use Rattle.rulebook.specs.Ledger.{Ledger, Holdings, Requests, accountOf, requestAccount, admitted, putDay, putHoldings, putWaiting, putRequests, putSecurities, newSecurity, putRate}
+use Rattle.rulebook.specs.Movements.{account, type91, Movement, booked}
 use Rattle.rulebook.specs.Waiting.{isTrade, itemOf, senderOf, sentBy, marking, staying, bothMarked, singleOf}
 use Rattle.rulebook.specs.Matching.{tolerance}
 use Rattle.rulebook.specs.Cycle.{buyer, settled, notSettled, legs}
 use Rattle.rulebook.specs.Close.{leaves}
-use Rattle.rulebook.specs.Forms.{outcome, moving, silent, openDay, admit, deposit, withdraw, transfer, payIn, payOut, instruct, trade, cancel, cycle, close, forms, rowOf, used, least, effect, setRate}
+use Rattle.rulebook.specs.Forms.{outcome, moving, silent, openDay, admit, deposit, withdraw, transfer, payIn, payOut, instruct, trade, cancel, cycle, close, forms, rowOf, used, least, effect, setRate, endedRequest, requestPaper, endRequest}
+use Rattle.rulebook.specs.Refusals.{asksSecurity}
 use Rattle.rulebook.specs.Call.{putMinute}
-use Rattle.rulebook.specs.Premise.{SecurityFits, accountType, AccountFits, StateFits, ItemFits, Premise, today}
+use Rattle.rulebook.specs.Premise.{SecurityFits, accountType, AccountFits, StateFits, ItemFits, RequestFits, Premise, today}
 use Rattle.rulebook.proofs.ByCall.{Effect, AllForms, not-read, by-form}
 use Rattle.rulebook.proofs.Rounds.{settled-fits, notSettled-fits, Due, settled-due}
-use Rattle.rulebook.proofs.Types.{free-type, pledged-type, alike-free, deposit-free, transfer-free, pledge-types, release-types, block-types, unblock-types}
-use Rattle.rulebook.proofs.Orders.{Accepted, needs, needed, is-admitted, right-types, is-open, opens-next, none-waits}
-use Rattle.rulebook.proofs.EveryCall.Owners.{Owned, AllGet, still-admitted, booked-admitted, account-admitted, booked-owned}
+use Rattle.rulebook.proofs.Types.{free-type, pledged-type, requested-type, ends-free, alike-free, deposit-free, transfer-free, pledge-types, release-types, block-types, unblock-types}
+use Rattle.rulebook.proofs.Orders.{Accepted, needs, needed, is-admitted, right-types, is-open, opens-next, none-waits, is-ended}
+use Rattle.rulebook.proofs.EveryCall.Owners.{Owned, Gets, AllGet, still-admitted, booked-admitted, account-admitted, booked-owned}
 use Rattle.rulebook.proofs.EveryCall.References.{Once, arrive-sent, cancel-sent, close-sent, cycle-sent, new-once}
 use Rattle.rulebook.proofs.Halves.{Half, arrive-halves, kept-halves, closed-halves}
 use Rattle.rulebook.proofs.EveryCall.Items.{item-later, marking-fits, close-fits, arrive-fits}
@@ -68,14 +70,23 @@ moving-kept b minute ms w i r v d g = record {
   day = d;
 }
 
+-- whatever becomes of the requests
+moves-with :
+    (n : ℕ) → (n is 17) ≡ false → (b : Ledger) (o : Order) (r : Requests) (ms : List Movement) → o.form ≡ n → Premise b → Accepted b o → AllGet b.holdings ms
+    → Kept o.minute (moving ms (putRequests r b) .after)
+unfolding putRequests putMinute putDay
+moves-with n l b o r ms e p a g =
+    moving-kept (putRequests r b) o.minute ms (owned-of b p) p.items p.references p.halves (unfold putMinute putDay in same-day n b o e l p.day a) g
+
 moves :
     (n : ℕ) → (n is 17) ≡ false → (b : Ledger) (o : Order) (ms : List Movement) → o.form ≡ n → Premise b → Accepted b o → AllGet b.holdings ms
     → Kept o.minute (moving ms b .after)
-moves n l b o ms e p a g = moving-kept b o.minute ms (owned-of b p) p.items p.references p.halves (same-day n b o e l p.day a) g
+unfolding putRequests
+moves n l b o = moves-with n l b o b.requests
 
 -- the credited account
 credited-fits :
-    (n : ℕ) (b : Ledger) (o : Order) → o.form ≡ n → Accepted b o → (within 3 9 n || within 12 14 n) ≡ true → (n is 2) ≡ false → needs n Field.credited-member
+    (n : ℕ) (b : Ledger) (o : Order) → o.form ≡ n → Accepted b o → asksSecurity n ≡ true → (n is 2) ≡ false → needs n Field.credited-member
     ≡ true → needs n Field.credited-shareholder ≡ true
     → (wrongTypes n o.debited.typ o.credited.typ ≡ false → accountType o.credited.typ ≡ true) → AccountFits b.holdings (accountOf o.security o.credited)
 unfolding accountOf admitted
@@ -102,7 +113,7 @@ unfolding withdraw
 withdraw-keeps b o e p a = moves 4 refl b o _ e p a (tt, tt)
 
 transfer-keeps :
-    (n : ℕ) → (n is 17) ≡ false → (within 3 9 n || within 12 14 n) ≡ true → (n is 2) ≡ false → needs n Field.credited-member ≡ true
+    (n : ℕ) → (n is 17) ≡ false → asksSecurity n ≡ true → (n is 2) ≡ false → needs n Field.credited-member ≡ true
     → needs n Field.credited-shareholder ≡ true
     → ((d c : ℕ) → wrongTypes n d c ≡ false → accountType c ≡ true) → Keeps n transfer
 unfolding transfer
@@ -278,6 +289,46 @@ unfolding setRate silent outcome putRate putMinute putDay
 rate-keeps b o e p a =
     record { owned = owned-of b p; items = p.items; references = p.references; halves = p.halves; day = same-day 18 b o e refl p.day a }
 
+-- requests
+
+request-keeps : Keeps 19 requestPaper
+unfolding requestPaper requestAccount admitted used least forms rowOf
+request-keeps b o e p a =
+    let d = a.ranges.debited (needed 19 Field.debited-member o e refl) in
+    moves-with 19 refl b o _ _ e p a (
+      record {
+        security = is-admitted 19 b o e refl refl a.security;
+        named = record {
+          member-least = d .0;
+          member-most = d .1;
+          shareholder-least = a.ranges.debited-holder (needed 19 Field.debited-shareholder o e refl);
+          shareholder-most = a.fits.debited.shareholder;
+        };
+        typ = requested-type;
+      },
+      tt,
+    )
+
+end-keeps : Keeps 20 endRequest
+unfolding endRequest requestAccount
+end-keeps b o e p a = moves-with 20 refl b o _ _ e p a (place-gets (o.credited.typ is 91) refl, tt)
+  where
+    ended : Request
+    ended = endedRequest b o
+
+    fits : RequestFits b.day.number b.holdings o.debited.member o.reference ended
+    fits = p.requests o.debited.member o.reference (is-ended b o e a.request .0)
+
+    place-gets :
+        (t : Bool) → (o.credited.typ is 91) ≡ t
+        → Gets b.holdings (if t then type91 ended.security else account (requestAccount o.credited.typ o.debited.member ended))
+    place-gets true n = tt
+    place-gets false n = record {
+      security = fits .listed;
+      named = fits .named;
+      typ = free-type o.credited.typ (ends-free (ended .typ) o.credited.typ n (is-ended b o e a.request .1));
+    }
+
 -- every form
 
 forms-keep : AllForms (λ n f. Keeps n f.effect) 1 forms
@@ -290,7 +341,7 @@ forms-keep =
     and transfer-keeps 8 refl refl refl refl refl (λ d c w. pledged-type c (block-types d c w .1))
     and transfer-keeps 9 refl refl refl refl refl (λ d c w. free-type c (unblock-types d c w .0))
     and payIn-keeps and payOut-keeps and instruct-keeps 12 refl refl refl deliver-item deliver-sender and instruct-keeps 13 refl refl refl receive-item
-    receive-sender and trade-keeps and cancel-keeps and cycle-keeps and close-keeps and rate-keeps and tt
+    receive-sender and trade-keeps and cancel-keeps and cycle-keeps and close-keeps and rate-keeps and request-keeps and end-keeps and tt
 
 -- no order that was read has another form
 pub effect-keeps : (b : Ledger) (o : Order) → Premise b → Accepted b o → Kept o.minute (effect b o .after)

@@ -16,6 +16,7 @@ use Rattle.rulebook.specs.Field as Field
 use Rattle.rulebook.specs.Forms.{forms, rowOf, used, least}
 use Rattle.rulebook.specs.Ledger.{Ledger, admitted}
 use Rattle.rulebook.specs.Waiting.{itemOf, senderOf, sentBy, singleOf}
+use Rattle.rulebook.specs.Refusals.{asksSecurity}
 use Rattle.rulebook.specs.Premise.{ReferenceFits, StateFits, NotOverdue, ItemFits, today}
 use Rattle.rulebook.proofs.Types.{one-of, deliver-free, receive-free, trade-alike}
 use Rattle.rulebook.proofs.Orders.{Accepted, needs, needed, uses, is-admitted, right-types, is-open, instruct-parties, instruct-days, trade-parties, trade-days}
@@ -37,7 +38,7 @@ module _ (n : ℕ) (b : Ledger) (o : Order) (e : o.form ≡ n) (a : Accepted b o
   order-reference = record { least = a.ranges.reference (field Field.reference refl); most = a.fits.reference }
 
   order-item :
-      (x : State) → (within 3 9 n || within 12 14 n) ≡ true → (n is 2) ≡ false → o.«trade_day» ≤ b.day.number → o.«trade_day» ≤ o.«settlement_day»
+      (x : State) → asksSecurity n ≡ true → (n is 2) ≡ false → o.«trade_day» ≤ b.day.number → o.«trade_day» ≤ o.«settlement_day»
       → o.«settlement_day» ≤ b.day.number + 20
       → StateFits o.security o.debited o.credited x → NotOverdue (today b.day) o.«settlement_day» x
       → ItemFits b.day.number (today b.day) b.holdings (itemOf x o)
@@ -90,7 +91,7 @@ record Instructs (n : ℕ) : Type 0 where
   not-5-14 : (n oneOf (5 ∷ 14 ∷ [])) ≡ false
   not-14 : (n is 14) ≡ false
   not-1 : (n is 1) ≡ false
-  names : (within 3 9 n || within 12 14 n) ≡ true
+  names : asksSecurity n ≡ true
   not-2 : (n is 2) ≡ false
 
 single-item :

@@ -10,32 +10,32 @@ use Rattle.rulebook.specs.declared.Order.{Order}
 use Rattle.rulebook.specs.declared.Security.{Security}
 use Rattle.plain.specs.Lists.{if_then_else_, _is_, within, Each}
 use Rattle.plain.proofs.Lists.{_and_, total-append}
-use Rattle.rulebook.specs.AccountTypes.{pledgedOrBlocked, wrongTypes}
+use Rattle.rulebook.specs.AccountTypes.{pledgedOrBlocked, requested, wrongTypes}
 use Rattle.rulebook.specs.Field as Field
-use Rattle.rulebook.specs.Ledger.{Ledger, Holdings, accountOf, sameAccount, outsideOf, putHoldings, putSecurities, newSecurity}
+use Rattle.rulebook.specs.Ledger.{Ledger, Holdings, Requests, accountOf, sameAccount, outsideOf, putHoldings, putSecurities, putRequests, newSecurity}
 use Rattle.rulebook.specs.declared.Account.{Account}
 use Rattle.rulebook.specs.Movements.{Place, account, type91, type90, cashOf, member0, move, bookHas}
 use Rattle.rulebook.specs.Forms.{outcome, counts, moving, admit, deposit, withdraw, transfer, payIn, payOut, forms, rowOf, used, least}
-use Rattle.rulebook.specs.Refusals.{wrongSecurity}
+use Rattle.rulebook.specs.Refusals.{asksSecurity, debitsShares, wrongSecurity}
 use Rattle.rulebook.specs.Premise.{withCode, Premise}
 use Rattle.rulebook.proofs.Rounds.{same-eq}
 use Rattle.rulebook.proofs.Orders.{is-admitted, not-admitted, little-parts, debit-enough, right-types, needed}
 use Rattle.rulebook.proofs.Securities.{outs, known, unknown, new-count, new-issued}
 use Rattle.rulebook.proofs.Places.{brought, Known, Bears, booked-exact, one-enough}
 use Rattle.rulebook.proofs.Reading.{Proper}
-use Rattle.rulebook.proofs.Types.{Account·type, Quiet, PutIn, free-quiet, pledged-account, deposit-free, withdraw-free, transfer-free, pledge-types, release-types, block-types, unblock-types}
+use Rattle.rulebook.proofs.Types.{Account·type, Quiet, PutIn, free-quiet, pledged-account, pledged-not-requested, deposit-free, withdraw-free, transfer-free, pledge-types, release-types, block-types, unblock-types}
 use Rattle.rulebook.proofs.Steps.OneCall.{putInAt, releasedAt, writesAt, Figures, Admits, admits-none, Step, Steps}
 use Rattle.rulebook.specs.Ranges.{PartyInRange}
 
--- a form that makes one movement, after it admits a security or none
+-- a form that makes one movement, after it admits a security or none, and opens or ends a request or none
 moved :
-    (n : ℕ) (b : Ledger) (o : Order) (xs : List Security) (from to : Place) (k : ℕ) → Admits n o b.holdings xs → writesAt n ≡ 1
+    (n : ℕ) (b : Ledger) (o : Order) (xs : List Security) (r : Requests) (from to : Place) (k : ℕ) → Admits n o b.holdings xs → writesAt n ≡ 1
     → Known (putSecurities xs b.holdings) from
     → Known (putSecurities xs b.holdings) to → Bears (putSecurities xs b.holdings) from k → Proper from → Proper to → k < 2 ^ 40
-    → Figures n o (move from to k ∷ [])
-    → Step n b o (moving (move from to k ∷ []) (putHoldings (putSecurities xs b.holdings) b))
-unfolding moving outcome counts putHoldings
-moved n b o xs from to k a w kf kt l pf pt u f =
+    → Figures n b o (move from to k ∷ [])
+    → Step n b o (moving (move from to k ∷ []) (putRequests r (putHoldings (putSecurities xs b.holdings) b)))
+unfolding moving outcome counts putHoldings putRequests
+moved n b o xs r from to k a w kf kt l pf pt u f =
     let ms = move from to k ∷ [] in
     let h = putSecurities xs b.holdings in
     record {
@@ -52,34 +52,46 @@ moved n b o xs from to k a w kf kt l pf pt u f =
     }
 
 -- and none but form 2 admits one
+pub moves-with :
+    (n : ℕ) (b : Ledger) (o : Order) (r : Requests) (from to : Place) (k : ℕ) → (n is 2) ≡ false → Premise b → writesAt n ≡ 1 → Known b.holdings from
+    → Known b.holdings to
+    → Bears b.holdings from k → Proper from → Proper to → k < 2 ^ 40 → Figures n b o (move from to k ∷ [])
+    → Step n b o (moving (move from to k ∷ []) (putRequests r b))
+unfolding putHoldings putSecurities putRequests
+moves-with n b o r from to k e p = moved n b o b.holdings.securities r from to k (admits-none n o b.holdings e p.codes)
+
 moves-one :
     (n : ℕ) (b : Ledger) (o : Order) (from to : Place) (k : ℕ) → (n is 2) ≡ false → Premise b → writesAt n ≡ 1 → Known b.holdings from → Known b.holdings to
-    → Bears b.holdings from k → Proper from → Proper to → k < 2 ^ 40 → Figures n o (move from to k ∷ []) → Step n b o (moving (move from to k ∷ []) b)
-unfolding putHoldings putSecurities
-moves-one n b o from to k e p = moved n b o b.holdings.securities from to k (admits-none n o b.holdings e p.codes)
+    → Bears b.holdings from k → Proper from → Proper to → k < 2 ^ 40 → Figures n b o (move from to k ∷ []) → Step n b o (moving (move from to k ∷ []) b)
+unfolding putRequests
+moves-one n b o = moves-with n b o b.requests
 
-one-code :
-    (n : ℕ) (b : Ledger) (o : Order) → o.form ≡ n → (within 3 9 n || within 12 14 n) ≡ true → (n is 2) ≡ false → Premise b → wrongSecurity b.holdings o ≡ false
+pub one-code :
+    (n : ℕ) (b : Ledger) (o : Order) → o.form ≡ n → asksSecurity n ≡ true → (n is 2) ≡ false → Premise b → wrongSecurity b.holdings o ≡ false
     → withCode o.security b.holdings.securities ≡ 1
 one-code n b o e t t₂ p w = omega (arith, known o.security b.holdings.securities (is-admitted n b o e t t₂ w), p.codes o.security)
 
 -- a party's account, as rows name it
-account-proper : (security : ℕ) (p : Party) → security < 2 ^ 14 → PartyInRange p → Account·type p.typ → Proper (account (accountOf security p))
+pub account-proper : (security : ℕ) (p : Party) → security < 2 ^ 14 → PartyInRange p → Account·type p.typ → Proper (account (accountOf security p))
 unfolding accountOf
 account-proper security p s f t = (s, f.member, f.typ, f.shareholder, t)
 
--- an account is not another whose type is of the other kind
-apart : (a b : Account) → pledgedOrBlocked a.typ ≡ true → pledgedOrBlocked b.typ ≡ false → sameAccount b a ≡ false
-apart a b p q = go (sameAccount b a) refl
+-- an account is not another whose type a test tells from its own
+pub apart : (test : ℕ → Bool) (a b : Account) → test a.typ ≡ true → test b.typ ≡ false → sameAccount b a ≡ false
+apart test a b p q = go (sameAccount b a) refl
   where
     go : (t : Bool) → sameAccount b a ≡ t → sameAccount b a ≡ false
-    go true e = absurd (false≢true (sym q ∙ ap (λ (x : Account). pledgedOrBlocked x.typ) (same-eq b a e) ∙ p))
+    go true e = absurd (false≢true (sym q ∙ ap (λ (x : Account). test x.typ) (same-eq b a e) ∙ p))
     go false e = e
 
 pub party-apart :
-    (security : ℕ) (p : Party) → Quiet p.typ → (k : ℕ) (a : Account) → pledgedOrBlocked a.typ ≡ true → (if sameAccount (accountOf security p) a then k else 0)
-    ≡ 0
-party-apart security p t k a q = simp (apart a (accountOf security p) q (unfold accountOf in t .0))
+    (test : ℕ → Bool) (security : ℕ) (p : Party) → test p.typ ≡ false → (k : ℕ) (a : Account) → test a.typ ≡ true
+    → (if sameAccount (accountOf security p) a then k else 0) ≡ 0
+party-apart test security p t k a q = simp (apart test a (accountOf security p) q (unfold accountOf in t))
+
+-- the type of requests, as such a test
+abbrev pub awaits : ℕ → Bool
+awaits typ = typ is requested
 
 -- form 2: a security that is admitted changes nothing that is kept, as its outside count is still 0
 
@@ -96,20 +108,21 @@ kept-new new z h (cashOf m c) = refl
 kept-new new z h (member0 c) = refl
 
 pub admit-steps : Steps 2 admit
-unfolding admit putSecurities forms rowOf
+unfolding admit putSecurities putRequests putHoldings forms rowOf
 admit-steps b o e p a =
     let xs = b.holdings.securities in
     let new : Security = newSecurity o.security o.quantity in
     let z = unknown o.security xs (not-admitted b o e a.security) in
     let k : withCode o.security (xs ++ (new ∷ [])) ≡ 1 = simp (total-append, eq-eqb o.security o.security refl) (omega (arith, z)) in
-    moved 2 b o (xs ++ (new ∷ [])) (type90 o.security) (type91 o.security) o.quantity.0
+    moved 2 b o (xs ++ (new ∷ [])) b.requests (type90 o.security) (type91 o.security) o.quantity.0
     (record {
       keeps = kept-new new refl b.holdings;
       codes = λ c. new-count o.security c xs new refl z p.codes;
+      still = λ c. simp total-append (omega arith);
       issued = λ s. omega (arith, new-issued s b.holdings new);
     })
     refl tt k tt a.fits.security a.fits.security a.fits.quantity
-    (record { held = λ c. refl; outside = λ c. omega arith; cash = λ c. refl; pledged = λ x q. (refl, refl) })
+    (record { held = λ c. refl; outside = λ c. omega arith; cash = λ c. refl; pledged = λ x q. (refl, refl); awaited = λ x q. (refl, refl) })
 
 -- forms 3 and 4
 
@@ -124,7 +137,8 @@ deposit-steps b o e p a =
       held = λ c. omega arith;
       outside = λ c. omega arith;
       cash = λ c. refl;
-      pledged = λ x q. (refl, omega (arith, party-apart o.security o.credited t o.quantity.0 x q));
+      pledged = λ x q. (refl, omega (arith, party-apart pledgedOrBlocked o.security o.credited (t .0) o.quantity.0 x q));
+      awaited = λ x q. (refl, omega (arith, party-apart awaits o.security o.credited (t .2) o.quantity.0 x q));
     })
 
 pub withdraw-steps : Steps 4 withdraw
@@ -137,7 +151,8 @@ withdraw-steps b o e p a =
       held = λ c. omega arith;
       outside = λ c. omega arith;
       cash = λ c. refl;
-      pledged = λ x q. (omega (arith, party-apart o.security o.debited t o.quantity.0 x q), refl);
+      pledged = λ x q. (omega (arith, party-apart pledgedOrBlocked o.security o.debited (t .0) o.quantity.0 x q), refl);
+      awaited = λ x q. (omega (arith, party-apart awaits o.security o.debited (t .2) o.quantity.0 x q), refl);
     })
 
 -- forms 5 to 9: which types each moves between, and what of it is put in or released
@@ -154,9 +169,12 @@ record Shifts (n : ℕ) (o : Order) : Type 0 where
   to : Account·type o.credited.typ
   out : (a : Account) → pledgedOrBlocked a.typ ≡ true → debitsOf a o ≡ releasedAt a n o
   into : (a : Account) → pledgedOrBlocked a.typ ≡ true → creditsOf a o ≡ putInAt a n o
+  -- and neither is that of requests
+  from-other : awaits o.debited.typ ≡ false
+  to-other : awaits o.credited.typ ≡ false
 
 shifts :
-    (n : ℕ) → within 4 9 n ≡ true → writesAt n ≡ 1 → Each (λ k. (n is k) ≡ false) (2 ∷ 3 ∷ 4 ∷ 10 ∷ 11 ∷ [])
+    (n : ℕ) → debitsShares n ≡ true → writesAt n ≡ 1 → Each (λ k. (n is k) ≡ false) (2 ∷ 3 ∷ 4 ∷ 10 ∷ 11 ∷ 19 ∷ 20 ∷ [])
     → ((o : Order) → wrongTypes n o.debited.typ o.credited.typ ≡ false → Shifts n o) → Steps n transfer
 unfolding transfer accountOf
 shifts n t w off types b o e p a =
@@ -165,26 +183,30 @@ shifts n t w off types b o e p a =
     (debit-enough b o a.little (simp (e, t))) (account-proper o.security o.debited a.fits.security a.fits.debited (y .from))
     (account-proper o.security o.credited a.fits.security a.fits.credited (y .to)) a.fits.quantity
     (record {
-      held = λ c. simp (off .1 .0, off .1 .1 .0);
-      outside = λ c. simp (off .0, off .1 .0, off .1 .1 .0);
+      held = λ c. simp (off .1 .0, off .1 .1 .0, off .1 .1 .1 .1 .1 .1 .0);
+      outside = λ c. simp (off .0, off .1 .0, off .1 .1 .0, off .1 .1 .1 .1 .1 .1 .0);
       cash = λ c. simp (off .1 .1 .1 .0, off .1 .1 .1 .1 .0);
       pledged = λ x q. (omega (arith, y .out x q), omega (arith, y .into x q));
+      awaited = λ x q. (
+        simp (off .1 .1 .1 .1 .1 .1 .0) (omega (arith, party-apart awaits o.security o.debited (y .from-other) o.quantity.0 x q)),
+        simp (off .1 .1 .1 .1 .1 .0) (omega (arith, party-apart awaits o.security o.credited (y .to-other) o.quantity.0 x q)),
+      );
     })
 
 -- a party whose type is quiet is no such account
 debited-apart : (o : Order) → Quiet o.debited.typ → (a : Account) → pledgedOrBlocked a.typ ≡ true → debitsOf a o ≡ 0
-debited-apart o t a q = party-apart o.security o.debited t o.quantity.0 a q
+debited-apart o t a q = party-apart pledgedOrBlocked o.security o.debited (t .0) o.quantity.0 a q
 
 credited-apart : (o : Order) → Quiet o.credited.typ → (a : Account) → pledgedOrBlocked a.typ ≡ true → creditsOf a o ≡ 0
-credited-apart o t a q = party-apart o.security o.credited t o.quantity.0 a q
+credited-apart o t a q = party-apart pledgedOrBlocked o.security o.credited (t .0) o.quantity.0 a q
 
 pub transfer-steps : Steps 5 transfer
 unfolding forms rowOf
-transfer-steps = shifts 5 refl refl (refl and refl and refl and refl and refl and tt) λ o w.
+transfer-steps = shifts 5 refl refl (refl and refl and refl and refl and refl and refl and refl and tt) λ o w.
     let f = transfer-free o.debited.typ o.credited.typ w in
     let d = free-quiet o.debited.typ (f .0) in
     let c = free-quiet o.credited.typ (f .1) in
-    record { from = d .1; to = c .1; out = debited-apart o d; into = credited-apart o c }
+    record { from = d .1; to = c .1; out = debited-apart o d; into = credited-apart o c; from-other = d .2; to-other = c .2 }
 
 -- in and out again
 puts-in :
@@ -192,37 +214,51 @@ puts-in :
     → Shifts n o
 puts-in n o t none all =
     let d = free-quiet o.debited.typ (t .0) in
-    record { from = d .1; to = pledged-account o.credited.typ (t .1); out = λ a q. debited-apart o d a q ∙ sym (none a); into = λ a q. all a }
+    record {
+      from = d .1;
+      to = pledged-account o.credited.typ (t .1);
+      out = λ a q. debited-apart o d a q ∙ sym (none a);
+      into = λ a q. all a;
+      from-other = d .2;
+      to-other = pledged-not-requested o.credited.typ (t .1);
+    }
 
 takes-out :
     (n : ℕ) (o : Order) → PutIn o.credited.typ o.debited.typ → ((a : Account) → debitsOf a o ≡ releasedAt a n o) → ((a : Account) → putInAt a n o ≡ 0)
     → Shifts n o
 takes-out n o t all none =
     let c = free-quiet o.credited.typ (t .0) in
-    record { from = pledged-account o.debited.typ (t .1); to = c .1; out = λ a q. all a; into = λ a q. credited-apart o c a q ∙ sym (none a) }
+    record {
+      from = pledged-account o.debited.typ (t .1);
+      to = c .1;
+      out = λ a q. all a;
+      into = λ a q. credited-apart o c a q ∙ sym (none a);
+      from-other = pledged-not-requested o.debited.typ (t .1);
+      to-other = c .2;
+    }
 
 pub pledge-steps : Steps 6 transfer
 unfolding forms rowOf
 pledge-steps =
-    shifts 6 refl refl (refl and refl and refl and refl and refl and tt)
+    shifts 6 refl refl (refl and refl and refl and refl and refl and refl and refl and tt)
     (λ o w. puts-in 6 o (pledge-types o.debited.typ o.credited.typ w) (λ a. refl) (λ a. refl))
 
 pub release-steps : Steps 7 transfer
 unfolding forms rowOf
 release-steps =
-    shifts 7 refl refl (refl and refl and refl and refl and refl and tt)
+    shifts 7 refl refl (refl and refl and refl and refl and refl and refl and refl and tt)
     (λ o w. takes-out 7 o (release-types o.debited.typ o.credited.typ w) (λ a. refl) (λ a. refl))
 
 pub block-steps : Steps 8 transfer
 unfolding forms rowOf
 block-steps =
-    shifts 8 refl refl (refl and refl and refl and refl and refl and tt)
+    shifts 8 refl refl (refl and refl and refl and refl and refl and refl and refl and tt)
     (λ o w. puts-in 8 o (block-types o.debited.typ o.credited.typ w) (λ a. refl) (λ a. refl))
 
 pub unblock-steps : Steps 9 transfer
 unfolding forms rowOf
 unblock-steps =
-    shifts 9 refl refl (refl and refl and refl and refl and refl and tt)
+    shifts 9 refl refl (refl and refl and refl and refl and refl and refl and refl and tt)
     (λ o w. takes-out 9 o (unblock-types o.debited.typ o.credited.typ w) (λ a. refl) (λ a. refl))
 
 -- forms 10 and 11
@@ -233,7 +269,7 @@ payIn-steps b o e p a =
     let m = a.ranges.credited (needed 10 Field.credited-member o e refl) in
     moves-one 10 b o (member0 o.currency) (cashOf o.credited.member o.currency) o.amount.0 refl p refl tt tt tt (omega (arith, a.fits.currency))
     (m .0, m .1, omega (arith, a.fits.currency)) a.fits.amount
-    (record { held = λ c. refl; outside = λ c. refl; cash = λ c. omega arith; pledged = λ x q. (refl, refl) })
+    (record { held = λ c. refl; outside = λ c. refl; cash = λ c. omega arith; pledged = λ x q. (refl, refl); awaited = λ x q. (refl, refl) })
 
 pub payOut-steps : Steps 11 payOut
 unfolding payOut used least forms rowOf
@@ -242,4 +278,4 @@ payOut-steps b o e p a =
     moves-one 11 b o (cashOf o.debited.member o.currency) (member0 o.currency) o.amount.0 refl p refl tt tt
     (ltb-false _ _ (simp e at (little-parts b o a.little .2)))
     (m .0, m .1, omega (arith, a.fits.currency)) (omega (arith, a.fits.currency)) a.fits.amount
-    (record { held = λ c. refl; outside = λ c. refl; cash = λ c. omega arith; pledged = λ x q. (refl, refl) })
+    (record { held = λ c. refl; outside = λ c. refl; cash = λ c. omega arith; pledged = λ x q. (refl, refl); awaited = λ x q. (refl, refl) })

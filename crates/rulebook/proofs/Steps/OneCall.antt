@@ -9,11 +9,11 @@ use Rattle.rulebook.specs.declared.Order.{Order}
 use Rattle.rulebook.specs.declared.Account.{Account}
 use Rattle.rulebook.specs.declared.Security.{Security}
 use Rattle.plain.specs.Lists.{if_then_else_, _is_, _oneOf_}
-use Rattle.rulebook.specs.AccountTypes.{pledgedOrBlocked}
-use Rattle.rulebook.specs.Ledger.{Ledger, Holdings, accountOf, sameAccount, issuedOf, putSecurities}
+use Rattle.rulebook.specs.AccountTypes.{pledgedOrBlocked, requested}
+use Rattle.rulebook.specs.Ledger.{Ledger, Holdings, accountOf, requestAccount, sameAccount, issuedOf, putSecurities}
 use Rattle.rulebook.specs.Movements.{Place, account, type91, Movement, booked, bookHas}
 use Rattle.rulebook.specs.Rows.{postingRows}
-use Rattle.rulebook.specs.Forms.{Outcome, rowOf}
+use Rattle.rulebook.specs.Forms.{Outcome, newRequest, endedRequest, rowOf}
 use Rattle.rulebook.specs.Premise.{withCode, Premise}
 use Rattle.rulebook.proofs.ByCall.{Effect}
 use Rattle.rulebook.proofs.Orders.{Accepted}
@@ -36,26 +36,42 @@ putInAt a form o = if form oneOf (6 ∷ 8 ∷ []) && sameAccount (accountOf o.se
 abbrev pub releasedAt : Account → ℕ → Order → ℕ
 releasedAt a form o = if form oneOf (7 ∷ 9 ∷ []) && sameAccount (accountOf o.security o.debited) a then o.quantity.0 else 0
 
+-- the shares of a request that leave on paper; what a new request brings into an account, and what an ended one takes out of it
+abbrev pub paperAt : (security : ℕ) → ℕ → Ledger → Order → ℕ
+paperAt s form b o = if form is 20 && o.credited.typ is 91 && endedRequest b o .security is s then endedRequest b o .quantity .0 else 0
+
+abbrev pub askedAt : Account → ℕ → Ledger → Order → ℕ
+askedAt a form b o =
+    if form is 19 && sameAccount (requestAccount requested o.debited.member (newRequest b.day.number o)) a then o.quantity.0 else 0
+
+abbrev pub endedAt : Account → ℕ → Ledger → Order → ℕ
+endedAt a form b o =
+    if form is 20 && sameAccount (requestAccount requested o.debited.member (endedRequest b o)) a then endedRequest b o .quantity .0 else 0
+
 abbrev pub writesAt : ℕ → ℕ
 writesAt form = if rowOf form .posts then 1 else 0
 
 -- movements bring and take what the order's figures say
-pub record Figures (form : ℕ) (o : Order) (moves : List Movement) : Type 0 where
-  pub held : (s : ℕ) → heldOut s moves + sharesAt 3 s form o ≡ heldInto s moves + sharesAt 4 s form o
-  pub outside : (s : ℕ) → taken (type91 s) moves + (sharesAt 2 s form o + sharesAt 4 s form o) ≡ brought (type91 s) moves + sharesAt 3 s form o
+pub record Figures (form : ℕ) (b : Ledger) (o : Order) (moves : List Movement) : Type 0 where
+  pub held : (s : ℕ) → heldOut s moves + sharesAt 3 s form o ≡ heldInto s moves + (sharesAt 4 s form o + paperAt s form b o)
+  pub outside :
+      (s : ℕ) → taken (type91 s) moves + (sharesAt 2 s form o + (sharesAt 4 s form o + paperAt s form b o)) ≡ brought (type91 s) moves + sharesAt 3 s form o
   pub cash : (c : ℕ) → cashOut c moves + cashAt 10 c form o ≡ cashInto c moves + cashAt 11 c form o
   pub pledged :
       (a : Account) → pledgedOrBlocked a.typ ≡ true → (taken (account a) moves ≡ releasedAt a form o) × (brought (account a) moves ≡ putInAt a form o)
+  pub awaited :
+      (a : Account) → (a.typ is requested) ≡ true → (taken (account a) moves ≡ endedAt a form b o) × (brought (account a) moves ≡ askedAt a form b o)
 
 -- a security may be admitted first: what is kept stays, codes stay distinct, and its issued count is the order's quantity
 pub record Admits (form : ℕ) (o : Order) (h : Holdings) (listed : List Security) : Type 0 where
   pub keeps : (p : Place) → bookHas p (putSecurities listed h) ≡ bookHas p h
   pub codes : (c : ℕ) → withCode c listed ≤ 1
+  pub still : (c : ℕ) → withCode c h.securities ≤ withCode c listed
   pub issued : (s : ℕ) → sharesAt 2 s form o + issuedOf s h ≡ issuedOf s (putSecurities listed h)
 
 pub admits-none : (form : ℕ) (o : Order) (h : Holdings) → (form is 2) ≡ false → ((c : ℕ) → withCode c h.securities ≤ 1) → Admits form o h h.securities
 unfolding putSecurities
-admits-none form o h e c = record { keeps = λ p. refl; codes = c; issued = λ s. simp e (omega arith) }
+admits-none form o h e c = record { keeps = λ p. refl; codes = c; still = λ c. omega arith; issued = λ s. simp e (omega arith) }
 
 -- what a form's outcome is
 pub record Step (form : ℕ) (b : Ledger) (o : Order) (x : Outcome) : Type 0 where
@@ -68,7 +84,7 @@ pub record Step (form : ℕ) (b : Ledger) (o : Order) (x : Outcome) : Type 0 whe
   pub rows : writesAt form ≡ 1 → x.rows ≡ postingRows moves
   pub notices : writesAt form ≡ 0 → moves ≡ []
   pub counted : x.counts.rows ≡ length x.rows
-  pub figures : Figures form o moves
+  pub figures : Figures form b o moves
 
 -- a form makes such a step
 abbrev pub Steps : ℕ → Effect → Type 0
@@ -79,6 +95,11 @@ module _ (form : ℕ) (b : Ledger) (o : Order) (x : Outcome) (t : Step form b o 
   step-codes c =
       subst (λ (h : Holdings). withCode c h.securities ≤ 1) (sym (t .holds))
       (unfold putSecurities in omega (arith, booked-codes (t .moves) (putSecurities (t .listed) b.holdings) c, t .admits .codes c))
+
+  pub step-still : (c : ℕ) → withCode c b.holdings.securities ≤ withCode c x.after.holdings.securities
+  step-still c =
+      subst (λ (h : Holdings). withCode c b.holdings.securities ≤ withCode c h.securities) (sym (t .holds))
+      (unfold putSecurities in omega (arith, booked-codes (t .moves) (putSecurities (t .listed) b.holdings) c, t .admits .still c))
 
   pub step-issued : (s : ℕ) → sharesAt 2 s form o + issuedOf s b.holdings ≡ issuedOf s x.after.holdings
   step-issued s = t .admits .issued s ∙ sym (booked-issued s (t .moves) (putSecurities (t .listed) b.holdings)) ∙ ap (issuedOf s) (sym (t .holds))

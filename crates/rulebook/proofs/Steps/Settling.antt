@@ -21,7 +21,8 @@ use Rattle.rulebook.proofs.Reading.{Proper, AllProper}
 use Rattle.rulebook.proofs.Sums.{heldInto, heldOut, cashInto, cashOut}
 use Rattle.rulebook.proofs.EveryCall.Items.{PartyPosts, ItemPosts, item-posts}
 use Rattle.rulebook.proofs.Steps.OneCall.{admits-none, Steps}
-use Rattle.rulebook.proofs.Steps.Moving.{party-apart}
+use Rattle.rulebook.proofs.Types.{Quiet}
+use Rattle.rulebook.proofs.Steps.Moving.{party-apart, awaits}
 
 legs-known : (h : Holdings) (ts : List Item) → AllKnown h (legs ts)
 unfolding legs
@@ -48,16 +49,16 @@ legs-proper (t ∷ rest) e =
       ),
     )
 
-legs-pledged :
-    (a : Account) → pledgedOrBlocked a.typ ≡ true → (ts : List Item) → Each ItemPosts ts → (taken (account a) (legs ts) ≡ 0)
-    × (brought (account a) (legs ts) ≡ 0)
-unfolding legs seller buyer
-legs-pledged a q [] e = (refl, refl)
-legs-pledged a q (t ∷ rest) e =
-    let l = legs-pledged a q rest (e .1) in (
-      omega (arith, l .0, party-apart t.security t.debited (e .0 .debited .quiet) t.quantity.0 a q),
-      omega (arith, l .1, party-apart t.security t.credited (e .0 .credited .quiet) t.quantity.0 a q),
-    )
+-- trades neither debit nor credit an account whose type a test tells from those of their parties
+module _ (test : ℕ → Bool) (not-quiet : (t : ℕ) → Quiet t → test t ≡ false) (a : Account) (q : test a.typ ≡ true) where
+  legs-apart : (ts : List Item) → Each ItemPosts ts → (taken (account a) (legs ts) ≡ 0) × (brought (account a) (legs ts) ≡ 0)
+  unfolding legs seller buyer
+  legs-apart [] e = (refl, refl)
+  legs-apart (t ∷ rest) e =
+      let l = legs-apart rest (e .1) in (
+        omega (arith, l .0, party-apart test t.security t.debited (not-quiet _ (e .0 .debited .quiet)) t.quantity.0 a q),
+        omega (arith, l .1, party-apart test t.security t.credited (not-quiet _ (e .0 .credited .quiet)) t.quantity.0 a q),
+      )
 
 -- what the legs bring and take is what the cycle counts
 module _
@@ -155,6 +156,7 @@ cycle-steps b o e p a =
         held = λ c. omega (arith, legs-sums ts .0 c);
         outside = λ c. omega (arith, legs-sums ts .1 c .0, legs-sums ts .1 c .1);
         cash = λ c. omega (arith, legs-sums ts .2 c);
-        pledged = λ x q. legs-pledged x q ts i;
+        pledged = λ x q. legs-apart pledgedOrBlocked (λ t y. y .0) x q ts i;
+        awaited = λ x q. legs-apart awaits (λ t y. y .2) x q ts i;
       };
     }
