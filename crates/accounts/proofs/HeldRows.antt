@@ -13,6 +13,7 @@ use Rattle.rulebook.specs.Premise.{accountCount}
 use Rattle.rulebook.specs.declared.Account.{Account}
 use Rattle.rulebook.proofs.Held.{held-put, held-put-other, accounts-put}
 use Rattle.rulebook.proofs.Sums.{none-held}
+use Rattle.rulebook.proofs.Sizes.{counted-some, counted-none}
 use Rattle.rulebook.proofs.EveryCall.{fresh-premise}
 use Rattle.rulebook.specs.Ranges.{AccountInRange}
 use Rattle.words.specs.Tables.{rows, keyAt, sumOf, valueOf}
@@ -20,7 +21,7 @@ use Rattle.words.proofs.Tables.{key-once}
 use Rattle.accounts.specs.Keys.{keyOf, securityOf, inRange}
 use Rattle.accounts.specs.Map.{balanceAt, balanceOf, withAccounts, Kept}
 use Rattle.accounts.proofs.Keys.{range-true, range-holds, account-range, key-back, key-test, other-range, accountOf}
-use Rattle.accounts.proofs.Rows.{balance-some, counted-some, counted-none}
+use Rattle.accounts.proofs.Rows.{balance-some}
 
 -- what is held, and how many accounts have a balance, goes by the balances alone
 same-held : (s : ℕ) (h k : Holdings) → h.balance ≡ k.balance → held s h ≡ held s k

@@ -1,13 +1,13 @@
 -- The accounts' words as a map from accounts to balances, and what is kept true of them.
-use Prim.Native.Nat.{ℕ, _+_, _-_, _^_, _≤_, _<_}
-use mathlib.Core.List.{List}
+use Prim.Native.Nat.{ℕ, _+_, _^_, _≤_, _<_}
+use mathlib.Core.List.{List, [], _∷_}
 use mathlib.Core.Path.{_≡_}
-use lib.ListN.{length, getD, set}
+use lib.ListN.{length, getD}
 use Rattle.plain.specs.Lists.{if_then_else_, _is_, _below_}
 use Rattle.rulebook.specs.Ledger.{Holdings}
 use Rattle.rulebook.specs.declared.Account.{Account}
 use Rattle.rulebook.specs.Ranges.{AccountInRange}
-use Rattle.words.specs.Tables.{rows, keyAt, sumOf, valueOf, KeysOnce}
+use Rattle.words.specs.Tables.{rows, sumOf, valueOf, KeysOnce, withRow, withoutRow}
 use Rattle.accounts.specs.Keys.{keyOf, inRange}
 
 -- the balances are the column that starts at word 257
@@ -17,13 +17,12 @@ BALANCES = 257
 abbrev pub balanceAt : List ℕ → ℕ → ℕ
 balanceAt accounts i = getD accounts (i + BALANCES) 0
 
--- the words with an account more, and without the one at i, into whose place the last one comes
+-- the words with an account more, and without the one at i
 abbrev pub opened : List ℕ → (key balance : ℕ) → List ℕ
-opened accounts key balance = set (set (set accounts (rows accounts + 1) key) (rows accounts + BALANCES) balance) 0 (rows accounts + 1)
+opened accounts key balance = withRow ((1, key) ∷ (BALANCES, balance) ∷ []) accounts
 
 abbrev pub removed : List ℕ → ℕ → List ℕ
-removed accounts i =
-    set (set (set accounts (i + 1) (keyAt accounts (rows accounts - 1))) (i + BALANCES) (balanceAt accounts (rows accounts - 1))) 0 (rows accounts - 1)
+removed accounts i = withoutRow (1 ∷ BALANCES ∷ []) i accounts
 
 -- what an account holds: 0 where there is none
 unfoldable pub balanceOf : List ℕ → Account → ℕ

@@ -1,4 +1,5 @@
 -- Lists by places, tables and regions of words.
 pub mod Places
 pub mod Tables
+pub mod OneRow
 pub mod Regions
