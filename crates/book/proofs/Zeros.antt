@@ -8,8 +8,9 @@ use mathlib.Core.Path.{_≡_, refl, ap, sym, _∙_, subst, fun-ext}
 use lib.ListN.{length, getD, set, take, replicate, replicate-append-replicate}
 use lib.Seq.{take-suc-set}
 use Rattle.plain.specs.Lists.{if_then_else_, sumBelow}
-use Rattle.rulebook.specs.Ledger.{firstRate, fresh, putRate}
+use Rattle.rulebook.specs.Ledger.{firstRate, noRequest, fresh, putRate}
 use Rattle.rulebook.specs.declared.Account.{Account}
+use Rattle.rulebook.specs.declared.Request.{Request}
 use Rattle.rulebook.proofs.EveryCall.{fresh-premise}
 use Rattle.words.specs.Places.{listFrom}
 use Rattle.words.specs.Tables.{sumOf, valueOf}
@@ -18,7 +19,9 @@ use Rattle.accounts.specs.Keys.{inRange}
 use Rattle.accounts.specs.Map.{balanceOf}
 use Rattle.cash.specs.Amounts.{kept, place, amountOf}
 use Rattle.waiting_list.specs.Waiting.{itemsOf}
-use Rattle.book.specs.Meaning.{bookLength, ACCOUNTS, CASH, part, holdingsOf, waitingOf, ledgerOf}
+use Rattle.requests.specs.Packed as packed
+use Rattle.requests.specs.Map.{askedOf}
+use Rattle.book.specs.Meaning.{bookLength, ACCOUNTS, CASH, REQUESTS, part, holdingsOf, waitingOf, requestsOf, ledgerOf}
 use Rattle.book.specs.Stored.{Stored, Kept, Means}
 use Rattle.book.proofs.Parts.{next}
 
@@ -46,6 +49,14 @@ no-cash m c = go (kept m c)
     go true = zero-word 128 (place m c)
     go false = refl
 
+no-request : (member reference : ℕ) → askedOf (part REQUESTS zeros) member reference ≡ noRequest
+unfolding askedOf valueOf sumOf sumBelow
+no-request m n = go (packed.inRange m n)
+  where
+    go : (b : Bool) → _≡_ {A = Request} (if b then noRequest else noRequest) noRequest
+    go true = refl
+    go false = refl
+
 stored : Stored zeros
 unfolding sumOf sumBelow
 stored = record {
@@ -56,16 +67,18 @@ stored = record {
         securities = record { long = refl; size = omega arith; once = λ key. omega arith };
         accounts = record { long = refl; size = omega arith; once = λ key. omega arith; some = refl; keys = refl };
         items = record { long = refl; size = omega arith };
+        requests = record { long = refl; size = omega arith; once = λ key. omega arith; some = refl };
       };
 }
 
 ledger : ledgerOf zeros ≡ putRate 0 fresh
-unfolding fresh putRate holdingsOf waitingOf securitiesOf itemsOf listFrom
+unfolding fresh putRate holdingsOf waitingOf requestsOf securitiesOf itemsOf listFrom
 ledger = λ i. record {
   day = fresh .day;
   holdings = record { securities = []; balance = fun-ext no-balance i; accounts = 0; cash = fun-ext (λ m. fun-ext (no-cash m)) i };
   waiting = [];
   rate = 0;
+  requests = record { asked = fun-ext (λ m. fun-ext (no-request m)) i; number = 0 };
 }
 
 pub zeros-mean : Means zeros (putRate 0 fresh)

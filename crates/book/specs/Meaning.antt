@@ -3,7 +3,7 @@ use Prim.Native.Nat.{ℕ}
 use mathlib.Core.List.{List, [], _∷_}
 use lib.ListN.{getD}
 use Rattle.plain.specs.Lists.{_is_}
-use Rattle.rulebook.specs.Ledger.{Ledger, Holdings}
+use Rattle.rulebook.specs.Ledger.{Ledger, Holdings, Requests}
 use Rattle.rulebook.specs.declared.Day.{Day}
 use Rattle.rulebook.specs.declared.Item.{Item}
 use Rattle.words.specs.Regions.{region, whole}
@@ -12,10 +12,12 @@ use Rattle.securities.specs.Admitted.{securitiesOf}
 use Rattle.accounts.specs.Map.{balanceOf}
 use Rattle.cash.specs.Amounts.{amountOf}
 use Rattle.waiting_list.specs.Waiting.{itemsOf}
+use Rattle.requests.specs.Map as requests
 
--- the regions of a book and how many words each has: the day, the securities, the accounts, the members' cash, the waiting list, the rate
+-- the regions of a book and how many words each has: the day, the securities, the accounts, the members' cash, the waiting list, the rate, the open
+-- requests for paper
 abbrev pub widths : List ℕ
-widths = 8 ∷ 97 ∷ 513 ∷ 128 ∷ 1025 ∷ 1 ∷ []
+widths = 8 ∷ 97 ∷ 513 ∷ 128 ∷ 1025 ∷ 1 ∷ 49 ∷ []
 
 -- how many words a book has
 abbrev pub bookLength : ℕ
@@ -40,6 +42,9 @@ ITEMS = 4
 abbrev pub RATE : ℕ
 RATE = 5
 
+abbrev pub REQUESTS : ℕ
+REQUESTS = 6
+
 abbrev pub part : ℕ → List ℕ → List ℕ
 part r book = region widths r book
 
@@ -63,15 +68,32 @@ holdingsBy p =
 
 -- the same of the whole ledger, for the proofs: one region at a time is replaced
 abbrev pub ledgerBy : (ℕ → List ℕ) → Ledger
-ledgerBy p = record { day = dayIn (p DAY); holdings = holdingsBy p; waiting = itemsOf (p ITEMS); rate = rateIn (p RATE) }
+ledgerBy p =
+    record {
+      day = dayIn (p DAY);
+      holdings = holdingsBy p;
+      waiting = itemsOf (p ITEMS);
+      rate = rateIn (p RATE);
+      requests = requests.requestsOf (p REQUESTS);
+    }
 
--- the holdings and the waiting list of a book
+-- the holdings, the waiting list and the open requests of a book
 unfoldable pub holdingsOf : List ℕ → Holdings
 holdingsOf book = holdingsBy (λ r. part r book)
 
 unfoldable pub waitingOf : List ℕ → List Item
 waitingOf book = itemsOf (part ITEMS book)
 
+unfoldable pub requestsOf : List ℕ → Requests
+requestsOf book = requests.requestsOf (part REQUESTS book)
+
 -- the ledger that a book means
 abbrev pub ledgerOf : List ℕ → Ledger
-ledgerOf book = record { day = dayIn (part DAY book); holdings = holdingsOf book; waiting = waitingOf book; rate = rateIn (part RATE book) }
+ledgerOf book =
+    record {
+      day = dayIn (part DAY book);
+      holdings = holdingsOf book;
+      waiting = waitingOf book;
+      rate = rateIn (part RATE book);
+      requests = requestsOf book;
+    }

@@ -5,22 +5,23 @@ ghost use mathlib.Core.List.{_++_, _∷_, []};
 ghost use Prim.Native.Nat.{ℕ, _+_, _^_, _≤_, _<_};
 ghost use lib.ListN.{length, getD, set, take};
 ghost use Rattle.rulebook.specs.Ledger as Ledger;
-ghost use Rattle.rulebook.specs.Ledger.{putDay, putRate, admitted, outsideOf, cashTotal};
+ghost use Rattle.rulebook.specs.Ledger.{putDay, putRate, admitted, outsideOf, cashTotal, noRequest, putRequest};
 ghost use Rattle.rulebook.specs.Matching.{pairsWith};
 ghost use Rattle.rulebook.specs.Movements as movements;
 ghost use Rattle.rulebook.specs.Premise.{CashFits};
 ghost use Rattle.rulebook.specs.Waiting.{sentBy};
 ghost use Rattle.rulebook.specs.Ranges.{AccountInRange};
 ghost use Rattle.words.specs.Places.{removeAt};
-ghost use Rattle.book.specs.Keys.{keyOf, CreditFits};
-ghost use Rattle.book.specs.Meaning.{dayIn, rateIn, ledgerOf, holdingsOf, waitingOf};
-ghost use Rattle.book.specs.Stored.{Stored, Becomes, HoldingsBecome, WaitingBecomes, withSecurity};
+ghost use Rattle.book.specs.Keys.{keyOf, CreditFits, ReferenceInRange, RequestInRange};
+ghost use Rattle.book.specs.Meaning.{dayIn, rateIn, ledgerOf, holdingsOf, waitingOf, requestsOf};
+ghost use Rattle.book.specs.Stored.{Stored, Becomes, HoldingsBecome, WaitingBecomes, RequestsBecome, withSecurity};
 ghost use Rattle.book.specs.Fresh.{Freshened};
 use rulebook::Account;
 use rulebook::Cents;
 use rulebook::Day;
 use rulebook::Item;
 use rulebook::Rate;
+use rulebook::Request;
 use rulebook::Security;
 use rulebook::Shares;
 
@@ -37,7 +38,9 @@ const ITEMS: usize = CASH + 128;
 
 const RATE: usize = ITEMS + 1025;
 
-const END: usize = RATE + 1;
+const REQUESTS: usize = RATE + 1;
+
+const END: usize = REQUESTS + 49;
 
 // The rate as long as none was set.
 const FIRST_RATE: u64 = 150_750;
@@ -322,7 +325,7 @@ pub fn rate(book: &[u64]) -> Rate
     requires { ⌜ Stored (now book) ⌝ }
     ensures { λ r. ⌜ r .0 ≡ ledgerOf (now (book .entry)) .rate ⌝ }
 {
-    rate_in(&book[RATE..END])
+    rate_in(&book[RATE..REQUESTS])
 }
 
 // The book's rate becomes `rate`.
@@ -330,7 +333,44 @@ pub fn put_rate(book: &mut [u64], rate: Rate)
     requires { ⌜ Stored (now book) ⌝ }
     ensures { λ u. ⌜ Becomes (putRate (rate .0)) (now (book .entry)) (now (book .exit)) ⌝ }
 {
-    put_rate_in(&mut book[RATE..END], rate);
+    put_rate_in(&mut book[RATE..REQUESTS], rate);
+}
+
+// ---- requests for paper
+
+// How many requests are open.
+pub fn requests(book: &[u64]) -> u64
+    requires { ⌜ Stored (now book) ⌝ }
+    ensures { λ r. ⌜ r ≡ requestsOf (now (book .entry)) .number ⌝ }
+{
+    words::rows(&book[REQUESTS..END])
+}
+
+// What the member has open under the reference: all 0 where there is none.
+pub fn request(book: &[u64], member: u64, reference: u64) -> Request
+    requires { ⌜ Stored (now book) × ReferenceInRange member reference ⌝ }
+    ensures { λ r. ⌜ r ≡ requestsOf (now (book .entry)) .asked member reference ⌝ }
+{
+    requests::request(&book[REQUESTS..END], member, reference)
+}
+
+// The member has the request open under the reference.
+pub fn open_request(book: &mut [u64], member: u64, reference: u64, request: Request)
+    requires { ⌜
+        Stored (now book) × ReferenceInRange member reference × RequestInRange request
+        × (requestsOf (now book) .number < 16) × (requestsOf (now book) .asked member reference .quantity .0 ≡ 0)
+        ⌝ }
+    ensures { λ u. ⌜ RequestsBecome (putRequest member reference request) (now (book .entry)) (now (book .exit)) ⌝ }
+{
+    requests::open_request(&mut book[REQUESTS..END], member, reference, request);
+}
+
+// The request that the member has open under the reference ends.
+pub fn end_request(book: &mut [u64], member: u64, reference: u64)
+    requires { ⌜ Stored (now book) × ReferenceInRange member reference × (0 < requestsOf (now book) .asked member reference .quantity .0) ⌝ }
+    ensures { λ u. ⌜ RequestsBecome (putRequest member reference noRequest) (now (book .entry)) (now (book .exit)) ⌝ }
+{
+    requests::end_request(&mut book[REQUESTS..END], member, reference);
 }
 
 // ---- the fresh book

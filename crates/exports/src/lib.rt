@@ -4,7 +4,7 @@ ghost use mathlib.Core.List.{_∷_, []};
 ghost use lib.ListN.{length};
 ghost use Rattle.rulebook.specs.Ledger as Ledger;
 ghost use Rattle.book.specs.Meaning.{ledgerOf};
-ghost use Rattle.figures.specs.Figures.{dayFigures, sizeFigures, securityFigures, itemFigures};
+ghost use Rattle.figures.specs.Figures.{dayFigures, sizeFigures, securityFigures, requestFigures, itemFigures};
 ghost use Rattle.exports.specs.Lent.{fieldWords, Lent, FreshIn};
 ghost use Rattle.exports.specs.Words.{fieldsRead, CalledWith, ReadInto, WrittenFrom};
 ghost use Rattle.exports.specs.Told.{lengthsNumber, Tells, TellsAt};
@@ -160,20 +160,21 @@ pub extern "C" fn depository_rate(book: &[u64], values: &mut [u64]) -> u64
     0
 }
 
-// How many securities are admitted, how many accounts there are, how many items wait.
+// How many securities are admitted, how many accounts there are, how many items wait, how many requests for paper are open.
 #[no_mangle]
 pub extern "C" fn depository_sizes(book: &[u64], values: &mut [u64]) -> u64
     requires { ⌜ Lent (now book) ⌝ }
     ensures { λ r. ⌜ Tells (now (book .entry)) (now (values .entry)) (sizeFigures (ledgerOf (now (book .entry)))) r (now (values .exit)) ⌝ }
 {
-    let wrong = lengths(book.len(), values.len(), 3);
+    let wrong = lengths(book.len(), values.len(), 4);
     if wrong != 0 {
         return wrong;
     }
     let securities = reading::securities(book) as u64;
     let accounts = reading::accounts(book);
     let items = reading::items(book) as u64;
-    let figures = [securities, accounts, items];
+    let requests = reading::requests(book);
+    let figures = [securities, accounts, items, requests];
     words::write(values, 0, &figures);
     0
 }
@@ -290,5 +291,27 @@ pub extern "C" fn depository_item(book: &[u64], place: usize, values: &mut [u64]
         return NO_SUCH_PLACE;
     }
     figures::put_item(values, reading::item_at(book, place));
+    0
+}
+
+// The request for paper that a member has open under a reference.
+#[no_mangle]
+pub extern "C" fn depository_request(
+    book: &[u64],
+    member: u64,
+    reference: u64,
+    values: &mut [u64],
+) -> u64
+    requires { ⌜ Lent (now book) ⌝ }
+    ensures { λ r. ⌜
+        Tells (now (book .entry)) (now (values .entry)) (requestFigures (ledgerOf (now (book .entry)) .requests .asked member reference))
+        r (now (values .exit))
+        ⌝ }
+{
+    let wrong = lengths(book.len(), values.len(), 5);
+    if wrong != 0 {
+        return wrong;
+    }
+    figures::put_request(values, reading::request(book, member, reference));
     0
 }

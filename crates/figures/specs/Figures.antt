@@ -7,6 +7,7 @@ use Rattle.rulebook.specs.Ledger.{Ledger, Holdings, held}
 use Rattle.rulebook.specs.declared.Counts.{Counts}
 use Rattle.rulebook.specs.declared.Day.{Day}
 use Rattle.rulebook.specs.declared.Item.{Item}
+use Rattle.rulebook.specs.declared.Request.{Request}
 use Rattle.rulebook.specs.declared.Security.{Security}
 use Rattle.rulebook.specs.declared.State.{State}
 use Rattle.rulebook.specs.declared.State.the-variants.{Single, Pair, Trade}
@@ -19,9 +20,9 @@ countFigures c = c.rows ∷ c.settled ∷ c.cancelled ∷ c.deleted ∷ c.suspen
 abbrev pub dayFigures : Day → List ℕ
 dayFigures d = d.number ∷ bit d.opened ∷ d.kind ∷ d.cycles ∷ d.minute ∷ []
 
--- how many securities, accounts, waiting items
+-- how many securities, accounts, waiting items, open requests
 abbrev pub sizeFigures : Ledger → List ℕ
-sizeFigures b = length b.holdings.securities ∷ b.holdings.accounts ∷ length b.waiting ∷ []
+sizeFigures b = length b.holdings.securities ∷ b.holdings.accounts ∷ length b.waiting ∷ b.requests.number ∷ []
 
 -- a security, with what its accounts hold
 abbrev pub securityWith : Security → ℕ → List ℕ
@@ -29,6 +30,9 @@ securityWith s held = s.code ∷ s.issued.0 ∷ held ∷ s.outside.0 ∷ []
 
 abbrev pub securityFigures : Holdings → Security → List ℕ
 securityFigures h s = securityWith s (held s.code h)
+
+abbrev pub requestFigures : Request → List ℕ
+requestFigures r = r.security ∷ r.typ ∷ r.shareholder ∷ r.quantity.0 ∷ r.day ∷ []
 
 -- 1 deliver, 2 receive, 3 pair, 4 exchange trade; its reference, which is the deliver's in a pair, and the receive's there; which halves are marked
 abbrev pub stateFigures : State → StateFigures

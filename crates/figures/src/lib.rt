@@ -1,10 +1,11 @@
 // A call's counts and what a book says, as words in a buffer of the right length.
 ghost use mathlib.Core.Path.{_≡_};
 ghost use lib.ListN.{length};
-ghost use Rattle.figures.specs.Figures.{countFigures, dayFigures, securityWith, stateFigures, itemFigures};
+ghost use Rattle.figures.specs.Figures.{countFigures, dayFigures, securityWith, requestFigures, stateFigures, itemFigures};
 use rulebook::Counts;
 use rulebook::Day;
 use rulebook::Item;
+use rulebook::Request;
 use rulebook::Security;
 use rulebook::Shares;
 use rulebook::State;
@@ -50,6 +51,21 @@ pub fn put_security(values: &mut [u64], security: Security, held: Shares)
     ensures { λ u. ⌜ now (values .exit) ≡ securityWith security (held .0) ⌝ }
 {
     let figures = [security.code, security.issued.0, held.0, security.outside.0];
+    words::write(values, 0, &figures);
+}
+
+// A request for paper goes into 5 words.
+pub fn put_request(values: &mut [u64], request: Request)
+    requires { ⌜ length (now values) ≡ 5 ⌝ }
+    ensures { λ u. ⌜ now (values .exit) ≡ requestFigures request ⌝ }
+{
+    let figures = [
+        request.security,
+        request.typ,
+        request.shareholder,
+        request.quantity.0,
+        request.day,
+    ];
     words::write(values, 0, &figures);
 }
 

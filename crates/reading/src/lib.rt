@@ -10,6 +10,7 @@ use rulebook::Cents;
 use rulebook::Day;
 use rulebook::Item;
 use rulebook::Rate;
+use rulebook::Request;
 use rulebook::Security;
 use rulebook::Shares;
 
@@ -97,4 +98,29 @@ pub fn item_at(book: &[u64], i: usize) -> Item
     ensures { λ r. ⌜ ((d : Item) → r ≡ getD (ledgerOf (now (book .entry)) .waiting) i d) ⌝ }
 {
     book::item_at(book, i)
+}
+
+// How many requests for paper are open.
+pub fn requests(book: &[u64]) -> u64
+    requires { ⌜ Kept (now book) ⌝ }
+    ensures { λ r. ⌜ r ≡ ledgerOf (now (book .entry)) .requests .number ⌝ }
+{
+    book::requests(book)
+}
+
+// What a member has open under a reference: all 0 where there is none, also where no record can name them.
+pub fn request(book: &[u64], member: u64, reference: u64) -> Request
+    requires { ⌜ Kept (now book) ⌝ }
+    ensures { λ r. ⌜ r ≡ ledgerOf (now (book .entry)) .requests .asked member reference ⌝ }
+{
+    if requests::is_named(member, reference) {
+        return book::request(book, member, reference);
+    }
+    Request {
+        security: 0,
+        typ: 0,
+        shareholder: 0,
+        quantity: Shares(0),
+        day: 0,
+    }
 }

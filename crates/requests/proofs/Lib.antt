@@ -1,0 +1,4 @@
+-- The laws of the requests' words.
+pub mod Packed
+pub mod Map
+pub mod Changed

@@ -1,0 +1,3 @@
+-- The open requests for paper of a book: their numbers, and the words as a map.
+pub mod Packed
+pub mod Map
