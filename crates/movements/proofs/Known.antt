@@ -1,15 +1,14 @@
 -- What is known of a book and an order that no refusal applies to, as the book's functions ask for it. Assumes nothing.
-use Prim.Native.Nat.{ℕ, _+_, _-_, _≤_, _<_, _^_}
-use mathlib.Core.Path.{_≡_, refl, sym, ap, _∙_}
-use mathlib.Core.Bool.{Bool, true, false, _&&_}
+use Prim.Native.Nat.{ℕ, _+_, _≤_, _<_, _^_}
+use mathlib.Core.Path.{_≡_, refl, sym, _∙_}
+use mathlib.Core.Bool.{false, _&&_}
 use mathlib.Core.List.{List}
 use native.Mathlib.Omega.{arith}
 use lib.ListN.{length}
-use borrow.Author.Tests.{ltb-false, eq-eqb, eqb-true}
+use borrow.Author.Tests.{ltb-false, eq-eqb, le-leb}
 use Rattle.plain.proofs.Tests.{not-second}
-use Rattle.plain.specs.Lists.{_is_, _isNot_, _below_, within}
-use Rattle.rulebook.specs.Ledger.{Ledger, Holdings, accountOf, sameAccount, admitted, outsideOf, counted, putBalance, putHoldings}
-use Rattle.rulebook.specs.Movements.{account, credit, debit}
+use Rattle.plain.specs.Lists.{_is_, _below_}
+use Rattle.rulebook.specs.Ledger.{Ledger, accountOf, sameAccount, admitted, outsideOf}
 use Rattle.rulebook.specs.Premise.{CashFits}
 use Rattle.rulebook.specs.Field as Field
 use Rattle.rulebook.specs.Forms.{forms, rowOf, used, least}
@@ -17,21 +16,14 @@ use Rattle.rulebook.specs.declared.Account.{Account}
 use Rattle.rulebook.specs.declared.Order.{Order}
 use Rattle.rulebook.proofs.Orders.{little-parts, debit-enough, not-admitted, needed}
 use Rattle.rulebook.proofs.Bounds.{balance-fits, outside-fits, cash-fits}
-use Rattle.rulebook.proofs.Space.{admit-space, deposit-space, transfer-space, sides-apart, same-sym}
-use Rattle.rulebook.specs.Ranges.{AccountInRange}
+use Rattle.rulebook.proofs.Space.{admit-space, deposit-space, transfer-space, sides-apart}
 use Rattle.accounts.specs.Map.{CreditFits}
-use Rattle.parties.specs.Counted.{outsideAccount}
 use Rattle.rows.specs.Widths as rows
 use Rattle.book.specs.Meaning.{ledgerOf}
-use Rattle.book.proofs.Parts.{stored-counted}
 use Rattle.checking.specs.Given.{Given}
 use Rattle.checking.proofs.Passed.{known}
 use Rattle.checking.proofs.Orders.{fits, ranges, debited-named, credited-named, some-quantity}
-use Rattle.movements.proofs.Swap.{counted-among, counted-some, counted-most, counted-zero, debit-first}
-
--- types 90 and 91
-pub outside-row : (typ security : ℕ) → typ < 2 ^ 8 → security < 2 ^ 14 → AccountInRange (outsideAccount typ security)
-outside-row typ security l m = record { security = m; member = omega arith; typ = l; shareholder = omega arith }
+use Rattle.booking.specs.Fits.{ShiftFits, LeaveFits}
 
 -- a member's cash as a row names it, and member 0
 pub cash-row : (m c : ℕ) → CashFits m c → rows.CashInRange m c × rows.CashInRange 0 c
@@ -79,74 +71,38 @@ module _ (book : List ℕ) (o : Order) (g : Given book o) where
         room = λ z. omega (arith, ltb-false 255 room (not-second (b.holdings.balance to is 0) (255 below room) full (eq-eqb _ 0 z)));
       }
 
-  pub outside-fits-word : outsideOf o.security b.holdings + o.quantity.0 < 2 ^ 64
-  outside-fits-word = omega (arith, outside-fits b g.kept.premise o.security, fits o g.read .quantity)
-
-  -- ---- forms 4 to 9
-
-  pub debits-enough : {a : Account} → a ≡ from → within 4 9 o.form ≡ true → o.quantity.0 ≤ b.holdings.balance a
-  debits-enough e t = rw e (debit-enough b o (known g .little) t)
+  pub withdrawal-fits : o.form ≡ 4 → {x : Account} → x ≡ from → LeaveFits b x o.quantity.0
+  unfolding accountOf
+  withdrawal-fits e f = rw f (record {
+    named = debited-named o g.read;
+    some = some-quantity o g.read (omega (arith, e)) (omega (arith, e));
+    enough = debit-enough b o (known g .little) (rw e);
+    word = omega (arith, outside-fits b g.kept.premise o.security, fits o g.read .quantity);
+  })
 
   -- ---- forms 5 to 9
 
-  module _ (l : 5 ≤ o.form) (u : o.form ≤ 9) (t : within 4 9 o.form ≡ true) where
+  module _ (l : 5 ≤ o.form) (u : o.form ≤ 9) where
+    enough : o.quantity.0 ≤ b.holdings.balance from
+    enough = debit-enough b o (known g .little) (rw (le-leb 4 o.form (omega (arith, l)), le-leb o.form 9 u))
+
     quantity : 1 ≤ o.quantity.0
     quantity = some-quantity o g.read (omega arith) u
 
     apart : sameAccount to from ≡ false
     apart = sides-apart b o l u (known g .types) (known g .parties)
 
-    listed : 1 ≤ b.holdings.accounts
-    listed =
-        let some = counted-some (b.holdings.balance from) (omega (arith, debits-enough refl t, quantity)) in
-        omega (arith, stored-counted book g.kept.stored, counted-among b.holdings from (debited-named o g.read), some)
-
-    apart′ : sameAccount from to ≡ false
-    apart′ = same-sym from to ∙ apart
-
-    pub transfer-swap :
-        {x y : Account} → x ≡ from → y ≡ to
-        → credit (account y) o.quantity.0 (debit (account x) o.quantity.0 b.holdings)
-        ≡ debit (account x) o.quantity.0 (credit (account y) o.quantity.0 b.holdings)
-    transfer-swap e f = rw (e, f) (debit-first b.holdings from to o.quantity.0 quantity (debits-enough refl t) apart apart′ listed)
-
-    abbrev opens : Bool
-    opens = b.holdings.balance to is 0 && b.holdings.balance from isNot o.quantity.0
-
-    abbrev debited : Holdings
-    debited = debit (account from) o.quantity.0 b.holdings
-
-    debited-fits : CreditFits to (debited .balance to) (debited .accounts) o.quantity.0
-    unfolding debit putBalance
-    debited-fits = rw apart′ (record {
-      named = credited-named o g.read;
+    pub transfer-fits : {x y : Account} → x ≡ from → y ≡ to → ShiftFits b x y o.quantity.0
+    transfer-fits e f = rw (e, f) (record {
+      from-named = debited-named o g.read;
+      to-named = credited-named o g.read;
+      apart = apart;
       some = quantity;
+      enough = enough;
       word = omega (arith, balance-fits b g.kept.premise to, fits o g.read .quantity);
-      room = λ z. left (b.holdings.balance from is o.quantity.0) refl (eq-eqb _ 0 z);
+      size = g.kept.premise.sizes.accounts;
+      room = sym (transfer-space b o g.kept.premise.sizes l u quantity enough apart) ∙ known g .space;
     })
-      where
-        full : (opens && 255 below room) ≡ false
-        full = sym (transfer-space b o g.kept.premise.sizes l u quantity (debits-enough refl t) apart) ∙ known g .space
-
-        -- the debited account is emptied, or there is room
-        left :
-            (same : Bool) → (b.holdings.balance from is o.quantity.0) ≡ same → (b.holdings.balance to is 0) ≡ true
-            → b.holdings.accounts + counted (b.holdings.balance from - o.quantity.0) - counted (b.holdings.balance from) < 256
-        left true e z =
-            let gone : b.holdings.balance from - o.quantity.0 ≡ 0 = omega (arith, eqb-true (b.holdings.balance from) o.quantity.0 e) in
-            let some = counted-some (b.holdings.balance from) (omega (arith, debits-enough refl t, quantity)) in
-            omega (arith, ap counted gone ∙ counted-zero, some, listed, g.kept.premise.sizes.accounts)
-        left false e z =
-            let some = counted-some (b.holdings.balance from) (omega (arith, debits-enough refl t, quantity)) in
-            let space = ltb-false 255 room (not-second opens (255 below room) full (rw (z, e))) in
-            omega (arith, space, counted-most (b.holdings.balance from - o.quantity.0), some)
-
-    -- once the debited account is debited
-    pub transfer-fits :
-        {x y : Account} {now : Ledger} → x ≡ from → y ≡ to → now ≡ putHoldings (debit (account x) o.quantity.0 b.holdings) b
-        → CreditFits y (now .holdings .balance y) (now .holdings .accounts) o.quantity.0
-    unfolding putHoldings
-    transfer-fits e f n = rw (n, e, f) debited-fits
 
   -- ---- forms 10 and 11
 

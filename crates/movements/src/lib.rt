@@ -1,21 +1,12 @@
 // Forms 2 to 11, on a book of words: admission, and what moves shares or cash.
 ghost use mathlib.Core.Path.{_≡_};
 ghost use Prim.Native.Nat.{_≤_};
-ghost use Rattle.rulebook.specs.Forms.{counts, admit, deposit, withdraw, transfer, payIn, payOut};
+ghost use Rattle.rulebook.specs.Forms.{admit, deposit, withdraw, transfer, payIn, payOut};
 ghost use Rattle.book.specs.Meaning.{ledgerOf};
 ghost use Rattle.book.specs.Handled.{Handled};
 ghost use Rattle.checking.specs.Given.{Accepted};
 use rulebook::Counts;
 use rulebook::Order;
-
-// A movement is written as two rows, and nothing else is counted.
-fn two_rows() -> Counts
-    ensures { λ r. ⌜ r ≡ counts 2 0 0 0 0 0 ⌝ }
-{
-    let mut counts = rows::no_counts();
-    counts.rows = 2;
-    counts
-}
 
 // 2. A new security, all of its issue outside, with the rows of that movement.
 pub fn admit(book: &mut [u64], order: Order, area: &mut [u8]) -> Counts
@@ -26,7 +17,7 @@ pub fn admit(book: &mut [u64], order: Order, area: &mut [u8]) -> Counts
     let issued = parties::issued_account(order.security);
     let outside = parties::outside_account(order.security);
     rows::write_shares(area, issued, outside, order.quantity);
-    two_rows()
+    booking::two_rows()
 }
 
 // 3. Deposit: 91 to the account.
@@ -39,7 +30,7 @@ pub fn deposit(book: &mut [u64], order: Order, area: &mut [u8]) -> Counts
     book::credit(book, to, order.quantity);
     book::debit_outside(book, order.security, order.quantity);
     rows::write_shares(area, outside, to, order.quantity);
-    two_rows()
+    booking::two_rows()
 }
 
 // 4. Withdrawal the reverse.
@@ -47,26 +38,18 @@ pub fn withdraw(book: &mut [u64], order: Order, area: &mut [u8]) -> Counts
     requires { ⌜ Accepted (now book) order (now area) × (order .form ≡ 4) ⌝ }
     ensures { λ r. ⌜ Handled (withdraw (ledgerOf (now (book .entry))) order) (now (book .exit)) (now (area .entry)) (now (area .exit)) r ⌝ }
 {
-    let outside = parties::outside_account(order.security);
     let from = parties::account_of(order.security, order.debited);
-    book::credit_outside(book, order.security, order.quantity);
-    book::debit(book, from, order.quantity);
-    rows::write_shares(area, from, outside, order.quantity);
-    two_rows()
+    booking::leave(book, area, from, order.quantity)
 }
 
-// 5 to 9. Transfer, pledge, release, block, unblock: the debited account to the credited one. The debit comes first, so that a full book has
-// room for the account that is opened where one is emptied.
+// 5 to 9. Transfer, pledge, release, block, unblock: the debited account to the credited one.
 pub fn transfer(book: &mut [u64], order: Order, area: &mut [u8]) -> Counts
     requires { ⌜ Accepted (now book) order (now area) × (5 ≤ order .form) × (order .form ≤ 9) ⌝ }
     ensures { λ r. ⌜ Handled (transfer (ledgerOf (now (book .entry))) order) (now (book .exit)) (now (area .entry)) (now (area .exit)) r ⌝ }
 {
     let from = parties::account_of(order.security, order.debited);
     let to = parties::account_of(order.security, order.credited);
-    book::debit(book, from, order.quantity);
-    book::credit(book, to, order.quantity);
-    rows::write_shares(area, from, to, order.quantity);
-    two_rows()
+    booking::shift(book, area, from, to, order.quantity)
 }
 
 // 10. Pay-in: member 0 to the member.
@@ -77,7 +60,7 @@ pub fn pay_in(book: &mut [u64], order: Order, area: &mut [u8]) -> Counts
     let member = order.credited.member;
     book::credit_cash(book, member, order.currency, order.amount);
     rows::write_cash(area, order.currency, 0, member, order.amount);
-    two_rows()
+    booking::two_rows()
 }
 
 // 11. Pay-out the reverse.
@@ -88,5 +71,5 @@ pub fn pay_out(book: &mut [u64], order: Order, area: &mut [u8]) -> Counts
     let member = order.debited.member;
     book::debit_cash(book, member, order.currency, order.amount);
     rows::write_cash(area, order.currency, member, 0, order.amount);
-    two_rows()
+    booking::two_rows()
 }

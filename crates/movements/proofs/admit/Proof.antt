@@ -9,7 +9,8 @@ use Rattle.rulebook.specs.Ledger.{admitted}
 use Rattle.rulebook.specs.Ranges.{AccountInRange}
 use Rattle.book.specs.Meaning.{ledgerOf}
 use Rattle.checking.proofs.Orders.{fits}
-use Rattle.movements.proofs.Known.{new-security, outside-row}
+use Rattle.movements.proofs.Known.{new-security}
+use Rattle.booking.proofs.Moved.{outside-row}
 use Rattle.movements.proofs.Moved.{did-admit}
 use Rattle.movements.proofs.admit.Statement.{statement}
 use Rattle.movements.proofs.admit.Tie as tie

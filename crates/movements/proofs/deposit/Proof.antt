@@ -10,8 +10,9 @@ use Rattle.rulebook.specs.Ranges.{AccountInRange}
 use Rattle.accounts.specs.Map.{CreditFits}
 use Rattle.book.specs.Meaning.{ledgerOf}
 use Rattle.checking.proofs.Orders.{fits, credited-named}
-use Rattle.movements.proofs.Known.{deposit-fits, deposit-enough, outside-row}
-use Rattle.movements.proofs.Moved.{outside-kept, between}
+use Rattle.movements.proofs.Known.{deposit-fits, deposit-enough}
+use Rattle.booking.proofs.Moved.{outside-row, between}
+use Rattle.movements.proofs.Moved.{outside-kept}
 use Rattle.movements.proofs.deposit.Statement.{statement}
 use Rattle.movements.proofs.deposit.Tie as tie
 

@@ -7,7 +7,7 @@ use Rattle.rulebook.specs.Premise.{CashFits}
 use Rattle.rulebook.specs.Forms.{payIn}
 use Rattle.book.specs.Meaning.{ledgerOf}
 use Rattle.movements.proofs.Known.{payee, pay-in-fits, cash-row}
-use Rattle.movements.proofs.Moved.{moved}
+use Rattle.booking.proofs.Moved.{moved}
 use Rattle.movements.proofs.pay_in.Statement.{statement}
 use Rattle.movements.proofs.pay_in.Tie as tie
 

@@ -8,7 +8,7 @@ use Rattle.rulebook.specs.Forms.{payOut}
 use Rattle.book.specs.Meaning.{ledgerOf}
 use Rattle.checking.proofs.Orders.{payer}
 use Rattle.movements.proofs.Known.{pay-out-enough, cash-row}
-use Rattle.movements.proofs.Moved.{moved}
+use Rattle.booking.proofs.Moved.{moved}
 use Rattle.movements.proofs.pay_out.Statement.{statement}
 use Rattle.movements.proofs.pay_out.Tie as tie
 

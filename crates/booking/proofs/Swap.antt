@@ -11,6 +11,7 @@ use Rattle.rulebook.specs.Premise.{accountCount}
 use Rattle.rulebook.specs.declared.Account.{Account}
 use Rattle.rulebook.proofs.Bounds.{part-most}
 use Rattle.rulebook.proofs.Rounds.{same-eq}
+use Rattle.rulebook.proofs.Sizes.{counted-some, counted-most}
 use Rattle.rulebook.specs.Ranges.{AccountInRange}
 
 -- an account with a balance is one of those that are counted
@@ -23,22 +24,6 @@ counted-among h a r =
     let two = part-most (2 ^ 10) a.member (λ m. sumBelow (2 ^ 8) (λ t. sumBelow (2 ^ 30) (λ k. at a.security m t k))) r.member in
     let one = part-most (2 ^ 14) a.security (λ s. sumBelow (2 ^ 10) (λ m. sumBelow (2 ^ 8) (λ t. sumBelow (2 ^ 30) (λ k. at s m t k)))) r.security in
     omega (arith, one, two, three, four)
-
-pub counted-some : (n : ℕ) → 1 ≤ n → counted n ≡ 1
-unfolding counted
-counted-some n l = rw (ne-eqb n 0 (λ e. omega arith))
-
-pub counted-zero : counted 0 ≡ 0
-unfolding counted
-counted-zero = refl
-
-pub counted-most : (n : ℕ) → counted n ≤ 1
-unfolding counted
-counted-most n = go (n is 0)
-  where
-    go : (t : Bool) → (if t then 0 else 1) ≤ 1
-    go true = omega arith
-    go false = omega arith
 
 module _
     (h : Holdings) (from to : Account) (q : ℕ) (some : 1 ≤ q) (enough : q ≤ h.balance from)

@@ -1,0 +1,2 @@
+-- When shares can move.
+pub mod Fits
