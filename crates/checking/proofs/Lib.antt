@@ -1,3 +1,4 @@
 -- What is known of such an order.
 pub mod Orders
+pub mod Endings
 pub mod Passed

@@ -3,17 +3,20 @@ use Prim.Native.Nat.{ℕ, _≤_}
 use mathlib.Core.Path.{_≡_, refl}
 use mathlib.Core.Bool.{Bool, true, not, _&&_}
 use mathlib.Core.List.{_++_}
+use native.Mathlib.Omega.{arith}
 use borrow.Author.Tests.{le-leb, not-false}
 use Rattle.plain.specs.Lists.{_is_, _atMost_, within, some}
-use Rattle.rulebook.specs.Ledger.{accountOf}
+use Rattle.rulebook.specs.AccountTypes.{requested}
+use Rattle.rulebook.specs.Ledger.{accountOf, requestAccount}
 use Rattle.rulebook.specs.Premise.{CashFits}
 use Rattle.rulebook.specs.Field as Field
 use Rattle.rulebook.specs.Field.{always, ruleIn}
-use Rattle.rulebook.specs.Forms.{Form, forms, rowOf, used, least}
+use Rattle.rulebook.specs.Forms.{Form, forms, newRequest, rowOf, used, least}
 use Rattle.rulebook.specs.declared.Order.{Order}
 use Rattle.rulebook.proofs.ByCall.{HasForm, by-row}
 use Rattle.rulebook.proofs.Orders.{OrderFits, Ranges, read-fits, read-ranges, needs, needed}
 use Rattle.rulebook.specs.Ranges.{AccountInRange}
+use Rattle.book.specs.Keys.{ReferenceInRange}
 use Rattle.checking.specs.Given.{WasRead}
 
 -- forms 3 to 9 have a quantity
@@ -55,3 +58,16 @@ module _ (o : Order) (w : WasRead o) where
 
   pub some-quantity : 3 ≤ o.form → o.form ≤ 9 → 1 ≤ o.quantity.0
   some-quantity l u = ranges .quantity (quantity-needed o.form (ranges .form) l u) .0
+
+  -- a request's quantity, the account of type 50 that it credits, and what it is open under
+  pub requested-quantity : o.form ≡ 19 → 1 ≤ o.quantity.0
+  unfolding used least forms rowOf
+  requested-quantity e = ranges .quantity (needed 19 Field.quantity o e refl) .0
+
+  pub requesting-named : (today : ℕ) → AccountInRange (requestAccount requested o.debited.member (newRequest today o))
+  unfolding requestAccount
+  requesting-named today =
+      record { security = fits .security; member = fits .debited .member; typ = omega arith; shareholder = fits .debited .shareholder }
+
+  pub reference-named : ReferenceInRange o.debited.member o.reference
+  reference-named = record { member-most = fits .debited .member; reference-most = fits .reference }

@@ -1,7 +1,7 @@
 -- Each form's window, by tests of its number; the next cycle's minute. Assumes nothing.
 use Prim.Native.Nat.{ℕ, zero, suc}
 use mathlib.Core.Path.{_≡_, refl, sym, ap, _∙_}
-use mathlib.Core.Bool.{Bool, true, false}
+use mathlib.Core.Bool.{Bool, true, false, _||_}
 use mathlib.Core.List.{List, [], _∷_}
 use native.Mathlib.Omega.{arith}
 use borrow.Author.Tests.{ne-eqb}
@@ -21,7 +21,7 @@ use Rattle.day_tests.specs.Window.{paymentEnd}
 abbrev pub byTest : Day → Order → ℕ → ℕ × ℕ
 byTest d o n =
     if n is 1 then (0, 480)
-    else if within 3 9 n then (510, byKind d.kind 870 750)
+    else if within 3 9 n || within 19 20 n then (510, byKind d.kind 870 750)
     else if within 12 13 n then (480, paymentEnd d o.«settlement_day»)
     else if n is 16 then (getD (cycleMinutes d.kind) d.cycles 0, officeEnd d.kind)
     else if n is 17 then (officeEnd d.kind, 1439)
@@ -42,7 +42,7 @@ module _ (d : Day) (o : Order) where
   by-row =
       (λ _. refl) and (λ _. refl) and (λ _. refl) and (λ _. refl) and (λ _. refl) and (λ _. refl) and (λ _. refl) and (λ _. refl) and (λ _. refl)
       and (λ _. refl) and (λ _. refl) and (λ _. paid) and (λ _. paid) and (λ _. refl) and (λ _. refl) and (λ _. refl) and (λ _. refl)
-      and (λ _. refl) and tt
+      and (λ _. refl) and (λ _. refl) and (λ _. refl) and tt
 
   abbrev pub Window : ℕ → ℕ → Type 0
   Window first last = (first ≡ windowOf d o .0) × (last ≡ windowOf d o .1)

@@ -108,7 +108,7 @@ fn window_of(day: Day, order: Order) -> Window
     if form == 1 {
         return between(0, 480);
     }
-    if checking::is_within(3, 9, form) {
+    if checking::is_within(3, 9, form) | checking::is_within(19, 20, form) {
         return between(510, by_kind(kind, 870, 750));
     }
     if checking::is_within(12, 13, form) {

@@ -102,6 +102,8 @@ fn rule_of(form: u64) -> Rule
         15 => uses(DEBITED_MEMBER | REFERENCE),
         16 | 17 => uses(0),
         18 => uses(QUANTITY),
+        19 => uses(SECURITY | DEBITED | QUANTITY | REFERENCE),
+        20 => uses(DEBITED_MEMBER | CREDITED_TYPE | REFERENCE),
         _ => Rule {
             used: 0,
             optional: 0,

@@ -76,6 +76,8 @@ pub fn sample(form: u64) -> Order
         14 => order(form, 101, 1, debited, credited, 400, 100000, 1, 4, 31),
         15 => order(form, 0, 0, party(7, 0, 0), nobody, 0, 0, 0, 0, 31),
         18 => order(form, 0, 0, nobody, nobody, 150750, 0, 0, 0, 0),
+        19 => order(form, 101, 0, debited, nobody, 400, 0, 0, 0, 31),
+        20 => order(form, 0, 0, party(7, 0, 0), party(0, 120, 0), 0, 0, 0, 0, 31),
         _ => order(form, 0, 0, nobody, nobody, 0, 0, 0, 0, 0),
     }
 }

@@ -15,8 +15,8 @@ fn wrong_security(book: &[u64], order: Order) -> bool
 {
     let form = order.form;
     let admitted = book::admitted(book, order.security);
-    ((checking::is_within(3, 9, form) | checking::is_within(12, 14, form)) & !admitted)
-        | ((form == 2) & admitted)
+    let asked = checking::is_within(3, 9, form) | checking::is_within(12, 14, form) | (form == 19);
+    (asked & !admitted) | ((form == 2) & admitted)
 }
 
 // RULES 7.11: types that the form does not allow.
@@ -34,6 +34,8 @@ fn wrong_pair(order: Order) -> bool
         7 => !types::is_pledge(credited, debited),
         8 => !types::is_block(debited, credited),
         9 => !types::is_block(credited, debited),
+        19 => !types::is_book_entry(debited),
+        20 => !((credited == 91) | types::is_physical(credited)),
         _ => false,
     }
 }

@@ -1,11 +1,19 @@
-// What an order, an item and a party name: the accounts on both sides, and those that count a security.
+// What an order, an item, a request and a party name: the accounts on both sides, and those that count a security.
 ghost use mathlib.Core.Path.{_≡_};
-ghost use Rattle.rulebook.specs.Ledger.{accountOf, sameAccount};
+ghost use Rattle.rulebook.specs.Ledger.{accountOf, requestAccount, sameAccount};
+ghost use Prim.Native.Nat.{ℕ};
+ghost use Rattle.rulebook.specs.AccountTypes.{requested};
 ghost use Rattle.rulebook.specs.Cycle.{seller, buyer};
+ghost use Rattle.rulebook.specs.Forms.{newRequest};
 ghost use Rattle.parties.specs.Counted.{outsideAccount};
 use rulebook::Account;
 use rulebook::Item;
+use rulebook::Order;
 use rulebook::Party;
+use rulebook::Request;
+
+// The type of shares for which paper is requested.
+const REQUESTED: u64 = 50;
 
 pub fn account_of(security: u64, party: Party) -> Account
     ensures { λ r. ⌜ r ≡ accountOf security party ⌝ }
@@ -15,6 +23,37 @@ pub fn account_of(security: u64, party: Party) -> Account
         member: party.member,
         typ: party.typ,
         shareholder: party.shareholder,
+    }
+}
+
+// A member's account of the shares of a request, in a type.
+pub fn request_account(typ: u64, member: u64, request: Request) -> Account
+    ensures { λ r. ⌜ r ≡ requestAccount typ member request ⌝ }
+{
+    Account {
+        security: request.security,
+        member,
+        typ,
+        shareholder: request.shareholder,
+    }
+}
+
+// The account that has the shares of a request until it ends.
+pub fn awaiting_account(member: u64, request: Request) -> Account
+    ensures { λ r. ⌜ r ≡ requestAccount requested member request ⌝ }
+{
+    request_account(REQUESTED, member, request)
+}
+
+// The account that the shares of a new request go to.
+pub fn requested_account(order: Order) -> Account
+    ensures { λ r. ⌜ ((today : ℕ) → r ≡ requestAccount requested (order .debited .member) (newRequest today order)) ⌝ }
+{
+    Account {
+        security: order.security,
+        member: order.debited.member,
+        typ: REQUESTED,
+        shareholder: order.debited.shareholder,
     }
 }
 

@@ -1,4 +1,4 @@
-// Refusals 6 to 18 of an order on a book: the first that applies, in checking order, stage by stage.
+// Refusals 6 to 21 of an order on a book: the first that applies, in checking order, stage by stage.
 ghost use mathlib.Core.Path.{_≡_};
 ghost use Rattle.plain.specs.Lists.{first};
 ghost use Rattle.rulebook.specs.Refusals.{refusals};
@@ -24,6 +24,10 @@ pub fn first_refusal(book: &[u64], order: Order) -> u64
     let by_items = item_tests::refusal(book, order);
     if by_items != 0 {
         return by_items;
+    }
+    let by_requests = request_tests::refusal(book, today.number, order);
+    if by_requests != 0 {
+        return by_requests;
     }
     room_tests::refusal(book, order)
 }

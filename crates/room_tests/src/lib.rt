@@ -1,12 +1,15 @@
 // Refusals 16 to 18: whether the book has enough, and room.
 ghost use mathlib.Core.Path.{_≡_};
 ghost use Rattle.plain.specs.Lists.{first};
+ghost use Rattle.rulebook.specs.Ranges.{AccountInRange};
 ghost use Rattle.rulebook.specs.Refusals.{tooLittle, overCeiling, noSpace, roomTests};
 ghost use Rattle.book.specs.Meaning.{ledgerOf};
 ghost use Rattle.book.specs.Stored.{Kept};
 ghost use Rattle.checking.specs.Given.{WasRead};
-ghost use Rattle.room_tests.specs.Room.{isFull, isListFull, isMatched, OrderPassed, SidesPassed};
+ghost use Rattle.room_tests.specs.Room.{isFull, isListFull, isMatched, noRoomBetween, OrderPassed, RequestPassed, SidesPassed};
+use rulebook::Account;
 use rulebook::Order;
+use rulebook::Shares;
 
 // RULES 7.16: too little where the movement takes from.
 fn too_little(book: &[u64], order: Order) -> bool
@@ -18,7 +21,7 @@ fn too_little(book: &[u64], order: Order) -> bool
         let outside = book::outside(book, order.security);
         return outside.0 < order.quantity.0;
     }
-    if checking::is_within(4, 9, form) {
+    if checking::is_within(4, 9, form) | (form == 19) {
         let balance = book::balance(book, parties::account_of(order.security, order.debited));
         return balance.0 < order.quantity.0;
     }
@@ -65,6 +68,32 @@ fn is_matched(book: &[u64], order: Order) -> bool
     words::is_found(search::first_partner(book, item::single_of(order)))
 }
 
+// Shares that go from one account to another open the second where it has none; the first makes room where it keeps none.
+fn no_room_between(book: &[u64], from: Account, to: Account, quantity: Shares) -> bool
+    requires { ⌜ Kept (now book) × AccountInRange from × AccountInRange to ⌝ }
+    ensures { λ r. ⌜ r ≡ noRoomBetween (ledgerOf (now (book .entry))) from to (quantity .0) ⌝ }
+{
+    let to_has = book::balance(book, to);
+    let from_has = book::balance(book, from);
+    (to_has.0 == 0) & (from_has.0 != quantity.0) & is_full(book)
+}
+
+// RULES 7.18 of a form 20: shares that leave need no room.
+fn no_room_for_paper(book: &[u64], order: Order) -> bool
+    requires { ⌜ Kept (now book) × WasRead order × SidesPassed (ledgerOf (now book)) order × (order .form ≡ 20) ⌝ }
+    ensures { λ r. ⌜ r ≡ noSpace (ledgerOf (now (book .entry))) order ⌝ }
+{
+    let member = order.debited.member;
+    let credited = order.credited.typ;
+    if credited == 91 {
+        return false;
+    }
+    let request = book::request(book, member, order.reference);
+    let from = parties::awaiting_account(member, request);
+    let to = parties::request_account(credited, member, request);
+    no_room_between(book, from, to, request.quantity)
+}
+
 // RULES 7.18: no room in the book that the call would leave.
 fn no_space(book: &[u64], order: Order) -> bool
     requires { ⌜ Kept (now book) × WasRead order × SidesPassed (ledgerOf (now book)) order ⌝ }
@@ -77,24 +106,37 @@ fn no_space(book: &[u64], order: Order) -> bool
     if !is_list_full(book) {
         return false;
     }
+    let debited = parties::account_of(order.security, order.debited);
+    let credited = parties::account_of(order.security, order.credited);
     if form == 3 {
-        let to = book::balance(book, parties::account_of(order.security, order.credited));
+        let to = book::balance(book, credited);
         return (to.0 == 0) & is_full(book);
     }
     if checking::is_within(5, 9, form) {
-        let to = book::balance(book, parties::account_of(order.security, order.credited));
-        let from = book::balance(book, parties::account_of(order.security, order.debited));
-        return (to.0 == 0) & (from.0 != order.quantity.0) & is_full(book);
+        return no_room_between(book, debited, credited, order.quantity);
     }
     if checking::is_within(12, 13, form) {
         return !is_matched(book, order);
     }
+    if form == 19 {
+        return no_room_between(
+            book,
+            debited,
+            parties::requested_account(order),
+            order.quantity,
+        );
+    }
+    if form == 20 {
+        return no_room_for_paper(book, order);
+    }
     form == 14
 }
 
-// The first refusal of the room's stage, for an order that the order's stage lets pass; 0 where none applies.
+// The first refusal of the room's stage, for an order that the order's and the requests' stages let pass; 0 where none applies.
 pub fn refusal(book: &[u64], order: Order) -> u64
-    requires { ⌜ Kept (now book) × WasRead order × OrderPassed (ledgerOf (now book)) order ⌝ }
+    requires { ⌜
+        Kept (now book) × WasRead order × OrderPassed (ledgerOf (now book)) order × RequestPassed (ledgerOf (now book)) order
+        ⌝ }
     ensures { λ r. ⌜ r ≡ first (roomTests (ledgerOf (now (book .entry))) order) ⌝ }
 {
     if too_little(book, order) {

@@ -1,6 +1,6 @@
 -- `day_tests::window_of` meets its contract: each test picks what the form's row has. Assumes nothing.
-use mathlib.Core.Bool.{false}
-use mathlib.Core.Path.{_≡_, sym, _∙_}
+use mathlib.Core.Bool.{false, _||_}
+use mathlib.Core.Path.{_≡_, sym, ap₂, _∙_}
 use borrow.Author.Needs.{needs}
 use borrow.Author.Tests.{eq-eqb, ne-eqb}
 use lib.ListN.{getD}
@@ -17,7 +17,7 @@ abbrev opened : tie.Else1 → tie.Start
 opened c = c .before
 
 abbrev moved : tie.Else2 → tie.Else1
-moved c = c .before .before
+moved c = c .before .before .before
 
 abbrev instructed : tie.Else3 → tie.Else2
 instructed c = c .before .before
@@ -25,11 +25,11 @@ instructed c = c .before .before
 not-1 : (c : tie.Else1) → (opened c .args .order .form is 1) ≡ false
 not-1 c = ne-eqb _ _ (c .if1 .left)
 
-not-3-9 : (c : tie.Else2) → within 3 9 (opened (moved c) .args .order .form) ≡ false
-not-3-9 c = sym (c .before .is-within .ensures) ∙ c .if2 .left
+not-moved : (c : tie.Else2) → (within 3 9 (opened (moved c) .args .order .form) || within 19 20 (opened (moved c) .args .order .form)) ≡ false
+not-moved c = sym (ap₂ _||_ (c .before .before .is-within .ensures) (c .before .is-within2 .ensures)) ∙ c .if2 .left
 
 not-12-13 : (c : tie.Else3) → within 12 13 (opened (moved (instructed c)) .args .order .form) ≡ false
-not-12-13 c = sym (c .before .is-within2 .ensures) ∙ c .if3 .left
+not-12-13 c = sym (c .before .is-within3 .ensures) ∙ c .if3 .left
 
 not-16 : (c : tie.Else4) → (opened (moved (instructed (c .before))) .args .order .form is 16) ≡ false
 not-16 c = ne-eqb _ _ (c .if4 .left)
@@ -45,9 +45,9 @@ returns c =
 returns-2 : tie.Need-returns-2
 returns-2 c =
     let here = c .before .before in
-    let one = here .before .before in
+    let one = here .before .before .before in
     let s = opened one in
-    let e = sym (here .before .is-within .ensures) ∙ here .if2 .taken in
+    let e = sym (ap₂ _||_ (here .before .before .is-within .ensures) (here .before .is-within2 .ensures)) ∙ here .if2 .taken in
     let w = picked (s .args .day) (s .args .order) (s .pre) 510 (byKind (s .args .day .kind) 870 750) (simp (not-1 one, e)) in
     (c .between2 .ensures .0 ∙ w .0, c .between2 .ensures .1 ∙ c .before .by-kind .ensures ∙ w .1)
 
@@ -56,10 +56,10 @@ returns-3 c =
     let here = c .before .before in
     let two = here .before .before in
     let s = opened (moved two) in
-    let e = sym (here .before .is-within2 .ensures) ∙ here .if3 .taken in
+    let e = sym (here .before .is-within3 .ensures) ∙ here .if3 .taken in
     let w =
     picked (s .args .day) (s .args .order) (s .pre) 480 (paymentEnd (s .args .day) (s .args .order .«settlement_day»))
-    (simp (not-1 (moved two), not-3-9 two, e)) in
+    (simp (not-1 (moved two), not-moved two, e)) in
     (c .between3 .ensures .0 ∙ w .0, c .between3 .ensures .1 ∙ c .before .payment-end .ensures ∙ w .1)
 
 returns-4 : tie.Need-returns-4
@@ -70,7 +70,7 @@ returns-4 c =
     let s = opened (moved two) in
     let w =
     picked (s .args .day) (s .args .order) (s .pre) (getD (cycleMinutes (s .args .day .kind)) (s .args .day .cycles) 0) (officeEnd (s .args .day .kind))
-    (simp (not-1 (moved two), not-3-9 two, not-12-13 three, eq-eqb _ _ (here .if4 .taken))) in
+    (simp (not-1 (moved two), not-moved two, not-12-13 three, eq-eqb _ _ (here .if4 .taken))) in
     (c .between4 .ensures .0 ∙ c .before .before .cycle-minute .ensures ∙ w .0, c .between4 .ensures .1 ∙ c .before .office-end .ensures ∙ w .1)
 
 returns-5 : tie.Need-returns-5
@@ -82,7 +82,7 @@ returns-5 c =
     let s = opened (moved two) in
     let w =
     picked (s .args .day) (s .args .order) (s .pre) (officeEnd (s .args .day .kind)) 1439
-    (simp (not-1 (moved two), not-3-9 two, not-12-13 three, not-16 four, eq-eqb _ _ (here .if5 .taken))) in
+    (simp (not-1 (moved two), not-moved two, not-12-13 three, not-16 four, eq-eqb _ _ (here .if5 .taken))) in
     (c .between5 .ensures .0 ∙ c .before .office-end2 .ensures ∙ w .0, c .between5 .ensures .1 ∙ w .1)
 
 returns-6 : tie.Need-returns-6
@@ -94,7 +94,7 @@ returns-6 c =
     let s = opened (moved two) in
     let w =
     picked (s .args .day) (s .args .order) (s .pre) 480 (officeEnd (s .args .day .kind))
-    (simp (not-1 (moved two), not-3-9 two, not-12-13 three, not-16 four, ne-eqb _ _ (here .if5 .left))) in
+    (simp (not-1 (moved two), not-moved two, not-12-13 three, not-16 four, ne-eqb _ _ (here .if5 .left))) in
     (c .between6 .ensures .0 ∙ w .0, c .between6 .ensures .1 ∙ c .before .office-end3 .ensures ∙ w .1)
 
 pub window-of-spec : {M : Type 1} → statement M
@@ -102,7 +102,7 @@ window-of-spec =
     tie.close
     (tie.spec
     (λ c κs. search needs) returns
-    (λ c κs. search needs) (λ c κs. search needs) (λ c κs. search needs) returns-2
+    (λ c κs. search needs) (λ c κs. search needs) (λ c κs. search needs) (λ c κs. search needs) returns-2
     (λ c κs. search needs) (λ c κs. search needs) (λ c κs. search needs) returns-3
     (λ c κs. search needs) (λ c κs. search needs) (λ c κs. search needs) returns-4
     (λ c κs. search needs) (λ c κs. search needs) returns-5

@@ -1,11 +1,12 @@
 -- `order_tests::wrong_pair` meets its contract: each arm has its own test. Assumes nothing.
 use Prim.Native.Nat.{ℕ}
-use mathlib.Core.Bool.{Bool, not, or-false}
+use mathlib.Core.Bool.{Bool, not, _||_, or-false}
 use mathlib.Core.List.{List, [], _∷_, map}
 use mathlib.Core.Path.{_≡_, refl, sym, ap, _∙_}
 use borrow.Author.Needs.{needs}
 use borrow.Author.Tests.{ne-eqb}
 use types.Run.{OneOf}
+use Rattle.plain.specs.Lists.{_is_}
 use Rattle.rulebook.specs.AccountTypes.{wrongTypes}
 use Rattle.rulebook.specs.Refusals.{wrongPair}
 use Rattle.rulebook.specs.declared.Order.{Order}
@@ -47,13 +48,23 @@ returns-6 c = arm (c .before .before .args .order) (8 ∷ []) _ _ (c .is-block .
 
 returns-7 : tie.Need-returns-7
 unfolding wrongTypes
-returns-7 c = arm (c .before .before .args .order) (9 ∷ []) _ _ (c .is-block2 .ensures) refl (c .before .match .keys7)
+returns-7 c = arm (c .before .before .args .order) (9 ∷ []) _ _ (c .is-block2 .ensures) (simp or-false) (c .before .match .keys7)
+
+returns-8 : tie.Need-returns-8
+unfolding wrongTypes
+returns-8 c = arm (c .before .before .args .order) (19 ∷ []) _ _ (c .is-book-entry .ensures) (simp or-false) (c .before .match .keys8)
+
+returns-9 : tie.Need-returns-9
+unfolding wrongTypes
+returns-9 c =
+    let order = c .before .before .args .order in
+    arm order (20 ∷ []) _ _ (ap (λ (paper : Bool). order .credited .typ is 91 || paper) (c .is-physical .ensures)) refl (c .before .match .keys9)
 
 -- the others have none
-returns-8 : tie.Need-returns-8
+returns-10 : tie.Need-returns-10
 unfolding wrongPair wrongTypes
-returns-8 c =
-    let others = c .match .rest in
+returns-10 c =
+    let others = c .match .rest .0 .0 in
     rw (
       not-arm (3 ∷ 13 ∷ []) _ (others .0 .0 .0 .0 .0 .0 .1),
       not-arm (4 ∷ 12 ∷ []) _ (others .0 .0 .0 .0 .0 .1),
@@ -62,11 +73,13 @@ returns-8 c =
       ne-eqb _ 7 (others .0 .0 .1),
       ne-eqb _ 8 (others .0 .1),
       ne-eqb _ 9 (others .1),
+      ne-eqb _ 19 (c .match .rest .0 .1),
+      ne-eqb _ 20 (c .match .rest .1),
     )
 
 pub wrong-pair-spec : {M : Type 1} → statement M
 wrong-pair-spec =
     tie.close
     (tie.spec (λ c κs. search needs) (λ c κs. search needs) (λ c κs. search needs) (λ c κs. search needs) (λ c κs. search needs) (λ c κs. search needs)
-    (λ c κs. search needs)
-    returns returns-2 returns-3 returns-4 returns-5 returns-6 returns-7 returns-8)
+    (λ c κs. search needs) (λ c κs. search needs) (λ c κs. search needs)
+    returns returns-2 returns-3 returns-4 returns-5 returns-6 returns-7 returns-8 returns-9 returns-10)

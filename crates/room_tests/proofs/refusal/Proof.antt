@@ -1,22 +1,28 @@
 -- `room_tests::refusal` meets its contract: the tests are those of the list. Assumes nothing.
 use mathlib.Core.Path.{sym, _∙_}
 use borrow.Author.Needs.{needs}
-use Rattle.rulebook.specs.Refusals.{orderTests, roomTests}
+use Rattle.rulebook.specs.Refusals.{orderTests, requestTests, roomTests}
 use Rattle.book.specs.Meaning.{ledgerOf}
-use Rattle.rulebook.proofs.Checking.{none-applies, order-numbered}
+use Rattle.rulebook.proofs.Checking.{none-applies, order-numbered, requests-numbered}
 use Rattle.room_tests.proofs.refusal.Statement.{statement}
 use Rattle.room_tests.proofs.refusal.Tie as tie
 
--- 11 and 12 are of the order's stage, 16 stands before
+-- 11 and 12 are of the order's stage, 19 is of the requests', 16 stands before
 no-space-requires : tie.Need-no-space-requires
-unfolding orderTests
+unfolding orderTests requestTests
 no-space-requires c κs =
     let s = c .before .before .before in
     let book = ledgerOf (s .args .book .now) in
     let passed =
     none-applies (orderTests (book .holdings) (book .day .number) (s .args .order))
     (order-numbered (book .holdings) (book .day .number) (s .args .order)) (s .pre .2) in
-    (s .pre .0, s .pre .1, record { types = passed 11; parties = passed 12; enough = sym (c .before .too-little .ensures) ∙ c .if1 .left })
+    let asked =
+    none-applies (requestTests (book .requests) (book .day .number) (s .args .order))
+    (requests-numbered (book .requests) (book .day .number) (s .args .order)) (s .pre .3) in (
+      s .pre .0,
+      s .pre .1,
+      record { types = passed 11; parties = passed 12; request = asked 19; enough = sym (c .before .too-little .ensures) ∙ c .if1 .left },
+    )
 
 over-ceiling-requires : tie.Need-over-ceiling-requires
 over-ceiling-requires c κs = let s = c .before .before .before .before .before in (s .pre .0, s .pre .1)

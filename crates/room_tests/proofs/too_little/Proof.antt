@@ -1,15 +1,24 @@
 -- `room_tests::too_little` meets its contract. Assumes nothing.
-use mathlib.Core.Path.{sym, subst, _∙_}
-use mathlib.Core.Bool.{or-false}
+use Prim.Native.Nat.{ℕ}
+use mathlib.Core.Path.{_≡_, sym, ap, subst, _∙_}
+use mathlib.Core.Bool.{Bool, true, false, _||_, or-false, false≢true}
 use borrow.Author.Tests.{ne-eqb}
-use native.Mathlib.Omega.{arith}
 use borrow.Author.Needs.{needs}
-use Rattle.rulebook.specs.Refusals.{tooLittle}
+use Rattle.plain.specs.Lists.{_is_}
+use Rattle.rulebook.specs.Refusals.{debitsShares, tooLittle}
 use Rattle.rulebook.specs.Ranges.{AccountInRange}
-use Rattle.rulebook.proofs.Within.{within-not}
 use Rattle.checking.proofs.Orders.{debited-named, payer}
 use Rattle.room_tests.proofs.too_little.Statement.{statement}
 use Rattle.room_tests.proofs.too_little.Tie as tie
+
+-- whether the form debits shares, as the code asks it
+asked : (c : tie.After-is-within) (t : Bool) → (c .is-within .result || c .before .before .before .args .order .form is 19) ≡ t
+    → debitsShares (c .before .before .before .args .order .form) ≡ t
+asked c t e = sym (ap (λ (within : Bool). within || c .before .before .before .args .order .form is 19) (c .is-within .ensures)) ∙ e
+
+-- such a form is no pay-out
+no-pay-out : (form : ℕ) → debitsShares form ≡ true → (form is 11) ≡ false
+no-pay-out form e = ne-eqb form 11 (λ p. false≢true (subst (λ (k : ℕ). debitsShares k ≡ true) p e))
 
 returns : tie.Need-returns
 unfolding tooLittle
@@ -31,8 +40,8 @@ returns-2 c =
     let one = two .before .before in
     let s = one .before .before in
     let f = s .args .order .form in
-    let w = sym (two .before .is-within .ensures) ∙ two .if2 .taken in
-    simp (ne-eqb f 3 (one .if1 .left), w, within-not 4 9 f 11 (omega arith) w, b .balance .ensures, b .before .account-of .ensures, or-false)
+    let w = asked (two .before) true (two .if2 .taken) in
+    simp (ne-eqb f 3 (one .if1 .left), w, no-pay-out f w, b .balance .ensures, b .before .account-of .ensures, or-false)
 
 cash-requires : tie.Need-cash-requires
 cash-requires c κs =
@@ -51,7 +60,7 @@ returns-4 c =
     let two = c .before in
     let one = two .before .before in
     let f = one .before .before .args .order .form in
-    simp (ne-eqb f 3 (one .if1 .left), sym (two .before .is-within .ensures) ∙ two .if2 .left, ne-eqb f 11 (c .if3 .left))
+    simp (ne-eqb f 3 (one .if1 .left), asked (two .before) false (two .if2 .left), ne-eqb f 11 (c .if3 .left))
 
 pub too-little-spec : {M : Type 1} → statement M
 too-little-spec =
