@@ -1,4 +1,4 @@
--- Demand 3 and the rate of the code's own books: from the rulebook's theorems, and from what `fresh` and `call` promise. Assumes nothing.
+-- Demand 3, the rate and the requests of the code's own books: from the rulebook's theorems, and from what `fresh` and `call` promise. Assumes nothing.
 use Prim.Native.Nat.{ℕ}
 use mathlib.Core.Path.{_≡_, refl, sym, ap, subst, _∙_}
 use mathlib.Core.List.{List, [], _∷_, _++_}
@@ -10,7 +10,7 @@ use Rattle.rulebook.proofs.Demand3.{demand3}
 use Rattle.rulebook.proofs.Rates.{rate-of-calls}
 use Rattle.book.specs.Meaning.{ledgerOf}
 use Rattle.book.specs.Stored.{Kept}
-use Rattle.ledger.specs.Reached.{Reached, made, called, ReachedBalanced, ReachedRate}
+use Rattle.ledger.specs.Reached.{Reached, made, called, ReachedBalanced, ReachedRate, ReachedAwaited}
 
 -- a call, as it is answered on a book
 abbrev madeOn : Ledger → Call → Made
@@ -64,3 +64,7 @@ reached-rate book history r =
     let f = follows r in
     ap (λ (b : Ledger). b.rate) (f .ledger) ∙ rate-of-calls (f .calls)
     ∙ ap (λ (h : List Made). lastRate firstRate (acceptedCalls h)) (sym (f .made))
+
+pub reached-awaited : ReachedAwaited
+unfolding ReachedAwaited
+reached-awaited book history r a e = follows r .kept .premise .awaited a e

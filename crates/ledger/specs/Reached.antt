@@ -3,8 +3,10 @@ use Prim.Native.Nat.{ℕ}
 use mathlib.Core.Bool.{true}
 use mathlib.Core.List.{List, [], _∷_, _++_}
 use mathlib.Core.Path.{_≡_}
-use Rattle.rulebook.specs.Ledger.{firstRate}
+use Rattle.rulebook.specs.AccountTypes.{requested}
+use Rattle.rulebook.specs.Ledger.{firstRate, askedOf}
 use Rattle.rulebook.specs.Calls.{call, Made, acceptedCalls, lastRate, Balanced}
+use Rattle.rulebook.specs.declared.Account.{Account}
 use Rattle.rulebook.specs.declared.Answer.{Answer}
 use Rattle.book.specs.Meaning.{ledgerOf}
 use Rattle.book.specs.Fresh.{Freshened}
@@ -25,3 +27,9 @@ ReachedBalanced = (book : List ℕ) (history : List Made) → Reached book histo
 -- RULES 12.18: and its rate is that of the last accepted form 18, or the first one
 unfoldable pub ReachedRate : Type 0
 ReachedRate = (book : List ℕ) (history : List Made) → Reached book history → ledgerOf book .rate ≡ lastRate firstRate (acceptedCalls history)
+
+-- RULES 12.20: and its accounts of type 50 have what its open requests ask for
+unfoldable pub ReachedAwaited : Type 0
+ReachedAwaited =
+    (book : List ℕ) (history : List Made) → Reached book history → (a : Account) → a.typ ≡ requested
+    → ledgerOf book .holdings .balance a ≡ askedOf a (ledgerOf book .requests)

@@ -43,6 +43,8 @@ fn handle(book: &mut [u64], order: Order, area: &mut [u8]) -> Counts
         16 => cycle::run(book, area),
         17 => closing::close(book, order, area),
         18 => instructions::set_rate(book, order),
+        19 => rematerialization::request_paper(book, order, area),
+        20 => rematerialization::end_request(book, order, area),
         _ => rows::no_counts(),
     }
 }

@@ -16,7 +16,7 @@ use Rattle.rulebook.specs.Windows.{byKind, cycleMinutes, officeEnd}
 use Rattle.rulebook.specs.Rows.{postingWidths, postingBytes, postingOf, postingRows, rowBytes, rowsBytes}
 use Rattle.rulebook.specs.Waiting.{senderOf, sentBy, notCancellable}
 use Rattle.rulebook.specs.Forms.{counts, outcome, moving, silent, openDay, admit, deposit, withdraw, forms, rowOf, used, least, most, windowOf, effect}
-use Rattle.rulebook.specs.Refusals.{wrongDay, wrongCycle, goesBack, outsideWindow, wrongSecurity, wrongPair, wrongParties, wrongDays, wrongReference, wrongCancel, tooLittle, overCeiling, noSpace, dayTests, orderTests, itemTests, roomTests, refusals}
+use Rattle.rulebook.specs.Refusals.{wrongDay, wrongCycle, goesBack, outsideWindow, wrongSecurity, wrongPair, wrongParties, wrongDays, wrongReference, wrongCancel, wrongRequest, endsTooSoon, tooManyRequests, tooLittle, overCeiling, noSpace, dayTests, orderTests, itemTests, requestTests, roomTests, refusals}
 use Rattle.rulebook.specs.Call.{answerNumber, answerRows, refused, putMinute, accepted, orderCall, readCall, callOf}
 use Rattle.rulebook.specs.Calls.{call, resultOf}
 use Rattle.rulebook.specs.Desk.{party, nobody, order, opens, admits, deposits}
@@ -54,8 +54,8 @@ unfolding
     putDay putHoldings accountOf sameAccount counted putBalance putSecurities putOutside admitted issuedOf outsideOf credit debit credits debits
     booked byKind cycleMinutes officeEnd postingWidths postingBytes postingOf postingRows rowBytes rowsBytes senderOf sentBy notCancellable counts
     outcome moving silent openDay admit deposit withdraw forms rowOf windowOf effect wrongDay wrongCycle goesBack outsideWindow wrongSecurity
-    wrongPair wrongParties wrongDays wrongReference wrongCancel tooLittle overCeiling noSpace dayTests orderTests itemTests roomTests refusals
-    refused putMinute accepted orderCall readCall callOf
+    wrongPair wrongParties wrongDays wrongReference wrongCancel wrongRequest endsTooSoon tooManyRequests tooLittle overCeiling noSpace dayTests
+    orderTests itemTests requestTests roomTests refusals refused putMinute accepted orderCall readCall callOf
 computed = (refl, refl)
 
 -- held and outside make up what was issued

@@ -1,0 +1,3 @@
+-- Laws behind the proofs of the handlers.
+pub mod Known
+pub mod Done
