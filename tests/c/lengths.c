@@ -91,6 +91,10 @@ static uint64_t call_item(struct lent *b) {
     return depository_item(b[BOOK].start, b[BOOK].length, 0, b[VALUES].start, b[VALUES].length);
 }
 
+static uint64_t call_request(struct lent *b) {
+    return depository_request(b[BOOK].start, b[BOOK].length, 1, 11, b[VALUES].start, b[VALUES].length);
+}
+
 #define A_BOOK [BOOK] = DEPOSITORY_BOOK_WORDS
 #define A_RECORD [RECORD] = DEPOSITORY_RECORD_BYTES
 
@@ -107,6 +111,7 @@ static const struct function FUNCTIONS[] = {
     {"depository_balance", call_balance, {A_BOOK, [VALUES] = 1}},
     {"depository_cash", call_cash, {A_BOOK, [VALUES] = 1}},
     {"depository_item", call_item, {A_BOOK, [VALUES] = DEPOSITORY_ITEM_WORDS}},
+    {"depository_request", call_request, {A_BOOK, [VALUES] = DEPOSITORY_REQUEST_WORDS}},
 };
 
 static const uint64_t NUMBERS[KINDS] = {[BOOK] = DEPOSITORY_WRONG_BOOK,

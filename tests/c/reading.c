@@ -13,8 +13,9 @@ static void tells(uint64_t number, const char *what, const uint64_t *expected, s
 
 static void reads_day_and_sizes(void) {
     const uint64_t day[DEPOSITORY_DAY_WORDS] = {[DEPOSITORY_DAY_NUMBER] = 1, [DEPOSITORY_DAY_OPEN] = 1, [DEPOSITORY_DAY_KIND] = 1,
-                                                [DEPOSITORY_DAY_CYCLES] = 0, [DEPOSITORY_DAY_MINUTE] = 517};
-    const uint64_t sizes[DEPOSITORY_SIZE_WORDS] = {[DEPOSITORY_SECURITIES] = 2, [DEPOSITORY_ACCOUNTS] = 1, [DEPOSITORY_ITEMS] = 3};
+                                                [DEPOSITORY_DAY_CYCLES] = 0, [DEPOSITORY_DAY_MINUTE] = 518};
+    const uint64_t sizes[DEPOSITORY_SIZE_WORDS] = {
+        [DEPOSITORY_SECURITIES] = 2, [DEPOSITORY_ACCOUNTS] = 2, [DEPOSITORY_ITEMS] = 3, [DEPOSITORY_REQUESTS] = 2};
     tells(depository_day(book, DEPOSITORY_BOOK_WORDS, values, DEPOSITORY_DAY_WORDS), "the day", day, DEPOSITORY_DAY_WORDS);
     tells(depository_sizes(book, DEPOSITORY_BOOK_WORDS, values, DEPOSITORY_SIZE_WORDS), "the sizes", sizes, DEPOSITORY_SIZE_WORDS);
 }
@@ -57,7 +58,8 @@ static void reads_figures(void) {
     reads_one(held(101), "held of the first", 400);
     reads_one(held(102), "held of the second", 0);
     reads_one(held(UINT64_MAX), "held of no security", 0);
-    reads_one(balance(101, 1, 10, 77), "the balance", 400);
+    reads_one(balance(101, 1, 10, 77), "the balance", 358);
+    reads_one(balance(101, 1, 50, 77), "what is requested", 42);
     reads_one(balance(101, 1, 20, 77), "no such type", 0);
     reads_one(balance(101 + 16384, 1, 10, 77), "a security that no record can name", 0);
     reads_one(balance(101, 1 + 1024, 10, 77), "a member that no record can name", 0);
@@ -84,6 +86,61 @@ static void reads_the_rate(void) {
         check(number == 0, "a rate", "answers", number);
         reads_one(rate(), "the rate set last", rates[i]);
     }
+}
+
+static uint64_t request(uint64_t member, uint64_t reference) {
+    return depository_request(book, DEPOSITORY_BOOK_WORDS, member, reference, values, DEPOSITORY_REQUEST_WORDS);
+}
+
+/* Nothing is told of a request that is not open, whatever the values held. */
+static void reads_no_request(uint64_t member, uint64_t reference, const char *what) {
+    const uint64_t nothing[DEPOSITORY_REQUEST_WORDS] = {0};
+    memset(values, 0xA5, sizeof values);
+    tells(request(member, reference), what, nothing, DEPOSITORY_REQUEST_WORDS);
+}
+
+static void reads_requests(void) {
+    const uint64_t first[DEPOSITORY_REQUEST_WORDS] = {[DEPOSITORY_REQUEST_SECURITY] = 101, [DEPOSITORY_REQUEST_TYPE] = 10,
+                                                      [DEPOSITORY_REQUEST_SHAREHOLDER] = 77, [DEPOSITORY_REQUEST_QUANTITY] = 40,
+                                                      [DEPOSITORY_REQUEST_DAY] = 1};
+    const uint64_t last[DEPOSITORY_REQUEST_WORDS] = {101, 10, 77, 2, 1};
+    const uint64_t above = (uint64_t)1 << 32;
+    tells(request(1, 11), "a request", first, DEPOSITORY_REQUEST_WORDS);
+    tells(request(1, LAST_REFERENCE), "the last reference", last, DEPOSITORY_REQUEST_WORDS);
+    reads_no_request(2, 11, "another member");
+    reads_no_request(1, 12, "another reference");
+    reads_no_request(2, 13, "a reference that waits");
+    reads_no_request(0, 11, "member 0");
+    reads_no_request(1, 0, "reference 0");
+    reads_no_request(1 + 1024, 11, "a member that no record can name");
+    reads_no_request(1 + above, 11, "a member of more than 32 bits");
+    reads_no_request(1, 11 + above, "a reference that no record can name");
+    reads_no_request(0, 11 + above, "a reference that reaches into the member");
+    reads_no_request(2, LAST_REFERENCE - above, "a reference below 0");
+    reads_no_request(UINT64_MAX, UINT64_MAX, "the largest member and reference");
+}
+
+/* Of a fresh book, and of the day after a request: it has ended, or it is still that of its day. */
+static void reads_ended_requests(void) {
+    const uint64_t night[][DEPOSITORY_FIELD_WORDS] = {
+        {[DEPOSITORY_FORM] = 16, [DEPOSITORY_MINUTE] = 960}, {[DEPOSITORY_FORM] = 16, [DEPOSITORY_MINUTE] = 960},
+        {[DEPOSITORY_FORM] = 16, [DEPOSITORY_MINUTE] = 960}, {[DEPOSITORY_FORM] = 17, [DEPOSITORY_MINUTE] = 960},
+        {[DEPOSITORY_FORM] = 1, [DEPOSITORY_MINUTE] = 470, [DEPOSITORY_QUANTITY] = 2},
+        {[DEPOSITORY_FORM] = 20, [DEPOSITORY_MINUTE] = 510, [DEPOSITORY_DEBITED_MEMBER] = 1, [DEPOSITORY_CREDITED_TYPE] = 110,
+         [DEPOSITORY_REFERENCE] = 11}};
+    const uint64_t open[DEPOSITORY_REQUEST_WORDS] = {101, 10, 77, 2, 1};
+    uint64_t counts[DEPOSITORY_COUNT_WORDS];
+    depository_fresh(book, DEPOSITORY_BOOK_WORDS);
+    reads_no_request(1, 11, "a fresh book");
+    short_day(book);
+    for (size_t i = 0; i < sizeof night / sizeof night[0]; i++) {
+        uint64_t number = call(book, night[i], counts);
+        check(number == 0, "a night and an ending", "answers", number);
+    }
+    reads_no_request(1, 11, "a request that has ended");
+    tells(request(1, LAST_REFERENCE), "a request of the day before", open, DEPOSITORY_REQUEST_WORDS);
+    depository_sizes(book, DEPOSITORY_BOOK_WORDS, values, DEPOSITORY_SIZE_WORDS);
+    check(values[DEPOSITORY_REQUESTS] == 1, "one request is open", "", values[DEPOSITORY_REQUESTS]);
 }
 
 static uint64_t item(size_t place) {
@@ -119,7 +176,9 @@ int main(void) {
     reads_securities();
     reads_figures();
     reads_items();
+    reads_requests();
     reads_the_rate();
+    reads_ended_requests();
     reads_a_deliver();
     return close_checks();
 }

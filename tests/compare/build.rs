@@ -6,11 +6,13 @@ use std::path::{Path, PathBuf};
 use std::process::Command;
 
 /// All of the library that this program calls.
-const FUNCTIONS: [&str; 6] = [
+const FUNCTIONS: [&str; 8] = [
     "depository_fresh",
     "depository_call",
     "depository_rate",
+    "depository_sizes",
     "depository_held",
+    "depository_request",
     "depository_read",
     "depository_write",
 ];

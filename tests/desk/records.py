@@ -2,7 +2,7 @@
 """Writes record files for the printing program, and what it is to print of them.
 
     records.py example         the records of RULES 13.7
-    records.py every           every form accepted, and every refusal from 2 to 18
+    records.py every           every form accepted, and every refusal from 2 to 21
     records.py example printed what the program prints of them
     records.py every printed
 
@@ -101,6 +101,14 @@ def set_rate(minute, rate, **more):
     return record(form=18, minute=minute, quantity=rate, **more)
 
 
+def request(minute, quantity, of, reference, security=101, **more):
+    return record(form=19, minute=minute, security=security, quantity=quantity, reference=reference, **side("debited", of), **more)
+
+
+def end_request(minute, sender, into, reference, **more):
+    return record(form=20, minute=minute, debited_member=sender, credited_type=into, reference=reference, **more)
+
+
 def example_records():
     holder = (7, 20, 5)
     return [
@@ -112,23 +120,34 @@ def example_records():
 
 
 def day_and_reading():
+    holder = (7, 20, 5)
     return [
         (admit(500, 101, 1000), 6, 0),  # no day is open
         (set_rate(480, 150_000), 6, 0),
+        (request(540, 1, holder, 1), 6, 0),
+        (end_request(540, 7, 120, 1), 6, 0),
         (open_day(481, 1), 9, 0),  # form 1 has until 480
         (open_day(470, 3), 5, 0),  # there is no day kind 3
         (open_day(470, 1), 0, 0),
         (open_day(471, 1), 6, 0),  # a day is open
         (record(form=0, minute=480), 3, 0),
-        (record(form=19, minute=480), 3, 0),
-        (deposit(540, 101, 400, (7, 20, 5), reference=1), 4, 0),  # a deposit has no reference
+        (record(form=21, minute=480), 3, 0),
+        (deposit(540, 101, 400, holder, reference=1), 4, 0),  # a deposit has no reference
+        (request(540, 0, holder, 1, credited_type=50), 4, 0),  # where requests lead is not said
+        (end_request(540, 7, 120, 0, quantity=1), 4, 0),  # nor how much an ending moves
         (record(form=16, minute=540, zero=1), 4, 0),  # the last 12 bits are no field
-        (deposit(540, 101, 0, (7, 20, 5)), 5, 0),
+        (deposit(540, 101, 0, holder), 5, 0),
+        (request(540, 0, holder, 1), 5, 0),
+        (end_request(540, 7, 120, 0), 5, 0),
         (cycle(1440), 5, 0),  # the day has 1,440 minutes
         (set_rate(480, 0), 5, 0),
         (set_rate(480, 0, amount=1), 4, 0),  # a rate has no amount
         (set_rate(469, 150_000), 8, 0),  # the day was opened at 470
         (set_rate(479, 150_000), 9, 0),  # rates from 480
+        (request(469, 1, holder, 1), 8, 0),
+        (end_request(469, 7, 120, 1), 8, 0),
+        (request(509, 1, holder, 1), 9, 0),  # requests and endings from 510
+        (end_request(509, 7, 120, 1), 9, 0),
         (close(500), 7, 0),  # no cycle has run
     ]
 
@@ -218,17 +237,70 @@ def pounds():
     ]
 
 
+def paper():
+    """Sixteen requests, one of another member, one from type 10, one under a reference that waits."""
+    holder, other, third = (7, 20, 5), (8, 20, 5), (7, 10, 5)
+    return [
+        (request(829, 1, holder, 1, security=999), 10, 0),
+        (request(829, 1, (7, 21, 5), 1), 11, 0),  # pledged
+        (request(829, 161, holder, 1), 16, 0),  # 160 are there
+        (end_request(829, 7, 91, 1), 19, 0),  # none such
+        (request(829, 10, holder, 1), 0, 2),
+        (request(829, 161, holder, 1), 19, 0),  # 7 has 1 open
+        (request(829, 5, other, 1), 0, 2),  # 8 has not
+        (request(829, 1, holder, 35), 0, 2),  # 35 waits besides
+        (cancel(829, 8, 1), 14, 0),  # a request cannot be cancelled
+        (deposit(829, 101, 20, third), 0, 2),
+        (request(829, 4, third, 36), 0, 2),
+        (request(829, 1, (7, 50, 5), 37), 11, 0),
+        (withdraw(829, 101, 1, (7, 50, 5)), 11, 0),
+        (end_request(829, 7, 120, 1), 20, 0),  # of today
+        (end_request(829, 7, 110, 1), 19, 0),  # it came from 20
+        (end_request(829, 7, 120, 36), 19, 0),  # it came from 10
+        (end_request(829, 8, 110, 36), 19, 0),  # it is 7's
+        (end_request(829, 8, 20, 36), 11, 0),  # no request leads to 20
+        *[(request(829, 1, holder, 300 + n), 0, 2) for n in range(12)],
+        (request(829, 161, other, 2), 21, 0),  # sixteen are open
+        (request(829, 1, other, 1), 19, 0),
+    ]
+
+
 def full_tables():
     securities = [(admit(830, code, 1), 0, 2) for code in range(102, 133)]
     items = [(deliver(840, 1, 1_000, 100 + n, days=(1, 21)), 0, 0) for n in range(62)]
+    accounts = [(deposit(841, 101, 2, (1 + n % 64, 10, 1_000 + n)), 0, 2) for n in range(186)]
     cash = [(pay_in(900, 1 + n % 64, MOST), 0, 2) for n in range(909)]
     return [
         *securities,
         (admit(830, 133, 1), 18, 0),  # 32 are admitted
         *items,
         (deliver(840, 1, 1_000, 200, days=(1, 21)), 18, 0),  # 64 wait
+        *accounts,
+        (deposit(841, 101, 2, (9, 10, 9)), 18, 0),  # 192 accounts besides, and 16 requests that do not count
+        (request(871, 1, (7, 20, 5), 2), 9, 0),  # until 870
+        (end_request(871, 7, 120, 1), 9, 0),
         *cash,
         (pay_in(900, 1, MOST), 17, 0),  # the ceiling of the currency's total
+    ]
+
+
+def paper_in_full_book():
+    """The day after: what empties an account may open another, and the last request under a reference counts."""
+    small, other = (1, 10, 1_000), (2, 10, 1_001)
+    return [
+        (end_request(510, 7, 120, 1), 18, 0),  # a rest stays in type 50
+        (end_request(510, 7, 91, 35), 0, 2),  # to the outside there is always room
+        (request(510, 1, small, 7), 18, 0),  # a rest stays in type 10
+        (request(510, 2, small, 7), 0, 2),
+        (request(510, 2, other, 8), 21, 0),  # sixteen again
+        (end_request(510, 1, 110, 7), 20, 0),
+        (end_request(510, 8, 120, 1), 0, 2),  # nothing stays in 8's type 50
+        (end_request(510, 7, 110, 36), 18, 0),
+        (withdraw(511, 101, 2, other), 0, 2),
+        (end_request(511, 7, 110, 36), 0, 2),
+        (request(511, 3, (7, 10, 5), 36), 0, 2),  # 36 is free again
+        (end_request(511, 7, 91, 36), 20, 0),
+        (end_request(751, 7, 91, 35), 9, 0),  # on a Friday until 750
     ]
 
 
@@ -243,23 +315,28 @@ def last_days():
         (deliver(480, 1, 1_000, 61, **terms), 0, 0),
         (receive(480, 1, 3_001_021, 62, **terms), 18, 0),  # 64 wait, and at 150,001 it is 1 too much
         (receive(480, 1, 3_001_020, 62, **terms), 0, 0),  # pairs, as the rate outlasts the night
+        *paper_in_full_book(),
         (cycle(585), 0, 0),
         (cycle(705), 0, 0),
         (set_rate(901, 150_000), 9, 0),  # on a Friday until 900
         (set_rate(900, MOST), 0, 0),
         (close(900), 0, 0),
+        (open_day(470, 1), 0, 0),
+        (end_request(510, 7, 91, 36), 0, 2),  # 3 leave, as its second request says
+        (end_request(510, 7, 91, 36), 19, 0),
+        (end_request(510, 7, 91, 311), 0, 2),  # two days after its request
         (tail, 2, 0),  # 17 bytes are left
     ]
 
 
 def every():
-    return day_and_reading() + holdings() + trades() + pounds() + full_tables() + last_days()
+    return day_and_reading() + holdings() + trades() + pounds() + paper() + full_tables() + last_days()
 
 
 # code, issued, held, outside of each security
 CUSTODY = {
     example_records: [(101, 1000, 400, 600)],
-    every: [(101, 1000, 350, 650)] + [(code, 1, 0, 1) for code in range(102, 133)],
+    every: [(101, 1000, 735, 265)] + [(code, 1, 0, 1) for code in range(102, 133)],
 }
 
 

@@ -15,10 +15,10 @@ copy() {
     cp -R Cargo.toml Cargo.lock reference boundary compare standin "$work/source/"
 }
 
-# build: the stand-in from the copy. A slip may leave a name unused.
+# build: the stand-in from the copy. A slip may leave a name unused, and changes a few lines, so only what they touch is compiled again.
 build() {
     (cd "$work/source" &&
-        RUSTFLAGS='-A warnings' cargo --offline build --quiet --release -p standin --target-dir "$work/build")
+        CARGO_INCREMENTAL=1 RUSTFLAGS='-A warnings' cargo --offline build --quiet --release -p standin --target-dir "$work/build")
 }
 
 copy

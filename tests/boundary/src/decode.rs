@@ -2,7 +2,8 @@
 
 use std::collections::BTreeMap;
 
-use reference::book::{Account, Book, Day, Half, Item, Purse, Security, Side, State};
+use reference::account_types::PAPER;
+use reference::book::{Account, Book, Day, Half, Item, LAST_DAY, Purse, Request, RequestName, Security, Side, State};
 use reference::record::{Field, usual_range};
 
 use crate::*;
@@ -18,6 +19,7 @@ pub fn decode(words: &[u64]) -> Result<Book, String> {
         cash: cash(&words[CASH..WAITING]),
         waiting: waiting(&words[WAITING..RATE])?,
         rate: rate(words[RATE])?,
+        requests: requests(&words[REQUESTS..])?,
     })
 }
 
@@ -110,6 +112,44 @@ fn state(state: u64, first: u64, second: u64, marks: u64) -> Result<State, Strin
 
 /// RULES 3.1.
 fn rate(word: u64) -> Result<u64, String> {
-    let (least, most) = usual_range(Field::Quantity);
-    if (least..=most).contains(&word) { Ok(word) } else { Err(format!("the rate is {word}")) }
+    if in_range(Field::Quantity, word) { Ok(word) } else { Err(format!("the rate is {word}")) }
+}
+
+/// Whether a record's field can hold a value that is used.
+fn in_range(field: Field, value: u64) -> bool {
+    let (least, most) = usual_range(field);
+    (least..=most).contains(&value)
+}
+
+fn requests(words: &[u64]) -> Result<BTreeMap<RequestName, Request>, String> {
+    let count = count(words[0], REQUEST_ROOM, "requests")?;
+    let at = |table: usize, place: usize| words[1 + table * REQUEST_ROOM + place];
+    let row = |place| request(at(0, place), at(1, place), at(2, place));
+    let map = (0..count).map(row).collect::<Result<BTreeMap<RequestName, Request>, String>>()?;
+    if map.len() < count { Err("a request stands twice in the table".to_string()) } else { Ok(map) }
+}
+
+fn request(key: u64, origin: u64, size: u64) -> Result<(RequestName, Request), String> {
+    let name = RequestName { member: key >> 32, reference: key & 0xFFFF_FFFF };
+    let request = Request {
+        security: origin >> 38,
+        account_type: origin >> 30 & 0xFF,
+        shareholder: origin & 0x3FFF_FFFF,
+        quantity: size >> 16,
+        day: size & 0xFFFF,
+    };
+    let ranges = [
+        (Field::DebitedMember, name.member),
+        (Field::Reference, name.reference),
+        (Field::Security, request.security),
+        (Field::DebitedShareholder, request.shareholder),
+        (Field::Quantity, request.quantity),
+    ];
+    let from_book_entry = PAPER.iter().any(|(from, _)| *from == request.account_type);
+    let on_a_day = (1..=LAST_DAY).contains(&request.day);
+    if from_book_entry && on_a_day && ranges.iter().all(|(field, value)| in_range(*field, *value)) {
+        Ok((name, request))
+    } else {
+        Err(format!("a request has {name:?}, {request:?}"))
+    }
 }

@@ -1,6 +1,6 @@
 //! From the plain book to words.
 
-use reference::book::{Account, Book, Item, State};
+use reference::book::{Account, Book, Item, Request, RequestName, State};
 
 use crate::*;
 
@@ -15,6 +15,7 @@ pub fn encode(book: &Book, words: &mut [u64]) {
     cash(book, &mut words[CASH..WAITING]);
     waiting(book, &mut words[WAITING..RATE]);
     words[RATE] = book.rate;
+    requests(book, &mut words[REQUESTS..]);
 }
 
 fn securities(book: &Book, words: &mut [u64]) {
@@ -79,5 +80,22 @@ fn item_words(item: &Item) -> [u64; ITEM_WORDS] {
         first,
         second,
         marks,
+    ]
+}
+
+fn requests(book: &Book, words: &mut [u64]) {
+    words[0] = book.requests.len() as u64;
+    for (place, (name, request)) in book.requests.iter().enumerate() {
+        for (table, word) in request_words(name, request).into_iter().enumerate() {
+            words[1 + table * REQUEST_ROOM + place] = word;
+        }
+    }
+}
+
+fn request_words(name: &RequestName, request: &Request) -> [u64; 3] {
+    [
+        name.member << 32 | name.reference,
+        request.security << 38 | request.account_type << 30 | request.shareholder,
+        request.quantity << 16 | request.day,
     ]
 }

@@ -6,12 +6,16 @@
 
 mod decode;
 mod encode;
+mod told;
 
 pub use decode::decode;
 pub use encode::encode;
+pub use told::{request_told, sizes_told};
 
-pub const BOOK_WORDS: usize = 1772;
+pub const BOOK_WORDS: usize = 1821;
 pub const COUNT_WORDS: usize = 6;
+pub const SIZE_WORDS: usize = 4;
+pub const REQUEST_WORDS: usize = 5;
 
 /// What is answered for a buffer of a wrong length.
 pub const WRONG_BOOK: u64 = 1001;
@@ -35,6 +39,10 @@ const ITEM_ROOM: usize = 64;
 const ITEM_WORDS: usize = 16;
 /// The rate, one word.
 const RATE: usize = 1771;
+/// The open requests: count, then keys, then what was requested and of whom,
+/// then quantities and days. Their order is free, as that of accounts is.
+const REQUESTS: usize = 1772;
+const REQUEST_ROOM: usize = 16;
 
 /// The state word of a waiting item.
 const SINGLE: u64 = 0;
@@ -42,42 +50,4 @@ const PAIR: u64 = 1;
 const EXCHANGE_TRADE: u64 = 2;
 
 #[cfg(test)]
-mod tests {
-    use super::*;
-    use reference::book::Book;
-
-    /// The words of a fresh book, but for its rate.
-    fn words_at(rate: u64) -> Vec<u64> {
-        let mut words = vec![u64::MAX; BOOK_WORDS];
-        encode(&Book::fresh(), &mut words);
-        words[BOOK_WORDS - 1] = rate;
-        words
-    }
-
-    #[test]
-    fn the_parts_lie_one_behind_the_other() {
-        assert_eq!(SECURITIES + 1 + 3 * SECURITY_ROOM, ACCOUNTS);
-        assert_eq!(ACCOUNTS + 1 + 2 * ACCOUNT_ROOM, CASH);
-        assert_eq!(CASH + 2 * 64, WAITING);
-        assert_eq!(WAITING + 1 + ITEM_ROOM * ITEM_WORDS, RATE);
-        assert_eq!(RATE + 1, BOOK_WORDS);
-    }
-
-    #[test]
-    fn the_last_word_is_the_rate() {
-        for rate in [1, 150_750, (1 << 40) - 1] {
-            let book = Book { rate, ..Book::fresh() };
-            assert_eq!(decode(&words_at(rate)), Ok(book.clone()));
-            let mut words = words_at(0);
-            encode(&book, &mut words);
-            assert_eq!(words, words_at(rate));
-        }
-    }
-
-    #[test]
-    fn a_rate_that_no_record_sets_is_no_books() {
-        for rate in [0, 1 << 40, u64::MAX] {
-            assert!(decode(&words_at(rate)).is_err_and(|text| text.contains("rate")));
-        }
-    }
-}
+mod tests;

@@ -2,6 +2,7 @@
 
 use std::borrow::Cow;
 
+use boundary::{REQUEST_WORDS, SIZE_WORDS, request_told, sizes_told};
 use reference::book::Book;
 use reference::call::Answer;
 use reference::record::{self, Fields};
@@ -14,7 +15,11 @@ pub trait Depository: Clone {
     fn fresh() -> Self;
     fn call(&mut self, record: &[u8], area: &mut [u8]) -> Result<Answer, String>;
     fn rate(&self) -> u64;
+    /// Securities, accounts, items and open requests.
+    fn sizes(&self) -> [u64; SIZE_WORDS];
     fn held(&self, security: u64) -> u64;
+    /// Security, type, shareholder, quantity and day of an open request.
+    fn request(&self, member: u64, reference: u64) -> [u64; REQUEST_WORDS];
     fn book(&self) -> Result<Cow<'_, Book>, String>;
     fn read(record: &[u8]) -> Result<Result<Fields, u64>, String>;
     fn write(fields: &Fields, area: &mut [u8]) -> Result<(), u64>;
@@ -37,8 +42,16 @@ impl Depository for Book {
         self.rate
     }
 
+    fn sizes(&self) -> [u64; SIZE_WORDS] {
+        sizes_told(self)
+    }
+
     fn held(&self, security: u64) -> u64 {
         Book::held(self, security)
+    }
+
+    fn request(&self, member: u64, reference: u64) -> [u64; REQUEST_WORDS] {
+        request_told(self, member, reference)
     }
 
     fn book(&self) -> Result<Cow<'_, Book>, String> {

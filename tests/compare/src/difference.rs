@@ -15,6 +15,7 @@ pub fn first_difference(expected: &Book, found: &Book) -> Option<String> {
         .or_else(|| map_difference(&expected.cash, &found.cash))
         .or_else(|| list_difference("waiting item", &expected.waiting, &found.waiting))
         .or_else(|| differs("rate", &expected.rate, &found.rate))
+        .or_else(|| map_difference(&expected.requests, &found.requests))
 }
 
 fn differs<T: PartialEq + Debug>(name: &str, expected: &T, found: &T) -> Option<String> {
@@ -26,7 +27,11 @@ fn list_difference<T: PartialEq + Debug>(name: &str, expected: &[T], found: &[T]
     (0..expected.len().max(found.len())).find_map(place)
 }
 
-fn map_difference<K: Ord + Copy + Debug>(expected: &BTreeMap<K, u64>, found: &BTreeMap<K, u64>) -> Option<String> {
+fn map_difference<K, V>(expected: &BTreeMap<K, V>, found: &BTreeMap<K, V>) -> Option<String>
+where
+    K: Ord + Copy + Debug,
+    V: PartialEq + Debug,
+{
     let keys: BTreeSet<K> = expected.keys().chain(found.keys()).copied().collect();
     keys.iter().find_map(|key| differs(&format!("{key:?}"), &expected.get(key), &found.get(key)))
 }

@@ -13,5 +13,6 @@ pub mod record_alone;
 pub mod run;
 pub mod streams;
 pub mod sweeps;
+mod told;
 pub mod totals;
 pub mod worked;

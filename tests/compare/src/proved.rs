@@ -3,7 +3,7 @@
 
 use std::borrow::Cow;
 
-use boundary::{BOOK_WORDS, COUNT_WORDS, WRONG_BOOK, decode};
+use boundary::{BOOK_WORDS, COUNT_WORDS, REQUEST_WORDS, SIZE_WORDS, WRONG_BOOK, decode};
 use reference::book::{Book, FIRST_RATE};
 use reference::call::{Answer, Counts};
 use reference::record::{FIELD_COUNT, Fields};
@@ -23,7 +23,16 @@ unsafe extern "C" {
         counts_words: usize,
     ) -> u64;
     fn depository_rate(book: *const u64, words: usize, values: *mut u64, values_words: usize) -> u64;
+    fn depository_sizes(book: *const u64, words: usize, values: *mut u64, values_words: usize) -> u64;
     fn depository_held(book: *const u64, words: usize, security: u64, values: *mut u64, values_words: usize) -> u64;
+    fn depository_request(
+        book: *const u64,
+        words: usize,
+        member: u64,
+        reference: u64,
+        values: *mut u64,
+        values_words: usize,
+    ) -> u64;
     fn depository_read(record: *const u8, record_bytes: usize, fields: *mut u64, fields_words: usize) -> u64;
     fn depository_write(fields: *const u64, fields_words: usize, area: *mut u8, area_bytes: usize) -> u64;
 }
@@ -79,6 +88,14 @@ impl Depository for Proved {
         rate[0]
     }
 
+    fn sizes(&self) -> [u64; SIZE_WORDS] {
+        let mut sizes = [UNTOUCHED; SIZE_WORDS];
+        // SAFETY: as in `call`.
+        let number = unsafe { depository_sizes(self.words.as_ptr(), BOOK_WORDS, sizes.as_mut_ptr(), sizes.len()) };
+        assert_eq!(number, 0, "a book of the right length is read");
+        sizes
+    }
+
     fn held(&self, security: u64) -> u64 {
         let mut held = [UNTOUCHED];
         // SAFETY: as in `call`.
@@ -86,6 +103,15 @@ impl Depository for Proved {
             unsafe { depository_held(self.words.as_ptr(), BOOK_WORDS, security, held.as_mut_ptr(), held.len()) };
         assert_eq!(number, 0, "a book of the right length is read");
         held[0]
+    }
+
+    fn request(&self, member: u64, reference: u64) -> [u64; REQUEST_WORDS] {
+        let mut values = [UNTOUCHED; REQUEST_WORDS];
+        let (words, place) = (self.words.as_ptr(), values.as_mut_ptr());
+        // SAFETY: as in `call`.
+        let number = unsafe { depository_request(words, BOOK_WORDS, member, reference, place, REQUEST_WORDS) };
+        assert_eq!(number, 0, "a book of the right length is read");
+        values
     }
 
     fn book(&self) -> Result<Cow<'_, Book>, String> {
@@ -120,6 +146,8 @@ impl Depository for Proved {
             ("no fresh book in one word more", keeps_wrong_length(BOOK_WORDS + 1)),
             ("a fresh book over any words", Proved::fresh().book().is_ok_and(|book| *book == Book::fresh())),
             ("the rate of a fresh book is told", Proved::fresh().rate() == FIRST_RATE),
+            ("the sizes of a fresh book are told", Proved::fresh().sizes() == [0; SIZE_WORDS]),
+            ("no request of a fresh book is told", Proved::fresh().request(1, 1) == [0; REQUEST_WORDS]),
         ]
     }
 }

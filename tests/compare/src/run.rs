@@ -11,6 +11,7 @@ use crate::depository::Depository;
 use crate::difference::first_difference;
 use crate::generator::profile::{Profile, fast_days, profiles};
 use crate::generator::{Call, Generator};
+use crate::told;
 use crate::totals::Totals;
 
 /// The totals are held against the book under test after so many calls, and
@@ -96,8 +97,8 @@ impl<D: Depository> Sides<D> {
         Sides { book: Book::fresh(), under_test: D::fresh(), totals: Totals::default() }
     }
 
-    /// One call on both sides: the answer, or what differs.
-    pub fn call(&mut self, call: &Call) -> Result<Answer, String> {
+    /// One call on both sides: the answer and the area, or what differs.
+    pub fn call(&mut self, call: &Call) -> Result<(Answer, Vec<u8>), String> {
         let mut expected_area = call.area.clone();
         let mut area = call.area.clone();
         let expected = self.book.call(&call.record, &mut expected_area);
@@ -115,7 +116,7 @@ impl<D: Depository> Sides<D> {
             return Err(after(text));
         }
         self.totals.take(&call.record, &found, &area);
-        Ok(found)
+        Ok((found, area))
     }
 
     /// The first difference of the books, for a report.
@@ -125,7 +126,7 @@ impl<D: Depository> Sides<D> {
     }
 
     /// One call with a good record and an area that is just long enough.
-    pub fn send(&mut self, order: &Order) -> Result<Answer, String> {
+    pub fn send(&mut self, order: &Order) -> Result<(Answer, Vec<u8>), String> {
         let call = Call { record: pack(&order.fields(), 0).to_vec(), area: vec![0x5A; AREA_BYTES] };
         self.call(&call).map_err(|what| format!("{order:?}\n  {what}"))
     }
@@ -134,24 +135,7 @@ impl<D: Depository> Sides<D> {
     /// against the book of the reference.
     pub fn check_totals(&self) -> Result<(), String> {
         self.totals.check(&*self.under_test.book()?, |security| self.under_test.held(security))?;
-        self.held_of_others()?;
-        self.rate_told()
-    }
-
-    /// Nothing is held of a security that is not admitted.
-    fn held_of_others(&self) -> Result<(), String> {
-        let unknown = [0, 1, 16_383, 1 << 14, u64::MAX].into_iter().filter(|code| self.book.security(*code).is_none());
-        for code in unknown {
-            if self.under_test.held(code) != 0 {
-                return Err(format!("security {code} is not admitted, but held"));
-            }
-        }
-        Ok(())
-    }
-
-    fn rate_told(&self) -> Result<(), String> {
-        let (expected, told) = (self.book.rate, self.under_test.rate());
-        if told == expected { Ok(()) } else { Err(format!("the rate is {expected}, but {told} is told")) }
+        told::check(&self.book, &self.under_test)
     }
 }
 

@@ -15,13 +15,16 @@ const CODE: u64 = 101;
 
 /// Forms that name types, and how many values or couples the paper allows.
 const TYPES_ALLOWED: &[(u64, u64)] =
-    &[(3, 4), (4, 4), (5, 8), (6, 3), (7, 3), (8, 4), (9, 4), (12, 4), (13, 4), (14, 8)];
+    &[(3, 4), (4, 4), (5, 8), (6, 3), (7, 3), (8, 4), (9, 4), (12, 4), (13, 4), (14, 8), (19, 2), (20, 3)];
+
+/// The types to which a request leads, by the one that it came from.
+const ENDINGS: [(u64, [u64; 2]); 2] = [(10, [91, 110]), (20, [91, 120])];
 
 /// Sends an order that must be accepted.
 fn accepted<D: Depository>(sides: &mut Sides<D>, order: Order) -> Result<(), String> {
     match sides.send(&order)? {
-        Answer::Accepted(_) => Ok(()),
-        Answer::Refused(number) => Err(format!("{order:?} is refused with {number}")),
+        (Answer::Accepted(_), _) => Ok(()),
+        (Answer::Refused(number), _) => Err(format!("{order:?} is refused with {number}")),
     }
 }
 
@@ -42,7 +45,7 @@ pub fn types<D: Depository>() -> Result<Vec<(u64, bool)>, String> {
         for debited in types_tried(form.uses(Field::DebitedType)) {
             for credited in types_tried(form.uses(Field::CreditedType)) {
                 let order = Order { debited_type: debited, credited_type: credited, ..refused_later(number) };
-                let answer = sides.send(&order)?;
+                let (answer, _) = sides.send(&order)?;
                 count += u64::from(answer != Answer::Refused(11));
             }
         }
@@ -56,14 +59,16 @@ fn types_tried(used: bool) -> std::ops::RangeInclusive<u64> {
     if used { 1..=255 } else { 0..=0 }
 }
 
-/// An order that is refused for its days (13) or balance (16) if its types
-/// are right, so that the book stays as it is.
+/// An order that is refused for its days (13), balance (16) or request (19) if
+/// its types are right, so that the book stays as it is.
 fn refused_later(number: u64) -> Order {
     let order = order_between(number, 540);
     match number {
         3 => Order { quantity: 2, debited_member: 0, debited_shareholder: 0, settlement_day: 0, ..order },
         4 => Order { credited_member: 0, credited_shareholder: 0, settlement_day: 0, ..order },
         5..=9 => Order { settlement_day: 9, ..order },
+        19 => Order { credited_member: 0, credited_shareholder: 0, reference: 1, ..order },
+        20 => Order { debited_member: 7, reference: 1, ..form(number, 540) },
         _ => Order { currency: 1, amount: 1, trade_day: 2, settlement_day: 9, reference: 1, ..order },
     }
 }
@@ -174,7 +179,7 @@ fn every_minute<D: Depository>(before: &Sides<D>, order: &Order) -> Result<u64, 
     let mut sides = before.clone();
     let mut count = 0;
     for minute in 0..=1439 {
-        if let Answer::Accepted(_) = sides.send(&Order { minute, ..*order })? {
+        if let (Answer::Accepted(_), _) = sides.send(&Order { minute, ..*order })? {
             count += 1;
             sides = before.clone();
         }
@@ -182,12 +187,31 @@ fn every_minute<D: Depository>(before: &Sides<D>, order: &Order) -> Result<u64, 
     Ok(count)
 }
 
-/// A first day, closed, that leaves shares, cash and a pair for every form.
+/// Every type as the end of a request from 10 and of one from 20: whether those
+/// that are taken are the paper's.
+pub fn endings<D: Depository>() -> Result<bool, String> {
+    let mut before = prepared_day::<D>()?;
+    accepted(&mut before, Order { quantity: 1, ..form(1, 0) })?;
+    let mut taken = Vec::new();
+    for (from, reference) in [(10, 10), (20, 20)] {
+        for credited_type in types_tried(true) {
+            let order = Order { debited_member: 7, credited_type, reference, ..form(20, 540) };
+            if let (Answer::Accepted(_), _) = before.clone().send(&order)? {
+                taken.push((from, credited_type));
+            }
+        }
+    }
+    Ok(taken.into_iter().eq(ENDINGS.into_iter().flat_map(|(from, types)| types.map(|credited| (from, credited)))))
+}
+
+/// A first day, closed, that leaves shares, cash, a pair and requests for every
+/// form. A request has the type that it came from for its reference.
 fn prepared_day<D: Depository>() -> Result<Sides<D>, String> {
     let mut sides = Sides::<D>::fresh();
     accepted(&mut sides, Order { quantity: 1, ..form(1, 0) })?;
     accepted(&mut sides, Order { security: CODE, quantity: 1_000, ..form(2, 500) })?;
     let deposit = Order { debited_member: 0, debited_shareholder: 0, credited_member: 7, ..order_between(3, 540) };
+    accepted(&mut sides, Order { credited_type: 10, quantity: 100, ..deposit })?;
     accepted(&mut sides, Order { credited_type: 20, quantity: 100, ..deposit })?;
     for (number, other) in [(6, 21), (8, 22)] {
         let order = Order { debited_type: 20, credited_type: other, quantity: 10, ..order_between(number, 540) };
@@ -198,6 +222,10 @@ fn prepared_day<D: Depository>() -> Result<Sides<D>, String> {
         Order { currency: 1, amount: 50, trade_day: 1, settlement_day: 15, reference: 1, ..order_between(12, 540) };
     accepted(&mut sides, Order { debited_type: 20, ..terms })?;
     accepted(&mut sides, Order { form: 13, credited_type: 20, ..terms })?;
+    for (reference, debited_type) in [(10, 10), (20, 20)] {
+        let order = Order { debited_type, quantity: 10, reference, ..order_between(19, 540) };
+        accepted(&mut sides, Order { credited_member: 0, credited_shareholder: 0, ..order })?;
+    }
     for minute in cycle_minutes(1) {
         accepted(&mut sides, form(16, *minute))?;
     }
@@ -208,21 +236,7 @@ fn prepared_day<D: Depository>() -> Result<Sides<D>, String> {
 /// Orders of every form that day 2 accepts in their windows.
 fn good_orders() -> Vec<(Window, Order)> {
     use Window::*;
-    let typed = |number, debited, credited| Order {
-        debited_type: debited,
-        credited_type: credited,
-        settlement_day: 2,
-        ..order_between(number, 0)
-    };
-    let terms = |number, debited, credited, day| Order {
-        currency: 1,
-        amount: 1,
-        trade_day: 2,
-        settlement_day: day,
-        reference: 9,
-        ..typed(number, debited, credited)
-    };
-    vec![
+    let mut orders = vec![
         (Opening, Order { quantity: 1, ..form(1, 0) }),
         (Working, Order { security: 102, quantity: 1, ..form(2, 0) }),
         (Custody, Order { debited_member: 0, debited_shareholder: 0, settlement_day: 0, ..typed(3, 0, 20) }),
@@ -234,14 +248,44 @@ fn good_orders() -> Vec<(Window, Order)> {
         (Custody, typed(9, 22, 20)),
         (Working, Order { currency: 2, credited_member: 7, amount: 1, ..form(10, 0) }),
         (Working, Order { currency: 1, debited_member: 7, amount: 1, ..form(11, 0) }),
-        (SameDay, terms(12, 20, 0, 2)),
-        (Working, terms(12, 20, 0, 3)),
-        (SameDay, terms(13, 0, 20, 2)),
-        (Working, terms(13, 0, 20, 22)),
-        (Working, terms(14, 20, 10, 5)),
         (Working, Order { debited_member: 7, reference: 1, ..form(15, 0) }),
         (Cycle, form(16, 0)),
         (Close, form(17, 0)),
         (Working, Order { quantity: 1, ..form(18, 0) }),
+    ];
+    orders.extend(good_trades());
+    orders.extend(good_requests().map(|order| (Custody, order)));
+    orders
+}
+
+/// An order between two types on day 2.
+fn typed(number: u64, debited_type: u64, credited_type: u64) -> Order {
+    Order { debited_type, credited_type, settlement_day: 2, ..order_between(number, 0) }
+}
+
+fn good_trades() -> [(Window, Order); 5] {
+    let terms = |number, debited, credited, day| Order {
+        currency: 1,
+        amount: 1,
+        trade_day: 2,
+        settlement_day: day,
+        reference: 9,
+        ..typed(number, debited, credited)
+    };
+    [
+        (Window::SameDay, terms(12, 20, 0, 2)),
+        (Window::Working, terms(12, 20, 0, 3)),
+        (Window::SameDay, terms(13, 0, 20, 2)),
+        (Window::Working, terms(13, 0, 20, 22)),
+        (Window::Working, terms(14, 20, 10, 5)),
+    ]
+}
+
+/// A new request, and the ending of one that the first day has left.
+fn good_requests() -> [Order; 2] {
+    let request = Order { debited_type: 20, reference: 9, ..order_between(19, 0) };
+    [
+        Order { credited_member: 0, credited_shareholder: 0, ..request },
+        Order { debited_member: 7, credited_type: 120, reference: 20, ..form(20, 0) },
     ]
 }

@@ -3,6 +3,7 @@
 
 use std::collections::{BTreeMap, BTreeSet};
 
+use reference::account_types::REQUESTED;
 use reference::book::{Account, Book, Purse};
 use reference::call::{Answer, Counts};
 use reference::forms::{self, Written};
@@ -15,6 +16,9 @@ const PLEDGED_OR_BLOCKED: [u64; 7] = [11, 21, 121, 12, 22, 112, 122];
 pub struct Totals {
     deposits: BTreeMap<u64, i128>,
     withdrawals: BTreeMap<u64, i128>,
+    /// Security and quantity of the last form 19, by its debited member and
+    /// reference; it stays when the request ends.
+    requested: BTreeMap<(u64, u64), (u64, i128)>,
     pay_ins: BTreeMap<u64, i128>,
     pay_outs: BTreeMap<u64, i128>,
     issued: BTreeMap<u64, i128>,
@@ -62,7 +66,19 @@ impl Totals {
             7 | 9 => add(&mut self.released, debited(order), quantity),
             10 => add(&mut self.pay_ins, order.currency, amount),
             11 => add(&mut self.pay_outs, order.currency, amount),
+            19 => {
+                self.requested.insert((order.debited_member, order.reference), (order.security, quantity));
+            }
+            20 if order.credited_type == 91 => self.take_leaving(order),
             _ => {}
+        }
+    }
+
+    /// What leaves by a request is withdrawn, with the security and quantity
+    /// of its form 19 (RULES 12.6).
+    fn take_leaving(&mut self, order: &Order) {
+        if let Some((security, quantity)) = self.requested.get(&(order.debited_member, order.reference)) {
+            add(&mut self.withdrawals, *security, *quantity);
         }
     }
 
@@ -136,8 +152,23 @@ impl Totals {
                 same("pledged or blocked = put in - released", account, balance, kept)?;
             }
         }
-        Ok(())
+        check_requested(book)
     }
+}
+
+/// What stands in type 50 is what is asked for by the open requests, and each
+/// of them was made by today.
+fn check_requested(book: &Book) -> Result<(), String> {
+    let mut requested = BTreeMap::new();
+    for (name, request) in &book.requests {
+        add(&mut requested, request.account(name.member), i128::from(request.quantity));
+        same("request not after today", name, i128::from(request.day.max(book.day.number)), book.day.number.into())?;
+    }
+    let of_type = book.accounts.keys().filter(|account| account.account_type == REQUESTED);
+    for account in of_type.chain(requested.keys()) {
+        same("type 50 = open requests", account, i128::from(book.balance(account)), at(&requested, account))?;
+    }
+    Ok(())
 }
 
 /// The sides that a call removed, in any way.

@@ -1,6 +1,6 @@
 //! The worked lists of the reference, on both sides.
 
-use reference::worked::List;
+use reference::worked::{List, Reply};
 
 use crate::depository::Depository;
 use crate::run::Sides;
@@ -10,8 +10,8 @@ use crate::run::Sides;
 pub fn run<D: Depository>(list: &List) -> Result<(), String> {
     let mut sides = Sides::<D>::fresh();
     list.run(|order| {
-        let answer = sides.send(order)?;
+        let (answer, area) = sides.send(order)?;
         sides.check_totals()?;
-        Ok((answer, sides.book.clone()))
+        Ok(Reply { answer, area, book: sides.book.clone() })
     })
 }

@@ -92,6 +92,90 @@ fn a_rate_counts_nowhere() {
     assert_eq!(totals.check(&book, |security| book.held(security)), Ok(()));
 }
 
+/// A list of orders that are all accepted. Of one of them the totals may see
+/// another form, so that they take its rows alone.
+fn list_of(orders: &[Order], unseen: Option<usize>) -> (Totals, Book) {
+    let (mut totals, mut book) = (Totals::default(), Book::fresh());
+    for (place, order) in orders.iter().enumerate() {
+        let mut area = [0; 4096];
+        let answer = book.call(&pack(&order.fields(), 0), &mut area);
+        assert!(matches!(answer, Answer::Accepted(_)), "{order:?}: {answer:?}");
+        let form = if unseen == Some(place) { 5 } else { order.form };
+        totals.take(&pack(&Order { form, ..*order }.fields(), 0), &answer, &area);
+    }
+    (totals, book)
+}
+
+fn form(form: u64, minute: u64) -> Order {
+    Order { form, minute, ..Order::default() }
+}
+
+/// A day of kind 2 from its opening to its last call.
+fn day_of(orders: &[Order]) -> Vec<Order> {
+    let evening = [form(16, 900), form(16, 900), form(17, 900)];
+    [&[Order { quantity: 2, ..form(1, 0) }], orders, &evening].concat()
+}
+
+fn deposit(security: u64, quantity: u64) -> Order {
+    let to = Order { credited_member: 7, credited_type: 10, credited_shareholder: 5, ..form(3, 540) };
+    Order { security, quantity, ..to }
+}
+
+/// Under reference 9.
+fn request(security: u64, quantity: u64) -> Order {
+    let from = Order { debited_member: 7, debited_type: 10, debited_shareholder: 5, ..form(19, 540) };
+    Order { security, quantity, reference: 9, ..from }
+}
+
+fn end_request(credited_type: u64) -> Order {
+    Order { debited_member: 7, credited_type, reference: 9, ..form(20, 540) }
+}
+
+/// One reference for three requests in turn: into paper, out, and out with
+/// another security and quantity.
+fn three_requests() -> Vec<Order> {
+    let admit = |security| Order { security, quantity: 1_000, ..form(2, 500) };
+    let first = [admit(101), admit(102), deposit(101, 400), deposit(102, 300), request(101, 100)];
+    let second = [end_request(110), request(101, 50)];
+    let third = [end_request(91), request(102, 7)];
+    [day_of(&first), day_of(&second), day_of(&third), day_of(&[end_request(91)])].concat()
+}
+
+#[test]
+fn what_leaves_by_a_request_is_withdrawn() {
+    let (totals, book) = list_of(&three_requests(), None);
+    assert_eq!(totals.check(&book, |security| book.held(security)), Ok(()));
+    assert_eq!([101, 102].map(|security| book.held(security)), [350, 293]);
+}
+
+/// A form 19 that ends in paper counts for nothing; without one of the others
+/// an earlier one would count in its place.
+#[test]
+fn the_last_request_before_an_ending_counts() {
+    let orders = three_requests();
+    let requests = (0..orders.len()).filter(|place| orders[*place].form == 19);
+    let checks: Vec<Result<(), String>> = requests
+        .map(|place| {
+            let (totals, book) = list_of(&orders, Some(place));
+            totals.check(&book, |security| book.held(security))
+        })
+        .collect();
+    let complaint = |text: &str| Err(format!("held = deposits - withdrawals: 101 has {text}"));
+    assert_eq!(checks, [Ok(()), complaint("350 and 300"), complaint("350 and 300")]);
+}
+
+#[test]
+fn type_50_without_its_request_is_seen() {
+    let text = complaint(|book| {
+        book.requests.pop_first().expect("a list of all forms has open requests");
+    });
+    assert!(text.starts_with("type 50 = open requests"), "{text}");
+    let text = complaint(|book| {
+        book.requests.values_mut().next().expect("an open request").day = book.day.number + 1;
+    });
+    assert!(text.starts_with("request not after today"), "{text}");
+}
+
 #[test]
 fn lists_of_the_reference_against_itself_agree() {
     let mut coverage = Coverage::default();

@@ -2,9 +2,12 @@
 
 use std::collections::BTreeMap;
 
+use crate::account_types::REQUESTED;
+
 pub const MOST_SECURITIES: usize = 32;
 pub const MOST_ITEMS: usize = 64;
 pub const MOST_ACCOUNTS_AND_ITEMS: usize = 256;
+pub const MOST_REQUESTS: usize = 16;
 /// After this day none opens.
 pub const LAST_DAY: u64 = 60_000;
 /// The most cash of one currency in the whole book, in hundredths.
@@ -146,6 +149,32 @@ impl Item {
     }
 }
 
+/// What names an open request for paper: a reference is the member's own.
+#[derive(Clone, Copy, Debug, PartialEq, Eq, PartialOrd, Ord)]
+pub struct RequestName {
+    pub member: u64,
+    pub reference: u64,
+}
+
+/// An open request for paper (RULES 6.19).
+#[derive(Clone, Copy, Debug, PartialEq, Eq)]
+pub struct Request {
+    pub security: u64,
+    /// The type that the shares came from, which their account does not tell.
+    pub account_type: u64,
+    pub shareholder: u64,
+    pub quantity: u64,
+    /// The day on which it was made.
+    pub day: u64,
+}
+
+impl Request {
+    /// Where a member's requested shares stand.
+    pub fn account(&self, member: u64) -> Account {
+        Account { security: self.security, member, account_type: REQUESTED, shareholder: self.shareholder }
+    }
+}
+
 #[derive(Clone, Debug, PartialEq, Eq)]
 pub struct Book {
     pub day: Day,
@@ -159,6 +188,9 @@ pub struct Book {
     pub waiting: Vec<Item>,
     /// Hundredths of LBP for one USD (RULES 3.14).
     pub rate: u64,
+    /// The requests for paper that are open; no item of the waiting list, and
+    /// no account.
+    pub requests: BTreeMap<RequestName, Request>,
 }
 
 impl Book {
@@ -171,11 +203,17 @@ impl Book {
             cash: BTreeMap::new(),
             waiting: Vec::new(),
             rate: FIRST_RATE,
+            requests: BTreeMap::new(),
         }
     }
 
     pub fn security(&self, code: u64) -> Option<&Security> {
         self.securities.iter().find(|security| security.code == code)
+    }
+
+    /// An admitted security, to change it.
+    pub fn admitted(&mut self, code: u64) -> &mut Security {
+        self.securities.iter_mut().find(|security| security.code == code).expect("the security is admitted")
     }
 
     pub fn balance(&self, account: &Account) -> u64 {

@@ -6,7 +6,7 @@ use crate::book::{Book, Day};
 use crate::call::Counts;
 use crate::record::{Field, Order, usual_range};
 use crate::rows::Rows;
-use crate::{cancel, close, cycle, matching, movements, windows};
+use crate::{cancel, close, cycle, matching, movements, requests, windows};
 use Field::*;
 
 /// What the rows of a form are, where it writes any (RULES 11.3).
@@ -211,6 +211,27 @@ pub const TABLE: &[Form] = &[
         window: windows::working_day,
         effect: movements::set_rate,
         rows: Written::Nothing,
+        takes_in: 0,
+    },
+    Form {
+        number: 19,
+        name: "request paper",
+        fields: &[Security, DebitedMember, DebitedType, DebitedShareholder, Quantity, Reference],
+        ranges: &[],
+        window: windows::custody,
+        effect: requests::open,
+        rows: Written::Postings,
+        takes_in: 0,
+    },
+    Form {
+        number: 20,
+        name: "end request",
+        // The debited member is the sender; the request knows the rest.
+        fields: &[DebitedMember, CreditedType, Reference],
+        ranges: &[],
+        window: windows::custody,
+        effect: requests::end,
+        rows: Written::Postings,
         takes_in: 0,
     },
 ];

@@ -17,6 +17,7 @@ pub mod movements;
 pub mod printing;
 pub mod record;
 pub mod refusals;
+pub mod requests;
 pub mod rows;
 pub mod windows;
 pub mod worked;

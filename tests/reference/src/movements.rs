@@ -27,7 +27,7 @@ pub fn admit(book: &mut Book, order: &Order, rows: &mut Rows) -> Counts {
 
 pub fn deposit(book: &mut Book, order: &Order, rows: &mut Rows) -> Counts {
     let account = credited_account(order);
-    admitted(book, order).outside -= order.quantity;
+    book.admitted(order.security).outside -= order.quantity;
     book.set_balance(account, book.balance(&account) + order.quantity);
     rows.deposit(&account, order.quantity);
     Counts::default()
@@ -36,14 +36,9 @@ pub fn deposit(book: &mut Book, order: &Order, rows: &mut Rows) -> Counts {
 pub fn withdraw(book: &mut Book, order: &Order, rows: &mut Rows) -> Counts {
     let account = debited_account(order);
     book.set_balance(account, book.balance(&account) - order.quantity);
-    admitted(book, order).outside += order.quantity;
+    book.admitted(order.security).outside += order.quantity;
     rows.withdrawal(&account, order.quantity);
     Counts::default()
-}
-
-fn admitted<'a>(book: &'a mut Book, order: &Order) -> &'a mut Security {
-    let named = |security: &&mut Security| security.code == order.security;
-    book.securities.iter_mut().find(named).expect("refusal 10 has passed")
 }
 
 /// Transfer, pledge, release, block and unblock.

@@ -4,12 +4,13 @@
 
 use crate::account_types;
 use crate::book::{
-    Account, Book, CASH_CEILING, Item, LAST_DAY, MOST_ACCOUNTS_AND_ITEMS, MOST_ITEMS, MOST_SECURITIES, Purse, Sender,
-    State,
+    Account, Book, CASH_CEILING, Item, LAST_DAY, MOST_ACCOUNTS_AND_ITEMS, MOST_ITEMS, MOST_REQUESTS, MOST_SECURITIES,
+    Purse, Sender, State,
 };
 use crate::forms::{self, Form};
 use crate::matching;
 use crate::record::{FIELDS, Field, Fields, Order, RECORD_BYTES};
+use crate::requests;
 use crate::windows;
 
 /// What a refusal looks at.
@@ -45,15 +46,22 @@ pub const TABLE: &[Refusal] = &[
     Refusal { number: 7, forms: |form| matches!(form, 16 | 17), test: Test::Order(cycles_are_wrong) },
     Refusal { number: 8, forms: |form| form != 1, test: Test::Order(minute_is_past) },
     Refusal { number: 9, forms: all, test: Test::Order(minute_is_outside_window) },
-    Refusal { number: 10, forms: |form| matches!(form, 2..=9 | 12..=14), test: Test::Order(security_is_wrong) },
-    Refusal { number: 11, forms: |form| matches!(form, 3..=9 | 12..=14), test: Test::Order(types_are_wrong) },
+    Refusal { number: 10, forms: |form| matches!(form, 2..=9 | 12..=14 | 19), test: Test::Order(security_is_wrong) },
+    Refusal { number: 11, forms: |form| matches!(form, 3..=9 | 12..=14 | 19 | 20), test: Test::Order(types_are_wrong) },
     Refusal { number: 12, forms: |form| matches!(form, 5..=9 | 12..=14), test: Test::Order(parties_are_wrong) },
     Refusal { number: 13, forms: |form| matches!(form, 5..=9 | 12..=14), test: Test::Order(days_are_wrong) },
     Refusal { number: 14, forms: |form| matches!(form, 12..=15), test: Test::Order(reference_is_wrong) },
     Refusal { number: 15, forms: |form| form == 15, test: Test::Order(item_cannot_be_cancelled) },
-    Refusal { number: 16, forms: |form| matches!(form, 3..=9 | 11), test: Test::Order(balance_is_too_small) },
+    Refusal { number: 19, forms: |form| matches!(form, 19 | 20), test: Test::Order(request_is_wrong) },
+    Refusal { number: 20, forms: |form| form == 20, test: Test::Order(request_is_of_today) },
+    Refusal { number: 21, forms: |form| form == 19, test: Test::Order(requests_are_full) },
+    Refusal { number: 16, forms: |form| matches!(form, 3..=9 | 11 | 19), test: Test::Order(balance_is_too_small) },
     Refusal { number: 17, forms: |form| form == 10, test: Test::Order(cash_passes_ceiling) },
-    Refusal { number: 18, forms: |form| matches!(form, 2 | 3 | 5..=9 | 12..=14), test: Test::Order(tables_are_full) },
+    Refusal {
+        number: 18,
+        forms: |form| matches!(form, 2 | 3 | 5..=9 | 12..=14 | 19 | 20),
+        test: Test::Order(tables_are_full),
+    },
 ];
 
 /// How many refusals there are.
@@ -219,7 +227,27 @@ fn item_cannot_be_cancelled(book: &Book, order: &Order) -> bool {
     }
 }
 
-/// The account that an order debits (forms 4 to 9).
+/// RULES 7.19: a new request needs a reference that its member has not open,
+/// an ending a request that leads to its type.
+fn request_is_wrong(book: &Book, order: &Order) -> bool {
+    let open = book.requests.get(&requests::name(order));
+    if order.form == 19 {
+        return open.is_some();
+    }
+    !open.is_some_and(|request| account_types::request_leads(request.account_type, order.credited_type))
+}
+
+/// RULES 7.20: any later day will do.
+fn request_is_of_today(book: &Book, order: &Order) -> bool {
+    book.requests.get(&requests::name(order)).is_some_and(|request| request.day == book.day.number)
+}
+
+/// RULES 7.21, of the whole book.
+fn requests_are_full(book: &Book, _: &Order) -> bool {
+    book.requests.len() >= MOST_REQUESTS
+}
+
+/// The account that an order debits (forms 4 to 9, 19).
 pub fn debited_account(order: &Order) -> Account {
     Account {
         security: order.security,
@@ -243,7 +271,7 @@ pub fn credited_account(order: &Order) -> Account {
 fn balance_is_too_small(book: &Book, order: &Order) -> bool {
     match order.form {
         3 => book.security(order.security).map_or(0, |security| security.outside) < order.quantity,
-        4..=9 => book.balance(&debited_account(order)) < order.quantity,
+        4..=9 | 19 => book.balance(&debited_account(order)) < order.quantity,
         11 => {
             let purse = Purse { member: order.debited_member, currency: order.currency };
             book.cash_of(&purse) < order.amount
@@ -275,10 +303,21 @@ fn adds_item(book: &Book, order: &Order) -> bool {
     }
 }
 
+/// An open request is no account; type 50 is one like others.
 fn opens_account(book: &Book, order: &Order) -> bool {
-    matches!(order.form, 3 | 5..=9) && book.balance(&credited_account(order)) == 0
+    let credited = match order.form {
+        3 | 5..=9 => Some(credited_account(order)),
+        19 => Some(requests::requested_account(order)),
+        20 => requests::ending(book, order).and_then(|ending| ending.to),
+        _ => None,
+    };
+    credited.is_some_and(|account| book.balance(&account) == 0)
 }
 
 fn empties_account(book: &Book, order: &Order) -> bool {
-    matches!(order.form, 4..=9) && book.balance(&debited_account(order)) == order.quantity
+    match order.form {
+        4..=9 | 19 => book.balance(&debited_account(order)) == order.quantity,
+        20 => requests::ending(book, order).is_some_and(|ending| book.balance(&ending.from) == ending.quantity),
+        _ => false,
+    }
 }

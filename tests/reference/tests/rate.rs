@@ -4,11 +4,10 @@ mod common;
 
 use common::*;
 use reference::book::{Book, FIRST_RATE};
-use reference::call::{Answer, Counts};
+use reference::call::Counts;
 use reference::forms::{self, Written};
 use reference::record::{Order, pack, read, write};
 use reference::refusals;
-use reference::worked;
 
 /// The largest rate, and the largest amount.
 const WIDEST: u64 = (1 << 40) - 1;
@@ -23,23 +22,6 @@ fn pairs_at(rate: u64, more: u64) -> bool {
 }
 
 #[test]
-fn the_worked_lists_run() {
-    for list in worked::lists() {
-        let mut book = Book::fresh();
-        let result = list.run(|order| Ok((send(&mut book, order), book.clone())));
-        assert_eq!(result, Ok(()));
-    }
-}
-
-#[test]
-fn a_worked_list_sees_a_wrong_answer() {
-    for list in worked::lists() {
-        let result = list.run(|_| Ok((Answer::Refused(18), Book::fresh())));
-        assert!(result.is_err_and(|text| text.contains("step 1:")));
-    }
-}
-
-#[test]
 fn a_fresh_book_has_the_first_rate() {
     assert_eq!((Book::fresh().rate, FIRST_RATE), (150_750, 150_750));
 }
@@ -50,7 +32,6 @@ fn form_18_meets_1_to_6_and_8_and_9() {
     assert_eq!(met.map(|refusal| refusal.number).collect::<Vec<u64>>(), [1, 2, 4, 5, 6, 8, 9]);
     let form = forms::form(18).expect("a form");
     assert_eq!((form.name, form.rows, form.takes_in), ("set rate", Written::Nothing, 0));
-    assert!(forms::form(19).is_none());
 }
 
 #[test]

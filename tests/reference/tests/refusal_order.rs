@@ -5,8 +5,8 @@ mod common;
 use common::*;
 use reference::book::{Book, CASH_CEILING, State};
 use reference::call::Answer;
-use reference::forms;
 use reference::record::{Order, pack, read, write};
+use reference::{forms, refusals};
 
 fn answer(book: &mut Book, bytes: &[u8], area: usize) -> u64 {
     match book.call(bytes, &mut vec![0; area]) {
@@ -125,6 +125,12 @@ fn later_faults_wait_for_earlier_ones() {
 }
 
 #[test]
+fn the_rows_stand_in_checking_order() {
+    let numbers: Vec<u64> = refusals::TABLE.iter().map(|refusal| refusal.number).collect();
+    assert_eq!(numbers, [1, 2, 3, 4, 5, 6, 7, 8, 9, 10, 11, 12, 13, 14, 15, 19, 20, 21, 16, 17, 18]);
+}
+
+#[test]
 fn an_exchange_trade_may_stay_within_one_member() {
     let mut book = first_day(1);
     let (one, other) = (account(7, 20, 5), account(7, 20, 6));
@@ -186,15 +192,6 @@ fn cash_reaches_its_ceiling_exactly() {
     accept(&mut book, &pay_in(3, USD, rest, 500));
     assert_eq!(refuse(&mut book, &pay_in(3, USD, 1, 500)), 17);
     accept(&mut book, &pay_in(3, LBP, 1, 500));
-}
-
-/// 256 accounts of 2 shares each, no item.
-fn full_accounts() -> Book {
-    let mut book = first_day(1);
-    (1..=256).for_each(|holder| {
-        accept(&mut book, &deposit(account(1 + holder % 64, 20, holder), 2, 540));
-    });
-    book
 }
 
 #[test]

@@ -6,7 +6,10 @@
 
 use std::slice::{from_raw_parts, from_raw_parts_mut};
 
-use boundary::{BOOK_WORDS, COUNT_WORDS, WRONG_BOOK, WRONG_COUNTS, WRONG_FIELDS, WRONG_VALUES, decode, encode};
+use boundary::{
+    BOOK_WORDS, COUNT_WORDS, WRONG_BOOK, WRONG_COUNTS, WRONG_FIELDS, WRONG_VALUES, decode, encode, request_told,
+    sizes_told,
+};
 use reference::book::Book;
 use reference::call::{Answer, Counts};
 use reference::record::{self, FIELD_COUNT};
@@ -79,7 +82,7 @@ fn count_words(counts: &Counts) -> [u64; COUNT_WORDS] {
 #[unsafe(no_mangle)]
 pub unsafe extern "C" fn depository_rate(book: *const u64, words: usize, values: *mut u64, values_words: usize) -> u64 {
     let (words, values) = unsafe { (shared(book, words), unique(values, values_words)) };
-    tell(words, values, |book| book.rate)
+    tell(words, values, |book| [book.rate])
 }
 
 /// # Safety
@@ -93,18 +96,46 @@ pub unsafe extern "C" fn depository_held(
     values_words: usize,
 ) -> u64 {
     let (words, values) = unsafe { (shared(book, words), unique(values, values_words)) };
-    tell(words, values, |book| book.held(security))
+    tell(words, values, |book| [book.held(security)])
 }
 
-/// Puts one figure of a book into values of one word.
-fn tell(words: &[u64], values: &mut [u64], figure: impl Fn(&Book) -> u64) -> u64 {
+/// # Safety
+/// See depository.h.
+#[unsafe(no_mangle)]
+pub unsafe extern "C" fn depository_sizes(
+    book: *const u64,
+    words: usize,
+    values: *mut u64,
+    values_words: usize,
+) -> u64 {
+    let (words, values) = unsafe { (shared(book, words), unique(values, values_words)) };
+    tell(words, values, sizes_told)
+}
+
+/// # Safety
+/// See depository.h.
+#[unsafe(no_mangle)]
+pub unsafe extern "C" fn depository_request(
+    book: *const u64,
+    words: usize,
+    member: u64,
+    reference: u64,
+    values: *mut u64,
+    values_words: usize,
+) -> u64 {
+    let (words, values) = unsafe { (shared(book, words), unique(values, values_words)) };
+    tell(words, values, |book| request_told(book, member, reference))
+}
+
+/// Puts figures of a book into values of as many words.
+fn tell<const WORDS: usize>(words: &[u64], values: &mut [u64], figures: impl Fn(&Book) -> [u64; WORDS]) -> u64 {
     if words.len() != BOOK_WORDS {
         return WRONG_BOOK;
     }
-    let [value] = values else {
+    if values.len() != WORDS {
         return WRONG_VALUES;
-    };
-    *value = figure(&decode(words).expect("a book of this library"));
+    }
+    values.copy_from_slice(&figures(&decode(words).expect("a book of this library")));
     0
 }
 

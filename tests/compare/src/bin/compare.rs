@@ -163,6 +163,10 @@ fn sweep_checks<D: Depository>(tally: &mut Tally) {
         }),
         Err(text) => tally.check(false, || text),
     }
+    match sweeps::endings::<D>() {
+        Ok(holds) => tally.check(holds, || "the types in which requests end are not the paper's".to_string()),
+        Err(text) => tally.check(false, || text),
+    }
     let not_tried = sweeps::forms_not_tried();
     tally.check(not_tried.is_empty(), || format!("not every type or minute is tried of forms {not_tried:?}"));
     match sweeps::minutes::<D>() {

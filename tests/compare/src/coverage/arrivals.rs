@@ -79,7 +79,7 @@ pub fn wanted() -> Vec<Cell> {
 }
 
 /// A full book's accounts and items together.
-fn is_full(book: &Book) -> bool {
+pub(super) fn is_full(book: &Book) -> bool {
     book.accounts.len() + book.waiting.len() == MOST_ACCOUNTS_AND_ITEMS
 }
 
@@ -111,6 +111,7 @@ impl Coverage {
             self.meeting(book, order, [deliver, receive], place.map(|place| &book.waiting[place]));
         }
         self.note_rate(book, order, &arrival);
+        self.instruction_beside_request(book, order);
         let Some(place) = place else {
             return self.event("arrival does not match");
         };

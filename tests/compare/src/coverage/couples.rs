@@ -1,7 +1,9 @@
 //! Which two faults can stand in one call.
 
 use reference::forms;
-use reference::refusals::{Refusal, Test};
+use reference::refusals::{self, Refusal, Test};
+
+use super::Cell;
 
 /// What can still be asked of an order that the reader refuses with 4 or 5:
 /// its day and its minute.
@@ -13,9 +15,38 @@ const APART: [(u64, u64); 1] = [
     (14, 15),
 ];
 
+/// Forms that share a refusal which asks something else of each: a couple must
+/// be met in both.
+const FORMS_APART: [u64; 2] = [19, 20];
+
+pub fn wanted() -> Vec<Cell> {
+    let both = |first: &Refusal, second: &Refusal| Cell::Both { first: first.number, second: second.number };
+    couples_in_order().filter(|(first, second)| together(first, second)).map(|(a, b)| both(a, b)).collect()
+}
+
+/// Both faults are of the order, not of its bytes.
+pub fn wanted_by_form() -> Vec<Cell> {
+    let mut cells = Vec::new();
+    for form in FORMS_APART {
+        let meets = |refusal: &Refusal| matches!(refusal.test, Test::Order(_)) && (refusal.forms)(form);
+        let couples = couples_in_order().filter(|(first, second)| meets(first) && meets(second));
+        cells.extend(couples.map(|(a, b)| Cell::BothInForm { form, first: a.number, second: b.number }));
+    }
+    cells
+}
+
+/// Every two refusals, the one that is checked first before the other.
+fn couples_in_order() -> impl Iterator<Item = (&'static Refusal, &'static Refusal)> {
+    let table = refusals::TABLE;
+    table
+        .iter()
+        .enumerate()
+        .flat_map(move |(place, first)| table[place + 1..].iter().map(move |second| (first, second)))
+}
+
 /// Whether a call can deserve both; the first comes before the second in
 /// checking order.
-pub fn together(first: &Refusal, second: &Refusal) -> bool {
+fn together(first: &Refusal, second: &Refusal) -> bool {
     match (first.test, second.test) {
         // The area says nothing of the record.
         (Test::Area(_), _) => true,

@@ -2,10 +2,11 @@
 
 use std::collections::BTreeMap;
 
-use reference::book::{Account, Book, Item, MOST_ACCOUNTS_AND_ITEMS, State};
+use reference::book::{Account, Book, Item, State};
 use reference::cycle::{Holding, balance, credits, debits, due, settling, short};
 
 use super::Coverage;
+use super::arrivals::is_full;
 
 pub const EVENTS: &[&str] = &[
     "cycle with nothing due",
@@ -143,10 +144,6 @@ impl Coverage {
             self.event("a left trade would have fitted after all");
         }
     }
-}
-
-fn is_full(book: &Book) -> bool {
-    book.accounts.len() + book.waiting.len() == MOST_ACCOUNTS_AND_ITEMS
 }
 
 fn is_shares(holding: &Holding) -> bool {

@@ -1,6 +1,6 @@
 //! What cancels and closes come upon.
 
-use reference::book::{Book, Item, MOST_ITEMS, Sender, State};
+use reference::book::{Book, Item, MOST_ITEMS, MOST_REQUESTS, Sender, State};
 use reference::close::PAIR_AGE;
 use reference::record::Order;
 use reference::refusals::sender;
@@ -67,6 +67,9 @@ impl Coverage {
     /// A close that is about to be made.
     pub(super) fn close(&mut self, book: &Book) {
         let today = book.day.number;
+        if book.requests.len() == MOST_REQUESTS {
+            self.event("close with sixteen requests");
+        }
         let ends: Vec<bool> = book.waiting.iter().map(|item| self.at_close(item, today)).collect();
         match ends.iter().filter(|ends| **ends).count() {
             _ if ends.is_empty() => self.event("close with an empty list"),

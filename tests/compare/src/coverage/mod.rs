@@ -8,6 +8,7 @@ pub mod damages;
 mod edges;
 mod endings;
 mod rates;
+mod requests;
 pub mod table;
 
 use std::collections::BTreeMap;
@@ -36,6 +37,12 @@ pub enum Cell {
         first: u64,
         second: u64,
     },
+    /// The same of one form alone, of what is asked of its orders.
+    BothInForm {
+        form: u64,
+        first: u64,
+        second: u64,
+    },
     /// A minute at an end of a window or one past it; the part tells the
     /// windows of a form apart.
     Edge {
@@ -56,6 +63,15 @@ pub enum Cell {
         arriving: u64,
         step: arrivals::Step,
     },
+    /// A request for paper, by the type that its shares come from.
+    Requested {
+        from: u64,
+    },
+    /// Its ending, by both types.
+    Ended {
+        from: u64,
+        to: u64,
+    },
     /// A single that fits but for one term.
     NearMiss {
         term: arrivals::Term,
@@ -65,7 +81,7 @@ pub enum Cell {
     Event(&'static str),
 }
 
-const EVENTS: &[&[&str]] = &[SIZES, arrivals::EVENTS, rates::EVENTS, cycles::EVENTS, endings::EVENTS];
+const EVENTS: &[&[&str]] = &[SIZES, arrivals::EVENTS, rates::EVENTS, requests::EVENTS, cycles::EVENTS, endings::EVENTS];
 
 const SIZES: &[&str] = &[
     "area of 0 bytes",
@@ -92,6 +108,7 @@ pub struct Coverage {
     reached: BTreeMap<Cell, u64>,
     /// Of the list that runs.
     rates: rates::History,
+    requests: requests::History,
     pub calls: u64,
     pub accepted: u64,
 }
@@ -112,6 +129,7 @@ impl Coverage {
     /// The next calls are those of another list.
     pub fn new_list(&mut self) {
         self.rates = rates::History::default();
+        self.requests = requests::History::default();
     }
 
     pub fn count(&self, cell: &Cell) -> u64 {
@@ -129,7 +147,10 @@ impl Coverage {
             return self.accepted_call(book, &Order::from_fields(unpack(bytes)));
         };
         self.reach(Cell::Refused { form, refusal: *first });
-        later.iter().for_each(|second| self.reach(Cell::Both { first: *first, second: *second }));
+        for second in later.iter().copied() {
+            self.reach(Cell::Both { first: *first, second });
+            self.reach(Cell::BothInForm { form, first: *first, second });
+        }
         match first {
             1 => {}
             2..=5 => self.damaged(bytes),
@@ -160,6 +181,8 @@ impl Coverage {
             16 => self.cycle(book),
             17 => self.close(book),
             18 => self.new_rate(book, order),
+            19 => self.request(book, order),
+            20 => self.ending(book, order),
             _ => {}
         }
     }
@@ -179,6 +202,12 @@ impl Coverage {
     }
 
     fn refused_order(&mut self, book: &Book, order: &Order, refusal: u64) {
+        match order.form {
+            15 if refusal == 14 => self.cancel_beside_request(book, order),
+            19 => self.refused_request(book, order, refusal),
+            20 => self.refused_ending(book, order, refusal),
+            _ => {}
+        }
         match refusal {
             6 if book.day.number == LAST_DAY && !book.day.open => match order.form {
                 1 => self.event("form 1 refused on day 60,000"),
@@ -199,6 +228,7 @@ impl Coverage {
             (accounts == 256, "256 accounts and no item"),
             (items == 64, "64 items"),
             (accounts + items == 256 && items > 0, "accounts and items together 256"),
+            (accounts + items == 256 && !book.requests.is_empty(), "a full book has requests besides"),
             (book.cash_total(1) == CASH_CEILING, "USD total exactly at the ceiling"),
             (book.cash_total(2) == CASH_CEILING, "LBP total exactly at the ceiling"),
             (book.day.number == LAST_DAY && book.day.open, "day 60,000 open"),
@@ -239,33 +269,21 @@ pub fn wanted() -> Vec<Cell> {
         let possible = refusals::TABLE.iter().filter(|refusal| (refusal.forms)(form));
         cells.extend(possible.map(|refusal| Cell::Refused { form, refusal: refusal.number }));
     }
-    cells.extend(wanted_pairs());
+    cells.extend(couples::wanted());
+    cells.extend(couples::wanted_by_form());
     cells.extend(edges::wanted());
     cells.extend(arrivals::wanted());
     cells.extend(rates::wanted());
+    cells.extend(requests::wanted());
     cells.extend(damages::wanted().into_iter().map(Cell::Damage));
     cells.extend(EVENTS.iter().flat_map(|names| names.iter()).map(|name| Cell::Event(name)));
     cells
 }
 
-fn wanted_pairs() -> Vec<Cell> {
-    let both = |first: &Refusal, second: &Refusal| Cell::Both { first: first.number, second: second.number };
-    couples_in_order().filter(|(first, second)| couples::together(first, second)).map(|(a, b)| both(a, b)).collect()
-}
-
-/// Every two refusals, the one that is checked first before the other.
-fn couples_in_order() -> impl Iterator<Item = (&'static Refusal, &'static Refusal)> {
-    let table = refusals::TABLE;
-    table
-        .iter()
-        .enumerate()
-        .flat_map(move |(place, first)| table[place + 1..].iter().map(move |second| (first, second)))
-}
-
 /// What was reached although the rules exclude it: faults that cannot stand in
 /// one call, or in this order.
 pub fn ruled_out(coverage: &Coverage) -> Vec<Cell> {
-    let wanted = wanted_pairs();
+    let wanted = couples::wanted();
     let pair = |cell: &&Cell| matches!(cell, Cell::Both { .. }) && !wanted.contains(cell);
     coverage.reached.keys().filter(pair).copied().collect()
 }

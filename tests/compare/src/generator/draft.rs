@@ -67,6 +67,8 @@ impl Desk<'_> {
             15 => self.cancellation(),
             16 | 17 => Some(Order::default()),
             18 => Some(self.new_rate()),
+            19 => self.request(),
+            20 => self.ending(),
             _ => None,
         };
         order.map(|order| Order { form, ..order })

@@ -6,6 +6,7 @@ pub mod damage;
 pub mod draft;
 pub mod profile;
 mod rates;
+mod requests;
 mod scenario;
 mod spoil;
 

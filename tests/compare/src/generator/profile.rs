@@ -38,8 +38,9 @@ pub struct Profile {
 }
 
 /// All forms: 2 admit, 3 deposit, 4 withdrawal, 5 transfer, 6 to 9 pledge to
-/// unblock, 10 and 11 cash, 12 to 14 trades, 15 cancel, 16 cycle, 18 rate.
-const BUSY: &[u64] = &[0, 0, 4, 12, 12, 10, 5, 5, 5, 5, 14, 4, 16, 16, 10, 5, 8, 0, 2];
+/// unblock, 10 and 11 cash, 12 to 14 trades, 15 cancel, 16 cycle, 18 rate, 19
+/// and 20 paper.
+const BUSY: &[u64] = &[0, 0, 4, 12, 12, 10, 5, 5, 5, 5, 14, 4, 16, 16, 10, 5, 8, 0, 2, 6, 4];
 
 const USUAL: Profile = Profile {
     name: "busy trading",
@@ -66,7 +67,7 @@ const FULL_ACCOUNTS: Profile = Profile {
     members: 64,
     shareholders: 60,
     calls_a_day: (60, 300),
-    weights: &[0, 0, 2, 40, 3, 14, 8, 6, 8, 6, 4, 1, 5, 5, 3, 1, 2, 0, 1],
+    weights: &[0, 0, 2, 40, 3, 14, 8, 6, 8, 6, 4, 1, 5, 5, 3, 1, 2, 0, 1, 6, 2],
     faults: 15,
     ..USUAL
 };
@@ -75,7 +76,7 @@ const FULL_ITEMS: Profile = Profile {
     name: "full items",
     members: 12,
     calls_a_day: (20, 120),
-    weights: &[0, 0, 3, 8, 2, 3, 1, 1, 1, 1, 4, 1, 30, 30, 12, 4, 1, 0, 1],
+    weights: &[0, 0, 3, 8, 2, 3, 1, 1, 1, 1, 4, 1, 30, 30, 12, 4, 1, 0, 1, 2, 1],
     faults: 12,
     scenarios: 40,
     days_ahead: 20,
@@ -85,7 +86,7 @@ const FULL_ITEMS: Profile = Profile {
 const FULL_SECURITIES: Profile = Profile {
     name: "full securities",
     securities: 40,
-    weights: &[0, 0, 30, 14, 6, 10, 5, 4, 5, 4, 6, 4, 8, 8, 6, 3, 3, 0, 1],
+    weights: &[0, 0, 30, 14, 6, 10, 5, 4, 5, 4, 6, 4, 8, 8, 6, 3, 3, 0, 1, 2, 2],
     faults: 12,
     ..USUAL
 };
@@ -98,7 +99,7 @@ const CASH: Profile = Profile {
     calls: 9_000,
     members: 64,
     calls_a_day: (20, 200),
-    weights: &[0, 0, 1, 3, 1, 1, 1, 1, 1, 1, 70, 3, 4, 4, 3, 1, 1, 0, 1],
+    weights: &[0, 0, 1, 3, 1, 1, 1, 1, 1, 1, 70, 3, 4, 4, 3, 1, 1, 0, 1, 1, 1],
     faults: 16,
     large_values: 85,
     ..USUAL
@@ -109,7 +110,7 @@ const CANCEL_AND_CLOSE: Profile = Profile {
     members: 4,
     shareholders: 2,
     calls_a_day: (4, 30),
-    weights: &[0, 0, 2, 6, 2, 2, 1, 1, 1, 1, 4, 3, 20, 20, 8, 16, 5, 0, 1],
+    weights: &[0, 0, 2, 6, 2, 2, 1, 1, 1, 1, 4, 3, 20, 20, 8, 16, 5, 0, 1, 2, 2],
     days_ahead: 3,
     ..USUAL
 };
@@ -118,7 +119,7 @@ const EDGES_OF_WINDOWS: Profile = Profile {
     name: "edges of windows",
     securities: 40,
     calls_a_day: (6, 40),
-    weights: &[0, 0, 10, 12, 12, 10, 5, 5, 5, 5, 14, 4, 16, 16, 10, 5, 8, 0, 2],
+    weights: &[0, 0, 10, 12, 12, 10, 5, 5, 5, 5, 14, 4, 16, 16, 10, 5, 8, 0, 2, 6, 5],
     faults: 2,
     edges: 70,
     scenarios: 5,
@@ -164,6 +165,22 @@ const MOVING_RATE: Profile = Profile {
     ..USUAL
 };
 
+const PAPER: Profile = Profile {
+    name: "requests for paper",
+    calls: 2_500,
+    securities: 3,
+    members: 4,
+    shareholders: 1,
+    calls_a_day: (6, 40),
+    weights: &[0, 0, 2, 20, 2, 4, 1, 1, 1, 1, 2, 1, 3, 3, 1, 2, 2, 0, 1, 26, 14],
+    faults: 20,
+    short_areas: 20,
+    scenarios: 0,
+    moving_rates: 0,
+    large_values: 30,
+    ..USUAL
+};
+
 /// The profiles of the comparison, in the order of their lists.
 pub fn profiles() -> Vec<Profile> {
     vec![
@@ -178,6 +195,7 @@ pub fn profiles() -> Vec<Profile> {
         FULL_CYCLES,
         NETTING,
         MOVING_RATE,
+        PAPER,
     ]
 }
 

@@ -34,6 +34,9 @@ impl Desk<'_> {
             13 => self.wrong_days(order),
             14 => self.wrong_reference(order),
             15 => self.wrong_cancellation(order),
+            19 => self.wrong_request(order),
+            20 => self.early_ending(order),
+            21 => self.one_more_request(order),
             16 => self.too_much(order),
             17 => self.past_ceiling(order),
             18 => self.growth(order),
@@ -68,8 +71,8 @@ impl Desk<'_> {
     fn wrong_type(&mut self, order: Order) -> Order {
         let other = if self.random.percent(70) { self.random.pick(&OTHER_TYPES) } else { self.random.pick(&FREE) };
         let credited = match order.form {
-            3 | 13 => true,
-            4 | 12 => false,
+            3 | 13 | 20 => true,
+            4 | 12 | 19 => false,
             _ => self.random.percent(50),
         };
         if credited { Order { credited_type: other, ..order } } else { Order { debited_type: other, ..order } }
@@ -139,8 +142,12 @@ impl Desk<'_> {
         }
     }
 
-    /// For a cancel: unknown, another sender's, or an exchange trade's.
+    /// For a cancel: unknown, another sender's, an exchange trade's, or that of
+    /// a request for paper.
     fn unknown_reference(&mut self, order: Order, couples: &[(u64, u64)]) -> Order {
+        if self.random.percent(20) {
+            return self.wrong_request(order);
+        }
         let (_, reference) = self.random.pick(couples);
         let reference = if self.random.percent(30) { self.reference() } else { reference };
         Order { debited_member: self.member(), reference, ..order }
@@ -168,7 +175,7 @@ impl Desk<'_> {
     fn too_much(&mut self, order: Order) -> Order {
         let kept = match order.form {
             3 => self.book.security(order.security).map_or(0, |security: &Security| security.outside),
-            4..=9 => self.book.balance(&debited_account(&order)),
+            4..=9 | 19 => self.book.balance(&debited_account(&order)),
             _ => self.book.cash_of(&Purse { member: order.debited_member, currency: order.currency }),
         };
         if kept >= MOST {
@@ -198,6 +205,8 @@ impl Desk<'_> {
             8 => self.part_to_type(order, &BLOCK),
             9 => self.part_to_type(order, &BLOCK.map(|(free, blocked)| (blocked, free))),
             12 | 13 => Order { quantity: self.random.between(1, MOST), ..order },
+            19 => self.request_that_grows(order),
+            20 => self.ending_that_grows(order),
             _ => order,
         }
     }

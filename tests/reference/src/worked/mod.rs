@@ -2,12 +2,16 @@
 //! worked out on paper. They stand here alone. The tests of this crate run
 //! them, and so does the comparison, on both of its sides.
 
+mod figures;
 mod rate;
+mod requests;
 
-use crate::book::{Book, Item, State};
+use crate::book::Book;
 use crate::call::{Answer, Counts};
 use crate::record::Order;
+use crate::rows::ROW_BYTES;
 use crate::windows::{end_of_work, next_cycle_minute};
+use figures::{Figure, same};
 
 /// A list starts from the fresh book.
 pub struct List {
@@ -18,38 +22,33 @@ pub struct List {
 enum Step {
     /// A call and its whole answer.
     Call(Order, Answer),
+    /// The rows that the last call has written.
+    Rows(&'static [u128]),
     /// Each day is ended and the next one opened, until this one is open.
     OnToDay(u64),
     /// What the book says now.
     Book(&'static [Figure]),
 }
 
-/// One figure of a book.
-enum Figure {
-    Rate(u64),
-    /// How many items wait.
-    Waiting(usize),
-    /// How many sides these are.
-    Sides(u64),
-    /// Of the waiting items, in list order.
-    Amounts(&'static [u64]),
-    /// Of the waiting items, in list order; a pair has two, the deliver's
-    /// first.
-    References(&'static [&'static [u64]]),
+/// What is there after a call.
+pub struct Reply {
+    pub answer: Answer,
+    pub area: Vec<u8>,
+    pub book: Book,
 }
 
 /// All lists.
 pub fn lists() -> Vec<List> {
-    rate::lists()
+    rate::lists().into_iter().chain(requests::lists()).collect()
 }
 
 /// An accepted call that writes no row and counts nothing.
 fn accepted(order: Order) -> Step {
-    accepted_with(order, Counts::default())
+    accepted_with_rows(order, 0)
 }
 
-fn accepted_with(order: Order, counts: Counts) -> Step {
-    Step::Call(order, Answer::Accepted(counts))
+fn accepted_with_rows(order: Order, rows: u64) -> Step {
+    Step::Call(order, Answer::Accepted(Counts { rows, ..Counts::default() }))
 }
 
 fn refused(order: Order, number: u64) -> Step {
@@ -64,16 +63,22 @@ fn open(kind: u64, minute: u64) -> Order {
     Order { quantity: kind, ..form(1, minute) }
 }
 
+/// Security 101, of 1,000 shares.
+fn admission(minute: u64) -> Step {
+    accepted_with_rows(Order { security: 101, quantity: 1_000, ..form(2, minute) }, 2)
+}
+
 impl List {
-    /// Runs the list: `send` makes one call, and gives its answer and the
-    /// book after it. An error says what is not as it should be.
-    pub fn run(&self, mut send: impl FnMut(&Order) -> Result<(Answer, Book), String>) -> Result<(), String> {
-        let mut book = Book::fresh();
+    /// Runs the list: `send` makes one call and gives what is there after it.
+    /// An error says what is not as it should be.
+    pub fn run(&self, mut send: impl FnMut(&Order) -> Result<Reply, String>) -> Result<(), String> {
+        let mut last = Reply { answer: Answer::Refused(0), area: Vec::new(), book: Book::fresh() };
         for (place, step) in self.steps.iter().enumerate() {
             let result = match step {
-                Step::Call(order, answer) => call(&mut send, order, answer).map(|after| book = after),
-                Step::OnToDay(day) => on_to_day(&mut send, *day, &mut book),
-                Step::Book(figures) => figures.iter().try_for_each(|figure| figure.check(&book)),
+                Step::Call(order, answer) => call(&mut send, order, answer).map(|reply| last = reply),
+                Step::Rows(rows) => same("rows", &shown(rows.iter().copied()), &shown(last.rows())),
+                Step::OnToDay(day) => on_to_day(&mut send, *day, &mut last),
+                Step::Book(figures) => figures.iter().try_for_each(|figure| figure.check(&last.book)),
             };
             result.map_err(|text| format!("worked list '{}', step {}: {text}", self.name, place + 1))?;
         }
@@ -81,65 +86,48 @@ impl List {
     }
 }
 
-/// Makes a call that must be answered like this: the book after it.
-fn call<S>(send: &mut S, order: &Order, expected: &Answer) -> Result<Book, String>
+impl Reply {
+    /// The rows that an accepted call has written.
+    fn rows(&self) -> impl Iterator<Item = u128> {
+        let count = if let Answer::Accepted(counts) = self.answer { counts.rows as usize } else { 0 };
+        let row = |bytes: &[u8]| u128::from_be_bytes(bytes.try_into().expect("16 bytes"));
+        self.area.chunks_exact(ROW_BYTES).take(count).map(row)
+    }
+}
+
+/// Rows in hexadecimal, as they stand on paper.
+fn shown(rows: impl Iterator<Item = u128>) -> Vec<String> {
+    rows.map(|row| format!("{row:032X}")).collect()
+}
+
+/// Makes a call that must be answered like this.
+fn call<S>(send: &mut S, order: &Order, expected: &Answer) -> Result<Reply, String>
 where
-    S: FnMut(&Order) -> Result<(Answer, Book), String>,
+    S: FnMut(&Order) -> Result<Reply, String>,
 {
-    let (found, book) = send(order)?;
-    same(&format!("{order:?}"), expected, &found)?;
-    Ok(book)
+    let reply = send(order)?;
+    same(&format!("{order:?}"), expected, &reply.answer)?;
+    Ok(reply)
 }
 
 /// Cycles and close come in the last minute of the work, the next day is of
 /// kind 1 and opens at 470.
-fn on_to_day<S>(send: &mut S, day: u64, book: &mut Book) -> Result<(), String>
+fn on_to_day<S>(send: &mut S, day: u64, last: &mut Reply) -> Result<(), String>
 where
-    S: FnMut(&Order) -> Result<(Answer, Book), String>,
+    S: FnMut(&Order) -> Result<Reply, String>,
 {
-    while book.day.number < day || !book.day.open {
-        let last = end_of_work(book.day.kind);
-        let order = match next_cycle_minute(&book.day) {
-            _ if !book.day.open => open(1, 470),
-            Some(_) => form(16, last),
-            None => form(17, last),
+    while last.book.day.number < day || !last.book.day.open {
+        let today = &last.book.day;
+        let minute = end_of_work(today.kind);
+        let order = match next_cycle_minute(today) {
+            _ if !today.open => open(1, 470),
+            Some(_) => form(16, minute),
+            None => form(17, minute),
         };
-        let (answer, after) = send(&order)?;
-        if let Answer::Refused(number) = answer {
+        *last = send(&order)?;
+        if let Answer::Refused(number) = last.answer {
             return Err(format!("{order:?} is refused with {number}"));
         }
-        *book = after;
     }
     Ok(())
-}
-
-impl Figure {
-    fn check(&self, book: &Book) -> Result<(), String> {
-        let items = &book.waiting;
-        match self {
-            Figure::Rate(rate) => same("rate", rate, &book.rate),
-            Figure::Waiting(count) => same("waiting items", count, &items.len()),
-            Figure::Sides(sides) => same("waiting sides", sides, &items.iter().map(Item::sides).sum()),
-            Figure::Amounts(amounts) => {
-                same("amounts", &amounts.to_vec(), &items.iter().map(|item| item.amount).collect())
-            }
-            Figure::References(all) => {
-                let expected: Vec<Vec<u64>> = all.iter().map(|own| own.to_vec()).collect();
-                same("references", &expected, &items.iter().map(references).collect())
-            }
-        }
-    }
-}
-
-fn references(item: &Item) -> Vec<u64> {
-    match item.state {
-        State::Deliver { reference } | State::Receive { reference } | State::ExchangeTrade { reference } => {
-            vec![reference]
-        }
-        State::Pair { deliver, receive } => vec![deliver.reference, receive.reference],
-    }
-}
-
-fn same<T: PartialEq + std::fmt::Debug>(what: &str, expected: &T, found: &T) -> Result<(), String> {
-    if expected == found { Ok(()) } else { Err(format!("{what}: expected {expected:?}, found {found:?}")) }
 }

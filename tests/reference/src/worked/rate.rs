@@ -1,8 +1,7 @@
 //! The rate and the tolerance in LBP that follows it (RULES 6.18, 8.4, 8.9).
 
 use super::Figure::*;
-use super::{List, Step, accepted, accepted_with, form, open, refused};
-use crate::call::Counts;
+use super::{List, Step, accepted, admission, form, open, refused};
 use crate::record::Order;
 
 /// The largest rate, and the largest amount.
@@ -18,12 +17,6 @@ pub fn lists() -> Vec<List> {
 
 fn rate(minute: u64, rate: u64) -> Order {
     Order { quantity: rate, ..form(18, minute) }
-}
-
-/// Security 101, of 1,000 shares.
-fn admission(minute: u64) -> Step {
-    let order = Order { security: 101, quantity: 1_000, ..form(2, minute) };
-    accepted_with(order, Counts { rows: 2, ..Counts::default() })
 }
 
 /// Member 7 delivers 10 shares of shareholder 5 to member 8 for LBP, traded
@@ -97,6 +90,5 @@ fn widest_rate() -> Vec<Step> {
         accepted(receive(500, WIDEST, 1, 1)),
         accepted(deliver(500, 1, 1, 1)),
         Step::Book(&[Rate(WIDEST), Waiting(1), Sides(2), Amounts(&[WIDEST])]),
-        refused(Order { quantity: 1, ..form(19, 500) }, 3),
     ]
 }

@@ -115,6 +115,14 @@ pub fn set_rate(rate: u64, minute: u64) -> Order {
     Order { quantity: rate, ..form(18, minute) }
 }
 
+pub fn request(from: Account, quantity: u64, reference: u64, minute: u64) -> Order {
+    Order { form: 19, reference, ..withdraw(from, quantity, minute) }
+}
+
+pub fn end_request(sender: u64, into: u64, reference: u64, minute: u64) -> Order {
+    Order { debited_member: sender, credited_type: into, reference, ..form(20, minute) }
+}
+
 /// The same instruction for LBP.
 pub fn in_pounds(order: Order) -> Order {
     Order { currency: LBP, ..order }
@@ -180,6 +188,23 @@ pub fn next_day(book: &mut Book) -> Counts {
     let counts = end_day(book);
     accept(book, &open(1, 470));
     counts
+}
+
+/// Days of kind 1, until this one is open.
+pub fn on_to_day(book: &mut Book, day: u64) {
+    while book.day.number < day {
+        next_day(book);
+    }
+}
+
+/// 256 accounts of 2 shares each, of type 20 and a shareholder each, and no
+/// item; that of shareholder n is of member 1 + n % 64.
+pub fn full_accounts() -> Book {
+    let mut book = first_day(1);
+    (1..=256).for_each(|holder| {
+        accept(&mut book, &deposit(account(1 + holder % 64, 20, holder), 2, 540));
+    });
+    book
 }
 
 pub fn cash(book: &Book, member: u64) -> u64 {

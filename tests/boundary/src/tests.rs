@@ -1,0 +1,109 @@
+//! The layout, and words that no book has.
+
+use reference::book::{Book, Request, RequestName};
+
+use super::*;
+
+/// The words of a book, over words that mean nothing.
+fn words_of(book: &Book) -> Vec<u64> {
+    let mut words = vec![u64::MAX; BOOK_WORDS];
+    encode(book, &mut words);
+    words
+}
+
+/// The words of a fresh book, but for one.
+fn words_with(place: usize, word: u64) -> Vec<u64> {
+    let mut words = words_of(&Book::fresh());
+    words[place] = word;
+    words
+}
+
+#[test]
+fn the_parts_lie_one_behind_the_other() {
+    assert_eq!(SECURITIES + 1 + 3 * SECURITY_ROOM, ACCOUNTS);
+    assert_eq!(ACCOUNTS + 1 + 2 * ACCOUNT_ROOM, CASH);
+    assert_eq!(CASH + 2 * 64, WAITING);
+    assert_eq!(WAITING + 1 + ITEM_ROOM * ITEM_WORDS, RATE);
+    assert_eq!(RATE + 1, REQUESTS);
+    assert_eq!(REQUESTS + 1 + 3 * REQUEST_ROOM, BOOK_WORDS);
+}
+
+#[test]
+fn the_rate_is_a_word() {
+    for rate in [1, 150_750, (1 << 40) - 1] {
+        let book = Book { rate, ..Book::fresh() };
+        assert_eq!(decode(&words_with(RATE, rate)), Ok(book.clone()));
+        assert_eq!(words_of(&book), words_with(RATE, rate));
+    }
+    for rate in [0, 1 << 40, u64::MAX] {
+        assert!(decode(&words_with(RATE, rate)).is_err_and(|text| text.contains("rate")));
+    }
+}
+
+const FIRST: (RequestName, Request) = (
+    RequestName { member: 7, reference: 9 },
+    Request { security: 101, account_type: 20, shareholder: 5, quantity: 100, day: 3 },
+);
+const WIDEST: (RequestName, Request) = (
+    RequestName { member: 64, reference: u32::MAX as u64 },
+    Request { security: 16_383, account_type: 10, shareholder: (1 << 30) - 1, quantity: (1 << 40) - 1, day: 60_000 },
+);
+
+fn two_requests() -> Book {
+    Book { requests: [FIRST, WIDEST].into(), ..Book::fresh() }
+}
+
+/// The word at a place of each of the three tables of requests.
+fn request_words(words: &[u64], place: usize) -> [u64; 3] {
+    [0, 1, 2].map(|table| words[REQUESTS + 1 + table * REQUEST_ROOM + place])
+}
+
+#[test]
+fn a_request_is_a_key_and_two_words() {
+    let words = words_of(&two_requests());
+    assert_eq!(words[1772], 2);
+    assert_eq!(request_words(&words, 0), [7 << 32 | 9, 101 << 38 | 20 << 30 | 5, 100 << 16 | 3]);
+    assert_eq!(request_words(&words, 1), [0x40_FFFF_FFFF, 0x000F_FFC2_BFFF_FFFF, 0x00FF_FFFF_FFFF_EA60]);
+    assert_eq!((words[1773], words[1789], words[1805]), (7 << 32 | 9, 101 << 38 | 20 << 30 | 5, 100 << 16 | 3));
+    assert!((2..REQUEST_ROOM).all(|place| request_words(&words, place) == [u64::MAX; 3]), "free words are kept");
+    assert_eq!(decode(&words), Ok(two_requests()));
+}
+
+#[test]
+fn requests_stand_in_any_order() {
+    let mut words = words_of(&two_requests());
+    (0..3).for_each(|table| words.swap(REQUESTS + 1 + table * REQUEST_ROOM, REQUESTS + 2 + table * REQUEST_ROOM));
+    assert_eq!(decode(&words), Ok(two_requests()));
+}
+
+#[test]
+fn sixteen_requests_have_room() {
+    let named = |reference| (RequestName { reference, ..FIRST.0 }, FIRST.1);
+    let book = Book { requests: (1..=16).map(named).collect(), ..Book::fresh() };
+    assert_eq!(decode(&words_of(&book)), Ok(book));
+    let complaint = decode(&words_with(REQUESTS, 17)).expect_err("one too many");
+    assert!(complaint.contains("count of requests"), "{complaint}");
+}
+
+/// What is said of two requests of which one has another word.
+fn complaint(table: usize, word: u64) -> String {
+    let mut words = words_of(&two_requests());
+    words[REQUESTS + 2 + table * REQUEST_ROOM] = word;
+    decode(&words).expect_err("no book has such a request")
+}
+
+#[test]
+fn requests_that_no_book_has() {
+    assert!(complaint(0, 7 << 32 | 9).contains("twice"));
+    let keys = [9, 7 << 32, 65 << 32 | 9, 1 << 63 | 7 << 32 | 9];
+    let origins = [19, 50, 110, 91, 0].map(|account_type| 101 << 38 | account_type << 30 | 5);
+    let parties = [20 << 30 | 5, 101 << 38 | 20 << 30, 16_384 << 38 | 20 << 30 | 5];
+    let sizes = [3, 100 << 16, 100 << 16 | 60_001, 1 << 56 | 3];
+    let tables = [&keys[..], &[origins.as_slice(), &parties].concat(), &sizes];
+    for (table, words) in tables.into_iter().enumerate() {
+        for word in words {
+            let text = complaint(table, *word);
+            assert!(text.starts_with("a request"), "{text}");
+        }
+    }
+}

@@ -1,0 +1,66 @@
+//! What is read of a book through the library's own functions, held against
+//! the book of the reference.
+
+use std::fmt::Debug;
+
+use boundary::{REQUEST_WORDS, request_told, sizes_told};
+use reference::book::{Book, RequestName};
+
+use crate::depository::Depository;
+
+pub fn check<D: Depository>(book: &Book, under_test: &D) -> Result<(), String> {
+    told("the rate", &book.rate, &under_test.rate())?;
+    told("the sizes", &sizes_told(book), &under_test.sizes())?;
+    held_of_others(book, under_test)?;
+    open_requests(book, under_test)?;
+    other_requests(book, under_test)
+}
+
+fn told<T: PartialEq + Debug>(what: &str, expected: &T, found: &T) -> Result<(), String> {
+    if expected == found { Ok(()) } else { Err(format!("{what}: expected {expected:?}, but {found:?} is told")) }
+}
+
+/// Nothing is held of a security that is not admitted.
+fn held_of_others<D: Depository>(book: &Book, under_test: &D) -> Result<(), String> {
+    let unknown = [0, 1, 16_383, 1 << 14, u64::MAX].into_iter().filter(|code| book.security(*code).is_none());
+    for code in unknown {
+        told(&format!("held of security {code}, which is not admitted"), &0, &under_test.held(code))?;
+    }
+    Ok(())
+}
+
+fn open_requests<D: Depository>(book: &Book, under_test: &D) -> Result<(), String> {
+    for RequestName { member, reference } in book.requests.keys().copied() {
+        let expected = request_told(book, member, reference);
+        let name = format!("request {reference} of member {member}");
+        told(&name, &expected, &under_test.request(member, reference))?;
+    }
+    Ok(())
+}
+
+/// Nothing is told of what is not open, nor of what no record can name.
+fn other_requests<D: Depository>(book: &Book, under_test: &D) -> Result<(), String> {
+    let near = book.requests.keys().flat_map(beside);
+    let names = near.chain([(0, 0), (1, 1), (64, u64::from(u32::MAX)), (u64::MAX, u64::MAX)]);
+    for (member, reference) in names {
+        if !book.requests.contains_key(&RequestName { member, reference }) {
+            let name = format!("request {reference} of member {member}, which is not open");
+            told(&name, &[0; REQUEST_WORDS], &under_test.request(member, reference))?;
+        }
+    }
+    Ok(())
+}
+
+/// Couples that are one step from an open request, or would be the same where
+/// a reference of more than 32 bits is added to the member.
+fn beside(name: &RequestName) -> [(u64, u64); 6] {
+    let RequestName { member, reference } = *name;
+    [
+        (member % 64 + 1, reference),
+        (member, reference - 1),
+        (member, reference + (1 << 32)),
+        (member - 1, reference + (1 << 32)),
+        (member + (1 << 10), reference),
+        (member + (1 << 32), reference),
+    ]
+}

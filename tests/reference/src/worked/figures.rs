@@ -1,0 +1,63 @@
+//! What a worked list says of a book.
+
+use crate::book::{Account, Book, Item, State};
+
+/// One figure of a book.
+pub enum Figure {
+    Rate(u64),
+    /// How many items wait.
+    Waiting(usize),
+    /// How many sides these are.
+    Sides(u64),
+    /// Of the waiting items, in list order.
+    Amounts(&'static [u64]),
+    /// Of the waiting items, in list order; a pair has two, the deliver's
+    /// first.
+    References(&'static [&'static [u64]]),
+    /// All accounts: security, member, type, shareholder and balance.
+    Accounts(&'static [(u64, u64, u64, u64, u64)]),
+    /// How many requests for paper are open.
+    Requests(usize),
+    /// A security's outside count.
+    Outside(u64, u64),
+}
+
+impl Figure {
+    pub fn check(&self, book: &Book) -> Result<(), String> {
+        let items = &book.waiting;
+        match self {
+            Figure::Rate(rate) => same("rate", rate, &book.rate),
+            Figure::Waiting(count) => same("waiting items", count, &items.len()),
+            Figure::Sides(sides) => same("waiting sides", sides, &items.iter().map(Item::sides).sum()),
+            Figure::Amounts(amounts) => {
+                same("amounts", &amounts.to_vec(), &items.iter().map(|item| item.amount).collect())
+            }
+            Figure::References(all) => {
+                let expected: Vec<Vec<u64>> = all.iter().map(|own| own.to_vec()).collect();
+                same("references", &expected, &items.iter().map(references).collect())
+            }
+            Figure::Accounts(all) => same("accounts", &all.iter().copied().map(account).collect(), &book.accounts),
+            Figure::Requests(count) => same("open requests", count, &book.requests.len()),
+            Figure::Outside(code, outside) => {
+                same("outside", &Some(*outside), &book.security(*code).map(|security| security.outside))
+            }
+        }
+    }
+}
+
+fn account((security, member, account_type, shareholder, balance): (u64, u64, u64, u64, u64)) -> (Account, u64) {
+    (Account { security, member, account_type, shareholder }, balance)
+}
+
+fn references(item: &Item) -> Vec<u64> {
+    match item.state {
+        State::Deliver { reference } | State::Receive { reference } | State::ExchangeTrade { reference } => {
+            vec![reference]
+        }
+        State::Pair { deliver, receive } => vec![deliver.reference, receive.reference],
+    }
+}
+
+pub fn same<T: PartialEq + std::fmt::Debug>(what: &str, expected: &T, found: &T) -> Result<(), String> {
+    if expected == found { Ok(()) } else { Err(format!("{what}: expected {expected:?}, found {found:?}")) }
+}

@@ -1,0 +1,51 @@
+//! The worked lists, and that they see what is wrong.
+
+mod common;
+
+use common::*;
+use reference::book::Book;
+use reference::call::Answer;
+use reference::record::Order;
+use reference::worked::{self, Reply};
+
+/// One call, and what is there after it.
+fn reply(book: &mut Book, order: &Order) -> Reply {
+    let mut area = vec![0x5A; 4096];
+    let answer = book.call(&record(order), &mut area);
+    Reply { answer, area, book: book.clone() }
+}
+
+/// What the lists say of replies that are changed like this.
+fn complaints(change: impl Fn(&mut Reply)) -> Vec<String> {
+    let run = |list: &worked::List| {
+        let mut book = Book::fresh();
+        list.run(|order| {
+            let mut reply = reply(&mut book, order);
+            change(&mut reply);
+            Ok(reply)
+        })
+    };
+    worked::lists().iter().filter_map(|list| run(list).err()).collect()
+}
+
+#[test]
+fn the_worked_lists_run() {
+    assert_eq!(complaints(|_| {}), [""; 0]);
+}
+
+#[test]
+fn a_worked_list_sees_a_wrong_answer() {
+    let complaints = complaints(|reply| reply.answer = Answer::Refused(18));
+    assert_eq!(complaints.len(), worked::lists().len());
+    assert!(complaints.iter().all(|text| text.contains("step 1:")));
+}
+
+#[test]
+fn a_worked_list_sees_a_wrong_row_or_figure() {
+    let rows = complaints(|reply| reply.area[31] ^= 1);
+    assert!(rows.len() == 1 && rows[0].contains("rows: expected"), "{rows:?}");
+    let figures = complaints(|reply| reply.book.requests.clear());
+    assert!(figures.len() == 2 && figures.iter().all(|text| text.contains("open requests")), "{figures:?}");
+    let figures = complaints(|reply| reply.book.accounts.clear());
+    assert!(figures.len() == 2 && figures.iter().all(|text| text.contains("accounts: expected")), "{figures:?}");
+}
