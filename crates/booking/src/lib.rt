@@ -1,10 +1,9 @@
 // One movement of shares, booked and written as its two rows: from an account to another, or out of custody.
-ghost use mathlib.Core.Path.{_≡_};
 ghost use mathlib.Core.List.{[], _∷_};
 ghost use Prim.Native.Nat.{_≤_};
 ghost use lib.ListN.{length};
 ghost use Rattle.rulebook.specs.Movements.{account, type91, move};
-ghost use Rattle.rulebook.specs.Forms.{counts, moving};
+ghost use Rattle.rulebook.specs.Forms.{moving};
 ghost use Rattle.book.specs.Meaning.{ledgerOf};
 ghost use Rattle.book.specs.Stored.{Stored};
 ghost use Rattle.book.specs.Handled.{Handled};
@@ -12,15 +11,6 @@ ghost use Rattle.booking.specs.Fits.{ShiftFits, LeaveFits};
 use rulebook::Account;
 use rulebook::Counts;
 use rulebook::Shares;
-
-// A movement is written as two rows, and nothing else is counted.
-pub fn two_rows() -> Counts
-    ensures { λ r. ⌜ r ≡ counts 2 0 0 0 0 0 ⌝ }
-{
-    let mut counts = rows::no_counts();
-    counts.rows = 2;
-    counts
-}
 
 // From one account to another. The debit comes first, so that a full book has room for the account that is opened where one is emptied.
 pub fn shift(
@@ -39,7 +29,7 @@ pub fn shift(
     book::debit(book, from, quantity);
     book::credit(book, to, quantity);
     rows::write_shares(area, from, to, quantity);
-    two_rows()
+    rows::two_rows()
 }
 
 // From an account out of custody.
@@ -54,5 +44,5 @@ pub fn leave(book: &mut [u64], area: &mut [u8], from: Account, quantity: Shares)
     book::credit_outside(book, from.security, quantity);
     book::debit(book, from, quantity);
     rows::write_shares(area, from, outside, quantity);
-    two_rows()
+    rows::two_rows()
 }

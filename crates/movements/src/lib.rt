@@ -17,7 +17,7 @@ pub fn admit(book: &mut [u64], order: Order, area: &mut [u8]) -> Counts
     let issued = parties::issued_account(order.security);
     let outside = parties::outside_account(order.security);
     rows::write_shares(area, issued, outside, order.quantity);
-    booking::two_rows()
+    rows::two_rows()
 }
 
 // 3. Deposit: 91 to the account.
@@ -30,7 +30,7 @@ pub fn deposit(book: &mut [u64], order: Order, area: &mut [u8]) -> Counts
     book::credit(book, to, order.quantity);
     book::debit_outside(book, order.security, order.quantity);
     rows::write_shares(area, outside, to, order.quantity);
-    booking::two_rows()
+    rows::two_rows()
 }
 
 // 4. Withdrawal the reverse.
@@ -60,7 +60,7 @@ pub fn pay_in(book: &mut [u64], order: Order, area: &mut [u8]) -> Counts
     let member = order.credited.member;
     book::credit_cash(book, member, order.currency, order.amount);
     rows::write_cash(area, order.currency, 0, member, order.amount);
-    booking::two_rows()
+    rows::two_rows()
 }
 
 // 11. Pay-out the reverse.
@@ -71,5 +71,5 @@ pub fn pay_out(book: &mut [u64], order: Order, area: &mut [u8]) -> Counts
     let member = order.debited.member;
     book::debit_cash(book, member, order.currency, order.amount);
     rows::write_cash(area, order.currency, member, 0, order.amount);
-    booking::two_rows()
+    rows::two_rows()
 }

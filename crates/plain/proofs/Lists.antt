@@ -1,11 +1,11 @@
--- Laws of lists: totals, what holds of each element. Assumes nothing.
+-- Laws of lists: totals, what holds of some element and of each. Assumes nothing.
 use mathlib.Core.Path.{_≡_, refl}
-use mathlib.Core.Bool.{Bool, true, false, not}
+use mathlib.Core.Bool.{Bool, true, false, not, _||_}
 use mathlib.Core.List.{List, [], _∷_, _++_, map}
 use Prim.Native.Nat.{ℕ, _+_, _≤_}
 use native.Mathlib.Omega.{arith}
 use lib.ListN.{length}
-use Rattle.plain.specs.Lists.{keep, total, Each}
+use Rattle.plain.specs.Lists.{some, keep, total, Each}
 
 -- ---- totals of a figure
 
@@ -34,6 +34,17 @@ module _ {A : Type 0} where
   pub total-append : (figure : A → ℕ) (xs ys : List A) → total figure (xs ++ ys) ≡ total figure xs + total figure ys
   total-append figure [] ys = omega arith
   total-append figure (x ∷ rest) ys = simp (total-append figure rest ys) (omega arith)
+
+  -- one of two lists has an element that passes
+  pub some-append : (test : A → Bool) (xs ys : List A) → some test (xs ++ ys) ≡ (some test xs || some test ys)
+  some-append test [] ys = refl
+  some-append test (x ∷ rest) ys = go (test x) (some-append test rest ys)
+    where
+      go :
+          (t : Bool) → some test (rest ++ ys) ≡ (some test rest || some test ys)
+          → (t || some test (rest ++ ys)) ≡ (t || some test rest || some test ys)
+      go true ih = refl
+      go false ih = ih
 
 -- a change that keeps each figure keeps the total
 pub total-map :

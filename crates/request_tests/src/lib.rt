@@ -19,14 +19,14 @@ fn wrong_request(order: Order, request: Request) -> bool
     ((order.form == 19) & is_open) | ((order.form == 20) & !(is_open & ends))
 }
 
-// RULES 7.20: an ending on the day of the request.
+// RULES 7.20: what is to be ended was asked for today.
 fn ends_too_soon(today: u64, order: Order, request: Request) -> bool
     ensures { λ r. ⌜ ((requests : Requests) → requestOf requests order ≡ request → r ≡ endsTooSoon today requests order) ⌝ }
 {
     (order.form == 20) & (request.day == today)
 }
 
-// RULES 7.21: sixteen are open.
+// RULES 7.21: one request too many.
 fn too_many_requests(book: &[u64], order: Order) -> bool
     requires { ⌜ Stored (now book) ⌝ }
     ensures { λ r. ⌜ r ≡ tooManyRequests (ledgerOf (now (book .entry)) .requests) order ⌝ }

@@ -190,3 +190,12 @@ pub fn no_counts() -> Counts
         left: 0,
     }
 }
+
+// A movement is written as two rows, and nothing else is counted.
+pub fn two_rows() -> Counts
+    ensures { λ r. ⌜ r ≡ counts 2 0 0 0 0 0 ⌝ }
+{
+    let mut counts = no_counts();
+    counts.rows = 2;
+    counts
+}

@@ -1,13 +1,13 @@
 -- What is proved of requests for paper. Assumes nothing.
 use mathlib.Core.Path.{_≡_, refl, sym, ap, subst, _∙_}
-use mathlib.Core.Bool.{Bool, true, false, not, _&&_, _||_, false≢true}
+use mathlib.Core.Bool.{Bool, true, false, not, _&&_, _||_, false≢true, or-true}
 use mathlib.Core.List.{List, [], _∷_, _++_}
 use Prim.Native.Nat.{ℕ, zero, suc, _+_, _≤_, _<_, _^_}
 use native.Mathlib.Omega.{arith}
 use borrow.Author.Tests.{eqb-true, eqb-false, eq-eqb, ne-eqb, le-ltb, le-leb}
 use lib.ListN.{length}
 use Rattle.plain.specs.Lists.{if_then_else_, _is_, _below_, some, first}
-use Rattle.plain.proofs.Lists.{_and_}
+use Rattle.plain.proofs.Lists.{_and_, some-append}
 use Rattle.plain.proofs.Tests.{both, neither}
 use Rattle.rulebook.specs.Ledger.{Ledger, Requests, fresh, noRequest, requestAccount, putDay, putRequest}
 use Rattle.rulebook.specs.Record.{fieldsOf, noForm, unusedNotZero, usedOutOfRange, readOf, recordOf, writeRefusal}
@@ -86,16 +86,6 @@ module _ (m n : ℕ) where
   call-keeps : (b : Ledger) (c : Call) → Keeps b (acceptedOf (resultOf b c .answer) (recordIn c) (resultOf b c .area)) (resultOf b c .book)
   call-keeps = by-answer Keeps (λ b l w. refl) order-keeps
 
-  some-append : (xs ys : List Accepted) → some (endsRequest m n) (xs ++ ys) ≡ (some (endsRequest m n) xs || some (endsRequest m n) ys)
-  some-append [] ys = refl
-  some-append (x ∷ xs) ys = go (endsRequest m n x) (some-append xs ys)
-    where
-      go :
-          (t : Bool) → some (endsRequest m n) (xs ++ ys) ≡ (some (endsRequest m n) xs || some (endsRequest m n) ys)
-          → (t || some (endsRequest m n) (xs ++ ys)) ≡ (t || some (endsRequest m n) xs || some (endsRequest m n) ys)
-      go true e = refl
-      go false e = e
-
   calls-keep :
       (b : Ledger) (calls : List Call) → 1 ≤ b.requests.asked m n .quantity .0 → some (endsRequest m n) (acceptedCalls (callsOn b calls)) ≡ false
       → bookAfter b calls .requests .asked m n ≡ b.requests.asked m n
@@ -105,7 +95,7 @@ module _ (m n : ℕ) where
       let x : Result = resultOf b c in
       let now = acceptedOf x.answer (recordIn c) x.area in
       let later = acceptedCalls (callsOn x.book rest) in
-      let t = neither (some (endsRequest m n) now) (some (endsRequest m n) later) (sym (some-append now later) ∙ w) in
+      let t = neither (some (endsRequest m n) now) (some (endsRequest m n) later) (sym (some-append (endsRequest m n) now later) ∙ w) in
       let k = call-keeps b c l (t .0) in
       calls-keep x.book rest (subst (λ (r : Request). 1 ≤ r.quantity.0) (sym k) l) (t .1) ∙ k
 
@@ -197,7 +187,3 @@ request-ends b m n area p d room = (
   accepts b m n 91 area p d room outside-ends refl (leaving-space b (ending m n 91) p.sizes refl refl),
   (λ c l space. accepts b m n c area p d room (paper-ends (b.requests.asked m n .typ) c l) (simp l (or-true (c is 91))) space),
 )
-  where
-    or-true : (x : Bool) → (x || true) ≡ true
-    or-true true = refl
-    or-true false = refl

@@ -132,7 +132,7 @@ abbrev pub newRequest : (today : ℕ) → Order → Request
 newRequest today order =
     record { security = order.security; typ = order.debited.typ; shareholder = order.debited.shareholder; quantity = order.quantity; day = today }
 
--- RULES 6.19: from the debited account to type 50 of the same member and shareholder; the request is open under the member's reference
+-- RULES 6.19: the quantity goes from the debited account to its owner's account of type 50, and the request opens under the member's reference
 unfoldable pub requestPaper : Ledger → Order → Outcome
 requestPaper book order =
     moving (move (account (accountOf order.security order.debited)) (account (requestAccount requested member request)) order.quantity.0 ∷ [])
@@ -155,7 +155,7 @@ endedRequest book order = requestOf book.requests order
 abbrev pub paperPlace : (credited member : ℕ) → Request → Place
 paperPlace credited member request = if credited is 91 then type91 request.security else account (requestAccount credited member request)
 
--- RULES 6.20: the request's whole quantity from type 50 to the credited type of the same member and shareholder, or to 91; it is open no more
+-- RULES 6.20: all that was requested goes from type 50 to its owner's account of the credited type, or outside, and the request closes
 unfoldable pub endRequest : Ledger → Order → Outcome
 endRequest book order =
     moving (move (account (requestAccount requested member request)) (paperPlace order.credited.typ member request) request.quantity.0 ∷ [])

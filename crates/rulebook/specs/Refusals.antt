@@ -90,11 +90,11 @@ wrongRequest requests order =
     (order.form is 19 && isOpen (requestOf requests order))
     || (order.form is 20 && not (isOpen (requestOf requests order) && ends (requestOf requests order .typ) order.credited.typ))
 
--- RULES 7.20: an ending on the day of the request
+-- RULES 7.20: what is to be ended was asked for today
 unfoldable pub endsTooSoon : (today : ℕ) → Requests → Order → Bool
 endsTooSoon today requests order = order.form is 20 && requestOf requests order .day is today
 
--- RULES 7.21: sixteen are open
+-- RULES 7.21: one request too many
 unfoldable pub tooManyRequests : Requests → Order → Bool
 tooManyRequests requests order = order.form is 19 && 15 below requests.number
 

@@ -66,9 +66,9 @@ pub record Requested (number : ℕ) (h : Holdings) (r : Requests) : Type 0 where
   pub fits : (member reference : ℕ) → 1 ≤ r.asked member reference .quantity .0 → RequestFits number h member reference (r.asked member reference)
   pub awaited : (a : Account) → a.typ ≡ requested → h.balance a ≡ askedOf a r
 
-either-none : (t : Bool) → _≡_ {A = ℕ} (if t then 0 else 0) 0
-either-none true = refl
-either-none false = refl
+none-counts : (t : Bool) (n : ℕ) → n ≡ 0 → (if t then n else 0) ≡ 0
+none-counts true n e = e
+none-counts false n e = refl
 
 pub fresh-requested : Requested (fresh .day .number) (fresh .holdings) (fresh .requests)
 unfolding fresh requestCount counted askedOf
@@ -76,7 +76,7 @@ fresh-requested = record {
   sixteen = omega arith;
   numbered = sym (sum-none (2 ^ 10) _ (λ m _. sum-none (2 ^ 32) _ (λ r _. refl)));
   fits = λ m r l. absurd (omega arith);
-  awaited = λ a e. sym (sum-none (2 ^ 32) _ (λ r _. either-none (0 is a.security && 0 is a.shareholder)));
+  awaited = λ a e. sym (sum-none (2 ^ 32) _ (λ r _. none-counts (0 is a.security && 0 is a.shareholder) 0 refl));
 }
 
 -- the request of a member and a reference, as it counts for an account of type 50
@@ -129,10 +129,6 @@ module _
             subst (λ (x : ℕ). RequestFits later k x j (putRequest m n q r .asked i j)) (eqb-true m i (b .0))
             (subst (λ (x : ℕ). RequestFits later k m x (putRequest m n q r .asked i j)) (eqb-true n j (b .1)) (rw e (f (rw e at p))))
         go i j false e p = rw e (still-fits i j _ (s .fits i j (rw e at p)))
-
-none-counts : (t : Bool) (n : ℕ) → n ≡ 0 → (if t then n else 0) ≡ 0
-none-counts true n e = e
-none-counts false n e = refl
 
 -- an accepted order keeps it
 pub order-requested :
