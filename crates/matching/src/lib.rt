@@ -5,6 +5,7 @@ ghost use Prim.Native.Nat.{_-_};
 ghost use Rattle.plain.specs.Lists.{_is_, _atMost_};
 ghost use Rattle.rulebook.specs.Matching.{tolerance, agree, pairsWith, pairOf};
 ghost use Rattle.rulebook.specs.Premise.{RateFits};
+ghost use Rattle.matching.specs.Terms.{sharedTerms};
 use rulebook::Cents;
 use rulebook::Item;
 use rulebook::Rate;
@@ -39,9 +40,9 @@ fn are_close(limit: Cents, less: Cents, more: Cents) -> bool
     more.0 - less.0 <= limit.0
 }
 
-// Whether a deliver and a receive have their terms in common, and amounts within the limit.
-fn do_agree(limit: Cents, deliver: Item, receive: Item) -> bool
-    ensures { λ r. ⌜ r ≡ agree (limit .0) deliver receive ⌝ }
+// Whether a deliver and a receive have every term in common, but for types and amounts.
+fn share_terms(deliver: Item, receive: Item) -> bool
+    ensures { λ r. ⌜ r ≡ sharedTerms deliver receive ⌝ }
 {
     (deliver.security == receive.security)
         & (deliver.debited.shareholder == receive.credited.shareholder)
@@ -51,7 +52,16 @@ fn do_agree(limit: Cents, deliver: Item, receive: Item) -> bool
         & (deliver.currency == receive.currency)
         & (deliver.debited.member == receive.debited.member)
         & (deliver.credited.member == receive.credited.member)
-        & types::are_alike(deliver.debited.typ, receive.credited.typ)
+}
+
+// Whether they have all terms in common, and amounts within the limit. Types are looked up last, since they seldom differ.
+fn do_agree(limit: Cents, deliver: Item, receive: Item) -> bool
+    ensures { λ r. ⌜ r ≡ agree (limit .0) deliver receive ⌝ }
+{
+    if !share_terms(deliver, receive) {
+        return false;
+    }
+    types::are_alike(deliver.debited.typ, receive.credited.typ)
         & are_close(limit, deliver.amount, receive.amount)
 }
 
@@ -61,12 +71,12 @@ pub fn pairs_with(limit: Cents, arriving: Item, waits: Item) -> bool
 {
     let waiting_state = waits.state;
     let arriving_state = arriving.state;
-    (item::is_deliver(waiting_state)
-        & item::is_receive(arriving_state)
-        & do_agree(limit, waits, arriving))
-        | (item::is_receive(waiting_state)
-            & item::is_deliver(arriving_state)
-            & do_agree(limit, arriving, waits))
+    if item::is_deliver(waiting_state) {
+        return item::is_receive(arriving_state) & do_agree(limit, waits, arriving);
+    }
+    item::is_receive(waiting_state)
+        & item::is_deliver(arriving_state)
+        & do_agree(limit, arriving, waits)
 }
 
 // The pair of a deliver and a receive, at what the buyer offers.
