@@ -6,7 +6,7 @@ use mathlib.Core.List.{_++_}
 use native.Mathlib.Omega.{arith}
 use borrow.Author.Tests.{le-leb, not-false}
 use Rattle.plain.specs.Lists.{_is_, _atMost_, within, some}
-use Rattle.rulebook.specs.AccountTypes.{requested}
+use Rattle.rulebook.specs.TypeTable.{requested}
 use Rattle.rulebook.specs.Ledger.{accountOf, requestAccount}
 use Rattle.rulebook.specs.Premise.{CashFits}
 use Rattle.rulebook.specs.Field as Field

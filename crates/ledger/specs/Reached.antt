@@ -3,7 +3,7 @@ use Prim.Native.Nat.{ℕ}
 use mathlib.Core.Bool.{true}
 use mathlib.Core.List.{List, [], _∷_, _++_}
 use mathlib.Core.Path.{_≡_}
-use Rattle.rulebook.specs.AccountTypes.{requested}
+use Rattle.rulebook.specs.TypeTable.{requested}
 use Rattle.rulebook.specs.Ledger.{firstRate, askedOf}
 use Rattle.rulebook.specs.Calls.{call, Made, acceptedCalls, lastRate, Balanced}
 use Rattle.rulebook.specs.declared.Account.{Account}

@@ -34,8 +34,8 @@ fn wrong_pair(order: Order) -> bool
         7 => !types::is_pledge(credited, debited),
         8 => !types::is_block(debited, credited),
         9 => !types::is_block(credited, debited),
-        19 => !types::is_book_entry(debited),
-        20 => !((credited == 91) | types::is_physical(credited)),
+        19 => !types::has_paper(debited),
+        20 => !(types::is_outside(credited) | types::is_paper(credited)),
         _ => false,
     }
 }

@@ -2,7 +2,7 @@
 ghost use mathlib.Core.Path.{_≡_};
 ghost use Rattle.rulebook.specs.Ledger.{accountOf, requestAccount, sameAccount};
 ghost use Prim.Native.Nat.{ℕ};
-ghost use Rattle.rulebook.specs.AccountTypes.{requested};
+ghost use Rattle.rulebook.specs.TypeTable.{requested};
 ghost use Rattle.rulebook.specs.Cycle.{seller, buyer};
 ghost use Rattle.rulebook.specs.Forms.{newRequest};
 ghost use Rattle.parties.specs.Counted.{outsideAccount};
@@ -11,9 +11,6 @@ use rulebook::Item;
 use rulebook::Order;
 use rulebook::Party;
 use rulebook::Request;
-
-// The type of shares for which paper is requested.
-const REQUESTED: u64 = 50;
 
 pub fn account_of(security: u64, party: Party) -> Account
     ensures { λ r. ⌜ r ≡ accountOf security party ⌝ }
@@ -42,7 +39,7 @@ pub fn request_account(typ: u64, member: u64, request: Request) -> Account
 pub fn awaiting_account(member: u64, request: Request) -> Account
     ensures { λ r. ⌜ r ≡ requestAccount requested member request ⌝ }
 {
-    request_account(REQUESTED, member, request)
+    request_account(types::REQUESTED, member, request)
 }
 
 // The account that the shares of a new request go to.
@@ -52,7 +49,7 @@ pub fn requested_account(order: Order) -> Account
     Account {
         security: order.security,
         member: order.debited.member,
-        typ: REQUESTED,
+        typ: types::REQUESTED,
         shareholder: order.debited.shareholder,
     }
 }

@@ -6,6 +6,7 @@ use Prim.Native.Nat.{ℕ, _+_, _≤_}
 use native.Mathlib.Omega.{arith}
 use lib.ListN.{length}
 use Rattle.plain.specs.Lists.{some, keep, total, Each}
+use Rattle.plain.proofs.Tests.{neither}
 
 -- ---- totals of a figure
 
@@ -62,6 +63,19 @@ _and_ a b = (a, b)
 pub each-so : {A : Type 0} (P Q : A → Type 0) → ((x : A) → P x → Q x) → (xs : List A) → Each P xs → Each Q xs
 each-so P Q f [] e = tt
 each-so P Q f (x ∷ rest) e = (f x (e .0), each-so P Q f rest (e .1))
+
+-- none passes a test
+pub each-none : {A : Type 0} (test : A → Bool) (xs : List A) → some test xs ≡ false → Each (λ x. test x ≡ false) xs
+each-none test [] e = tt
+each-none test (x ∷ rest) e = let n = neither (test x) (some test rest) e in (n .0, each-none test rest (n .1))
+
+-- two lists that are made of one and are equal
+pub each-same : {A B : Type 0} (f g : A → B) (xs : List A) → map f xs ≡ map g xs → Each (λ x. f x ≡ g x) xs
+each-same f g [] e = tt
+each-same {A} {B} f g (x ∷ rest) e =
+    let one : f x ≡ g x = cc in
+    let others : _≡_ {A = List B} (map f rest) (map g rest) = cc in
+    (one, each-same f g rest others)
 
 pub each-both : {A : Type 0} (P Q : A → Type 0) (xs : List A) → Each P xs → Each Q xs → Each (λ x. P x × Q x) xs
 each-both P Q [] e f = tt

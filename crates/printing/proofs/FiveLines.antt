@@ -6,7 +6,8 @@ use mathlib.Core.List.{List, [], _∷_, _++_}
 use mathlib.Core.Path.{_≡_, refl, ap, _∙_}
 use lib.ListN.{replicate}
 use Rattle.bits.specs.Bits.{number, bytes, leading, field}
-use Rattle.rulebook.specs.AccountTypes.{bookEntry, physical, free, alike, pledgePairs, blockPairs, listed, pledgedOrBlocked, wrongTypes}
+use Rattle.rulebook.specs.TypeTable.{typeTable, typeRow}
+use Rattle.rulebook.specs.AccountTypes.{isFree, alike, pledgedOrBlocked, isOutside, listed, become, hasPaper, isPaper, ends, wrongTypes}
 use Rattle.rulebook.specs.Field.{widths, places, ceiling}
 use Rattle.rulebook.specs.Record.{fieldsOf, orderOf, noForm, unusedNotZero, usedOutOfRange, fieldsIn, readRefusal, readOf, recordOf}
 use Rattle.rulebook.specs.Ledger.{Ledger, Holdings, fresh, held, putDay, putHoldings, accountOf, sameAccount, counted, putBalance, putSecurities, putOutside, admitted, issuedOf, outsideOf}
@@ -48,11 +49,11 @@ admitted-one = record { code = 101; issued = record { 0 = 1_000 }; outside = rec
 computed :
     (answerLines 1 fresh area (recordsOf example) ≡ text "1 0 0\n2 0 2\n3 0 2\n4 16 0\n") × (after .securities ≡ admitted-one ∷ [])
 unfolding
-    answerLines bookAfter example parts recordsOf answerLine answerNumber answerRows digits decimal
-    party nobody order opens admits deposits number bytes leading field bookEntry physical free alike pledgePairs blockPairs listed pledgedOrBlocked
-    wrongTypes widths places fieldsOf orderOf ceiling used least most noForm unusedNotZero usedOutOfRange fieldsIn readRefusal readOf recordOf fresh
-    putDay putHoldings accountOf sameAccount counted putBalance putSecurities putOutside admitted issuedOf outsideOf credit debit credits debits
-    booked byKind cycleMinutes officeEnd postingWidths postingBytes postingOf postingRows rowBytes rowsBytes senderOf sentBy notCancellable counts
+    answerLines bookAfter example parts recordsOf answerLine answerNumber answerRows digits decimal party nobody order opens admits deposits
+    number bytes leading field typeTable typeRow isFree alike pledgedOrBlocked isOutside listed become hasPaper isPaper ends wrongTypes widths
+    places fieldsOf orderOf ceiling used least most noForm unusedNotZero usedOutOfRange fieldsIn readRefusal readOf recordOf fresh putDay
+    putHoldings accountOf sameAccount counted putBalance putSecurities putOutside admitted issuedOf outsideOf credit debit credits debits booked
+    byKind cycleMinutes officeEnd postingWidths postingBytes postingOf postingRows rowBytes rowsBytes senderOf sentBy notCancellable counts
     outcome moving silent openDay admit deposit withdraw forms rowOf windowOf effect wrongDay wrongCycle goesBack outsideWindow wrongSecurity
     wrongPair wrongParties wrongDays wrongReference wrongCancel wrongRequest endsTooSoon tooManyRequests tooLittle overCeiling noSpace dayTests
     orderTests itemTests requestTests roomTests refusals refused putMinute accepted orderCall readCall callOf

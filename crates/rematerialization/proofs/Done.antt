@@ -3,8 +3,8 @@ use mathlib.Core.Path.{_≡_}
 use mathlib.Core.Bool.{true, false}
 use mathlib.Core.List.{List, [], _∷_}
 use Prim.Native.Nat.{ℕ}
-use Rattle.plain.specs.Lists.{_is_}
-use Rattle.rulebook.specs.AccountTypes.{requested}
+use Rattle.rulebook.specs.TypeTable.{requested}
+use Rattle.rulebook.specs.AccountTypes.{isOutside}
 use Rattle.rulebook.specs.Ledger.{Ledger, noRequest, accountOf, requestAccount, putRequests, putRequest}
 use Rattle.rulebook.specs.Movements.{account, type91, move}
 use Rattle.rulebook.specs.Forms.{moving, newRequest, endedRequest, requestPaper, endRequest}
@@ -31,14 +31,14 @@ module _ (b : Ledger) (o : Order) {now : Ledger} {x : Request} {from : Account} 
   pub ended-in-paper :
       {to : Account} → now ≡ putRequests (putRequest o.debited.member o.reference noRequest b.requests) b → x ≡ endedRequest b o
       → from ≡ requestAccount requested o.debited.member (endedRequest b o) → to ≡ requestAccount o.credited.typ o.debited.member x
-      → (o.credited.typ is 91) ≡ false
+      → (isOutside o.credited.typ) ≡ false
       → Did book before after c now from to x.quantity.0 → Handled (endRequest b o) book before after c
   unfolding endRequest
   ended-in-paper n q f t e did = rw e (rw (n, f, t, q) at did)
 
   pub ended-outside :
       now ≡ putRequests (putRequest o.debited.member o.reference noRequest b.requests) b → x ≡ endedRequest b o
-      → from ≡ requestAccount requested o.debited.member (endedRequest b o) → (o.credited.typ is 91) ≡ true
+      → from ≡ requestAccount requested o.debited.member (endedRequest b o) → (isOutside o.credited.typ) ≡ true
       → Handled (moving (move (account from) (type91 (from .security)) x.quantity.0 ∷ []) now) book before after c
       → Handled (endRequest b o) book before after c
   unfolding endRequest requestAccount

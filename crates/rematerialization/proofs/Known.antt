@@ -1,16 +1,16 @@
 -- What is known of a book and a form 19 or 20 that no refusal applies to, as the book and the booking of a movement ask for it. Assumes nothing.
 use Prim.Native.Nat.{ℕ, _≤_, _<_}
 use mathlib.Core.Path.{_≡_, refl, sym, _∙_}
-use mathlib.Core.Bool.{true, false}
+use mathlib.Core.Bool.{false}
 use mathlib.Core.List.{List}
 use native.Mathlib.Omega.{arith}
 use Rattle.plain.specs.Lists.{_is_}
-use Rattle.rulebook.specs.AccountTypes.{requested}
+use Rattle.rulebook.specs.TypeTable.{requested}
+use Rattle.rulebook.specs.AccountTypes.{isOutside}
 use Rattle.rulebook.specs.Field as Field
 use Rattle.rulebook.specs.Ledger.{Ledger, Requests, accountOf, requestAccount, sameAccount, putRequests}
 use Rattle.rulebook.specs.Forms.{newRequest, endedRequest, forms, rowOf, used, least}
 use Rattle.rulebook.specs.Premise.{RequestFits}
-use Rattle.rulebook.specs.Ranges.{AccountInRange}
 use Rattle.rulebook.specs.declared.Account.{Account}
 use Rattle.rulebook.specs.declared.Order.{Order}
 use Rattle.rulebook.specs.declared.Request.{Request}
@@ -118,7 +118,7 @@ module _ (book : List ℕ) (o : Order) (g : Given book o) where
     })
 
     -- and go to a type of paper
-    module _ (n : (o.credited.typ is 91) ≡ false) where
+    module _ (n : (isOutside o.credited.typ) ≡ false) where
       paper-apart : sameAccount paper awaiting ≡ false
       paper-apart = ending-apart b o n (is-ended b o e (known g .request) .1)
 

@@ -22,7 +22,7 @@ fn new_request(today: u64, order: Order) -> Request
     }
 }
 
-// 19. The request is opened, and its shares go to type 50.
+// 19. The request is opened, and its shares go to the type of requests.
 pub fn request_paper(book: &mut [u64], order: Order, area: &mut [u8]) -> Counts
     requires { ⌜ Accepted (now book) order (now area) × (order .form ≡ 19) ⌝ }
     ensures { λ r. ⌜ Handled (requestPaper (ledgerOf (now (book .entry))) order) (now (book .exit)) (now (area .entry)) (now (area .exit)) r ⌝ }
@@ -45,7 +45,7 @@ pub fn end_request(book: &mut [u64], order: Order, area: &mut [u8]) -> Counts
     let request = book::request(book, member, order.reference);
     let from = parties::awaiting_account(member, request);
     book::end_request(book, member, order.reference);
-    if order.credited.typ == 91 {
+    if types::is_outside(order.credited.typ) {
         return booking::leave(book, area, from, request.quantity);
     }
     let to = parties::request_account(order.credited.typ, member, request);

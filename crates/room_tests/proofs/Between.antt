@@ -4,7 +4,8 @@ use mathlib.Core.Path.{_≡_, ap, ap₂, _∙_}
 use mathlib.Core.Bool.{true, false}
 use native.Mathlib.Omega.{arith}
 use Rattle.plain.specs.Lists.{_is_, within}
-use Rattle.rulebook.specs.AccountTypes.{requested}
+use Rattle.rulebook.specs.AccountTypes.{isOutside}
+use Rattle.rulebook.specs.TypeTable.{requested}
 use Rattle.rulebook.specs.Ledger.{Ledger, accountOf, requestAccount}
 use Rattle.rulebook.specs.Forms.{newRequest, endedRequest}
 use Rattle.rulebook.specs.Premise.{Premise}
@@ -42,7 +43,7 @@ module _ (b : Ledger) (o : Order) (w : WasRead o) (p : Premise b) (passed : Side
 
   -- to a type of paper
   pub ends-in-paper :
-      o.form ≡ 20 → (o.credited.typ is 91) ≡ false
+      o.form ≡ 20 → (isOutside o.credited.typ) ≡ false
       → noSpace b o
       ≡ noRoomBetween b (requestAccount requested o.debited.member (endedRequest b o)) (requestAccount o.credited.typ o.debited.member (endedRequest b o))
       (endedRequest b o .quantity .0)

@@ -6,6 +6,7 @@ use borrow.Author.Tests.{eqb-true}
 use lib.ListN.{length}
 use Rattle.plain.proofs.Tests.{neither}
 use Rattle.plain.specs.Lists.{_is_, _below_, within}
+use Rattle.rulebook.specs.AccountTypes.{isOutside}
 use Rattle.rulebook.specs.Ledger.{Ledger}
 use Rattle.rulebook.specs.Premise.{Premise}
 use Rattle.rulebook.specs.Refusals.{noSpace}
@@ -62,12 +63,12 @@ module _ (b : Ledger) (o : Order) (w : WasRead o) (p : Premise b) (passed : Side
       on-3 false e nineteen twenty = on-5 (within 5 9 o.form) refl nineteen twenty e
 
       -- an ending, in paper or outside
-      ending : (t : Bool) → (o.credited.typ is 91) ≡ t → o.form ≡ 20 → noSpace b o ≡ false
+      ending : (t : Bool) → (isOutside o.credited.typ) ≡ t → o.form ≡ 20 → noSpace b o ≡ false
       ending true t e = leaving-space b o (p .sizes) e t
       ending false t e = ends-in-paper b o w p passed e t ∙ simp (full, and-false)
 
       on-20 : (t : Bool) → (o.form is 20) ≡ t → (o.form is 19) ≡ false → noSpace b o ≡ false
-      on-20 true e nineteen = ending (o.credited.typ is 91) refl (eqb-true o.form 20 e)
+      on-20 true e nineteen = ending (isOutside o.credited.typ) refl (eqb-true o.form 20 e)
       on-20 false e nineteen = on-3 (o.form is 3) refl nineteen e
 
       on-19 : (t : Bool) → (o.form is 19) ≡ t → noSpace b o ≡ false

@@ -85,7 +85,7 @@ fn no_room_for_paper(book: &[u64], order: Order) -> bool
 {
     let member = order.debited.member;
     let credited = order.credited.typ;
-    if credited == 91 {
+    if types::is_outside(credited) {
         return false;
     }
     let request = book::request(book, member, order.reference);

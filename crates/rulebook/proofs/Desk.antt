@@ -1,7 +1,8 @@
 -- The desk checks, by computation. Assumes nothing.
 use mathlib.Core.Path.{refl}
 use Rattle.bits.specs.Bits.{number, bytes, leading, field}
-use Rattle.rulebook.specs.AccountTypes.{bookEntry, physical, free, alike, pledgePairs, blockPairs, listed, pledgedOrBlocked, paperPairs, ends, wrongTypes}
+use Rattle.rulebook.specs.TypeTable.{typeTable, typeRow}
+use Rattle.rulebook.specs.AccountTypes.{isFree, alike, pledgedOrBlocked, isOutside, listed, become, hasPaper, isPaper, ends, wrongTypes}
 use Rattle.rulebook.specs.Field.{widths, places, ceiling}
 use Rattle.rulebook.specs.Record.{fieldsOf, orderOf, noForm, unusedNotZero, usedOutOfRange, fieldsIn, readRefusal, readOf, recordOf, writeRefusal, writtenOf, areaWritten}
 use Rattle.plain.specs.Lists.{sumBelow}
@@ -21,21 +22,21 @@ use Rattle.rulebook.specs.Desk.{Desk, party, nobody, order, opens, admit
 
 pub desk : Desk
 unfolding
-    party nobody order opens admits deposits pledges paysIn delivers receives deliversPounds receivesPounds setsRate runs sells manyDelivers closes
-    asksPaper endsPaper send calls result started full asked nextDay waits cycled number bytes leading field bookEntry physical free alike pledgePairs
-    blockPairs listed pledgedOrBlocked paperPairs ends wrongTypes widths places fieldsOf orderOf ceiling used least most noForm unusedNotZero
-    usedOutOfRange fieldsIn readRefusal readOf recordOf writeRefusal writtenOf areaWritten fresh putDay putHoldings putWaiting putRate putRequests
-    putRequest requestAccount accountOf sameAccount counted putBalance putCash putSecurities putOutside admitted issuedOf outsideOf sumBelow cashTotal
-    credit debit credits debits booked byKind cycleMinutes officeEnd postingWidths noticeWidths postingBytes postingIn postingOf noticeBytes
-    deliverReference receiveReference noticeOf postingRows rowBytes rowsBytes itemOf isDeliver isReceive isTrade ownReference sidesOf sides senderOf
-    sentBy notCancellable withState marked bothMarked marking cancelled staying unmarked tolerance sameTerms agree pairsWith pairOf arrive seller
-    buyer taken over sharesBrought sharesTaken cashBrought cashTaken bringsShares takesShares bringsCash takesCash sharesMissing cashMissing due
-    settlingOf debitsShort anyShort dropLast rounds settling withMark withoutMark legs settled notSettled dropped closeKind leaves deletedAtClose
-    suspendedAtClose closeNotice counts outcome moving silent openDay admit deposit withdraw transfer payIn payOut instruct trade cancel cycle close
-    setRate requestPaper endRequest forms rowOf windowOf effect wrongDay wrongCycle goesBack outsideWindow wrongSecurity wrongPair wrongParties
-    wrongDays wrongReference wrongCancel wrongRequest endsTooSoon tooManyRequests tooLittle overCeiling noSpace dayTests orderTests itemTests
-    requestTests roomTests refusals answerNumber refused putMinute accepted orderCall readCall callOf resultOf recordIn callsOn bookAfter acceptedOf
-    acceptedCalls sum sharesOf lastAsked leftWith leftOnPaper withdrawals
+    party nobody order opens admits deposits pledges paysIn delivers receives deliversPounds receivesPounds setsRate runs sells manyDelivers
+    closes asksPaper endsPaper send calls result started full asked nextDay waits cycled number bytes leading field typeTable typeRow isFree alike
+    pledgedOrBlocked isOutside listed become hasPaper isPaper ends wrongTypes widths places fieldsOf orderOf ceiling used least most noForm
+    unusedNotZero usedOutOfRange fieldsIn readRefusal readOf recordOf writeRefusal writtenOf areaWritten fresh putDay putHoldings putWaiting
+    putRate putRequests putRequest requestAccount accountOf sameAccount counted putBalance putCash putSecurities putOutside admitted issuedOf
+    outsideOf sumBelow cashTotal credit debit credits debits booked byKind cycleMinutes officeEnd postingWidths noticeWidths postingBytes
+    postingIn postingOf noticeBytes deliverReference receiveReference noticeOf postingRows rowBytes rowsBytes itemOf isDeliver isReceive isTrade
+    ownReference sidesOf sides senderOf sentBy notCancellable withState marked bothMarked marking cancelled staying unmarked tolerance sameTerms
+    agree pairsWith pairOf arrive seller buyer taken over sharesBrought sharesTaken cashBrought cashTaken bringsShares takesShares bringsCash
+    takesCash sharesMissing cashMissing due settlingOf debitsShort anyShort dropLast rounds settling withMark withoutMark legs settled notSettled
+    dropped closeKind leaves deletedAtClose suspendedAtClose closeNotice counts outcome moving silent openDay admit deposit withdraw transfer
+    payIn payOut instruct trade cancel cycle close setRate requestPaper endRequest forms rowOf windowOf effect wrongDay wrongCycle goesBack
+    outsideWindow wrongSecurity wrongPair wrongParties wrongDays wrongReference wrongCancel wrongRequest endsTooSoon tooManyRequests tooLittle
+    overCeiling noSpace dayTests orderTests itemTests requestTests roomTests refusals answerNumber refused putMinute accepted orderCall readCall
+    callOf resultOf recordIn callsOn bookAfter acceptedOf acceptedCalls sum sharesOf lastAsked leftWith leftOnPaper withdrawals
 desk = record {
   p1 = refl;
   p2 = refl;

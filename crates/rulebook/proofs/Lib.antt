@@ -10,6 +10,8 @@ pub mod Demand3
 pub mod Desk
 -- a call answers with the first of its checks that applies: `checking-order`
 pub mod CheckingOrder
+-- account types: what each form allows, over all pairs of types
+pub mod AdmittedTypes
 -- the rate: of every list of calls, what pairs by it, what form 18 does and meets
 pub mod Rates
 -- requests for paper: their shares are there, they stay until they are ended, and can be ended on every later day
@@ -38,9 +40,11 @@ pub mod Cancelling
 pub mod Within
 -- WHAT THESE REST ON
 
--- account types, sums over accounts, securities, rows that are read back, what movements do to sums
 -- a test on every number below another: a table's rule by one computed test
 pub mod Below
+-- account types: from the table's rows to every type, and what follows for forms; sums over accounts, securities, rows that are read back, what movements do
+-- to sums
+pub mod TypeTable
 pub mod Types
 pub mod Held
 pub mod Securities

@@ -1,19 +1,20 @@
 -- What is proved of requests for paper. Assumes nothing.
 use mathlib.Core.Path.{_≡_, refl, sym, ap, subst, _∙_}
-use mathlib.Core.Bool.{Bool, true, false, not, _&&_, _||_, false≢true, or-true}
-use mathlib.Core.List.{List, [], _∷_, _++_}
-use Prim.Native.Nat.{ℕ, zero, suc, _+_, _≤_, _<_, _^_}
+use mathlib.Core.Bool.{Bool, true, false, not, _&&_, false≢true, or-true}
+use mathlib.Core.List.{List, [], _∷_}
+use Prim.Native.Nat.{ℕ, zero, suc, _≤_}
 use native.Mathlib.Omega.{arith}
-use borrow.Author.Tests.{eqb-true, eqb-false, eq-eqb, ne-eqb, le-ltb, le-leb}
+use borrow.Author.Tests.{eqb-true, ne-eqb, le-ltb, le-leb, not-true, not-false}
 use lib.ListN.{length}
-use Rattle.plain.specs.Lists.{if_then_else_, _is_, _below_, some, first}
+use Rattle.plain.specs.Lists.{if_then_else_, _is_, _atMost_, some, first}
 use Rattle.plain.proofs.Lists.{_and_, some-append}
-use Rattle.plain.proofs.Tests.{both, neither}
-use Rattle.rulebook.specs.Ledger.{Ledger, Requests, fresh, noRequest, requestAccount, putDay, putRequest}
-use Rattle.rulebook.specs.Record.{fieldsOf, noForm, unusedNotZero, usedOutOfRange, readOf, recordOf, writeRefusal}
-use Rattle.rulebook.specs.Forms.{newRequest, endedRequest, forms, rowOf, used, least, most, windowOf, effect}
+use Rattle.plain.proofs.Tests.{both, neither, not-second}
+use Rattle.rulebook.specs.Ledger.{Ledger, Requests, fresh, requestAccount, putDay, putRequest}
+use Rattle.rulebook.specs.Record.{fieldsOf, noForm, unusedNotZero, usedOutOfRange, readOf, writeRefusal}
+use Rattle.rulebook.specs.Forms.{endedRequest, forms, rowOf, used, least, most, windowOf, effect}
 use Rattle.rulebook.specs.Refusals.{wrongDay, wrongCycle, goesBack, outsideWindow, wrongSecurity, wrongPair, wrongParties, wrongDays, wrongReference, wrongCancel, wrongRequest, endsTooSoon, tooManyRequests, tooLittle, overCeiling, noSpace, dayTests, orderTests, itemTests, requestTests, roomTests, refusals}
-use Rattle.rulebook.specs.AccountTypes.{bookEntry, physical, free, alike, pledgePairs, blockPairs, paperPairs, listed, requested, ends, wrongTypes}
+use Rattle.rulebook.specs.TypeTable.{requested, outside, onPaperAs, typeTable, typeRow}
+use Rattle.rulebook.specs.AccountTypes.{isOutside, listed, become, isPaper, ends, wrongTypes}
 use Rattle.rulebook.specs.Call.{Result, answerNumber, putMinute, accepted as acceptedResult, orderCall, readCall, callOf}
 use Rattle.rulebook.specs.Calls.{Call, resultOf, recordIn, callsOn, bookAfter, Accepted, acceptedOf, acceptedCalls}
 use Rattle.rulebook.specs.Rematerialization.{AwaitedOfCalls, EndingCovered, endsRequest, RequestStays, ending, LaterDay, EndingAccepted, RequestEnds, RequestRefusals, EndingRefusals}
@@ -28,7 +29,7 @@ use Rattle.rulebook.proofs.Orders.{accepted, not-open}
 use Rattle.rulebook.proofs.Requests.{covered}
 use Rattle.rulebook.proofs.RoundTrips.{write-read}
 use Rattle.rulebook.proofs.Space.{leaving-space}
-use Rattle.rulebook.proofs.Types.{listed-of}
+use Rattle.rulebook.proofs.TypeTable.{pair-of, no-row}
 use Rattle.rulebook.proofs.EveryCall.{fresh-premise, calls-premise}
 use Rattle.rulebook.proofs.EveryCall.Requested.{requestsAfter, effect-requests}
 
@@ -119,21 +120,31 @@ ending-refusals b o e = simp e
 
 -- ---- a request can be ended on every later day
 
--- the types that end a request
+-- the types that end a request: a record has room for them, and the form allows them
 record EndsSome (credited : ℕ) : Type 0 where
-  least : 1 ≤ credited
-  most : credited < 2 ^ 8
-  right : wrongTypes 20 0 credited ≡ false
+  least : (1 atMost credited) ≡ true
+  most : (credited atMost 255) ≡ true
+  right : not (wrongTypes 20 0 credited) ≡ true
 
-outside-ends : EndsSome 91
-unfolding wrongTypes physical
-outside-ends = record { least = omega arith; most = omega arith; right = refl }
+abbrev endsSome : ℕ → Bool
+endsSome credited = 1 atMost credited && (credited atMost 255 && not (wrongTypes 20 0 credited))
 
-paper-ends : (came credited : ℕ) → listed paperPairs came credited ≡ true → EndsSome credited
-unfolding paperPairs wrongTypes physical
-paper-ends came credited =
-    listed-of (λ s t. EndsSome t) paperPairs came credited
-    (record { least = omega arith; most = omega arith; right = refl } and record { least = omega arith; most = omega arith; right = refl } and tt)
+ends-some : (credited : ℕ) → endsSome credited ≡ true → EndsSome credited
+ends-some credited e =
+    let first = both (1 atMost credited) (credited atMost 255 && not (wrongTypes 20 0 credited)) e in
+    let second = both (credited atMost 255) (not (wrongTypes 20 0 credited)) (first .1) in
+    record { least = first .0; most = second .0; right = second .1 }
+
+outside-ends : (credited : ℕ) → isOutside credited ≡ true → EndsSome credited
+unfolding isOutside wrongTypes isPaper listed typeRow typeTable
+outside-ends credited e =
+    ends-some credited
+    (not-false (endsSome credited)
+    (not-second (isOutside credited) (not (endsSome credited)) (no-row (λ t row. row.state is outside && not (endsSome t)) refl credited refl) e))
+
+paper-ends : (came credited : ℕ) → become onPaperAs came credited ≡ true → EndsSome credited
+unfolding isOutside wrongTypes isPaper listed typeRow typeTable
+paper-ends came credited e = ends-some credited (pair-of onPaperAs (λ row t. endsSome t) refl came credited e)
 
 module _ (b : Ledger) (m n c : ℕ) (area : List ℕ) (p : Premise b) (d : LaterDay b m n) (room : 4_096 ≤ length area) (t : EndsSome c) where
   abbrev order : Order
@@ -150,8 +161,8 @@ module _ (b : Ledger) (m n c : ℕ) (area : List ℕ) (p : Premise b) (d : Later
         le-leb m 64 (f.named.member-most),
         le-leb 1 n (f.referenced.least),
         le-leb n 4_294_967_295 (omega (arith, f.referenced.most)),
-        le-leb 1 c (t .least),
-        le-leb c 255 (omega (arith, t .most)),
+        t .least,
+        t .most,
       )
 
   by-kind : (k : ℕ) → 510 ≤ byKind k 870 750
@@ -170,7 +181,7 @@ module _ (b : Ledger) (m n c : ℕ) (area : List ℕ) (p : Premise b) (d : Later
         d .opened,
         le-ltb 510 b.day.minute (d .early),
         le-leb 510 (byKind b.day.kind 870 750) (by-kind b.day.kind),
-        t .right,
+        not-true (wrongTypes 20 0 c) (t .right),
         ne-eqb (b.requests.asked m n .quantity .0) 0 (λ z. omega (arith, z, d .some)),
         e,
         ne-eqb (b.requests.asked m n .day) b.day.number (λ z. omega (arith, z, d .older)),
@@ -184,6 +195,6 @@ module _ (b : Ledger) (m n c : ℕ) (area : List ℕ) (p : Premise b) (d : Later
 pub request-ends : RequestEnds
 unfolding RequestEnds ends
 request-ends b m n area p d room = (
-  accepts b m n 91 area p d room outside-ends refl (leaving-space b (ending m n 91) p.sizes refl refl),
-  (λ c l space. accepts b m n c area p d room (paper-ends (b.requests.asked m n .typ) c l) (simp l (or-true (c is 91))) space),
+  (λ c l. accepts b m n c area p d room (outside-ends c l) (simp l) (leaving-space b (ending m n c) p.sizes refl l)),
+  (λ c l space. accepts b m n c area p d room (paper-ends (b.requests.asked m n .typ) c l) (simp l (or-true (isOutside c))) space),
 )

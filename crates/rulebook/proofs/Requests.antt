@@ -3,12 +3,11 @@ use mathlib.Core.Path.{_≡_, refl, sym, ap, _∙_}
 use mathlib.Core.Logic.{_≢_}
 use mathlib.Core.Bool.{Bool, true, false, _&&_, and-false}
 use Prim.Native.Nat.{ℕ, _+_, _-_, _≤_, _<_, _^_}
-use native.Mathlib.Nat.{add-comm}
 use native.Mathlib.Omega.{arith}
-use borrow.Author.Tests.{eqb-true, eqb-false, eq-eqb, ne-eqb}
+use borrow.Author.Tests.{eqb-true, eq-eqb, ne-eqb}
 use Rattle.plain.specs.Lists.{if_then_else_, _is_}
 use Rattle.plain.proofs.Sums.{sum-same, sum-differs, sum-least}
-use Rattle.rulebook.specs.AccountTypes.{requested}
+use Rattle.rulebook.specs.TypeTable.{requested}
 use Rattle.rulebook.specs.Ledger.{Ledger, Requests, requestAccount, sameAccount, counted, putRequest, askedUnder, askedOf}
 use Rattle.rulebook.specs.declared.Account.{Account}
 use Rattle.rulebook.specs.declared.Request.{Request}

@@ -4,7 +4,7 @@ use mathlib.Core.Bool.{Bool, true, false, not, _&&_, _||_, false≢true, and-tru
 use mathlib.Core.List.{List, [], _∷_, _++_}
 use Prim.Native.Nat.{ℕ, zero, suc, _+_, _-_, _≤_, _<_}
 use native.Mathlib.Omega.{arith}
-use borrow.Author.Tests.{ltb-true, ltb-false, lt-ltb, le-ltb, ne-eqb, eqb-true, eqb-false}
+use borrow.Author.Tests.{ltb-true, ltb-false, lt-ltb, le-ltb, eqb-true, eqb-false}
 use lib.ListN.{length, length-append}
 use Rattle.rulebook.specs.declared.Item.{Item}
 use Rattle.rulebook.specs.declared.Order.{Order}
@@ -12,7 +12,8 @@ use Rattle.rulebook.specs.declared.Request.{Request}
 use Rattle.rulebook.specs.declared.Security.{Security}
 use Rattle.rulebook.specs.declared.State.the-variants.{Trade}
 use Rattle.plain.specs.Lists.{if_then_else_, _is_, _isNot_, _below_, _oneOf_, some}
-use Rattle.rulebook.specs.AccountTypes.{requested, ends}
+use Rattle.rulebook.specs.TypeTable.{requested}
+use Rattle.rulebook.specs.AccountTypes.{ends, isOutside}
 use Rattle.rulebook.specs.Ledger.{Ledger, Holdings, accountOf, requestAccount, sameAccount, counted, putBalance, putSecurities, putOutside, putHoldings, putWaiting, putRequests, newSecurity}
 use Rattle.rulebook.specs.declared.Account.{Account}
 use Rattle.rulebook.specs.Movements.{Place, Movement, account, type91, type90, move, credit, debit, credits, debits, booked}
@@ -24,7 +25,7 @@ use Rattle.rulebook.specs.Premise.{Sizes}
 use Rattle.rulebook.proofs.ByCall.{effect-at}
 use Rattle.rulebook.proofs.Held.{put-other}
 use Rattle.rulebook.proofs.Places.{is-sym}
-use Rattle.rulebook.proofs.Types.{free-quiet, entry-free, ends-free, request-entry, put-in-apart, pledge-types, release-types, block-types, unblock-types}
+use Rattle.rulebook.proofs.Types.{free-quiet, paper-free, ends-free, request-paper, put-in-apart, pledge-types, release-types, block-types, unblock-types}
 use Rattle.rulebook.proofs.Orders.{right-types}
 use Rattle.rulebook.proofs.Sizes.{counted-none, counted-some, opened, booked-accounts, booked-listed}
 
@@ -277,17 +278,17 @@ module _ (b : Ledger) (o : Order) (z : Sizes b) where
   paper = requestAccount o.credited.typ o.debited.member ended
 
   pub ending-space :
-      o.form ≡ 20 → (o.credited.typ is 91) ≡ false → 1 ≤ ended.quantity.0 → ended.quantity.0 ≤ has awaiting → sameAccount paper awaiting ≡ false
+      o.form ≡ 20 → (isOutside o.credited.typ) ≡ false → 1 ≤ ended.quantity.0 → ended.quantity.0 ≤ has awaiting → sameAccount paper awaiting ≡ false
       → noSpace b o ≡ (has paper is 0 && has awaiting isNot ended.quantity.0 && 255 below (accounts + items))
   unfolding forms rowOf endRequest moving outcome putHoldings putRequests
   ending-space n t q e d =
       shift-space awaiting paper ended.quantity.0 q e d 20 n (endRequest b o .after) refl
       (ap (λ (p : Place). booked (move (account awaiting) p ended.quantity.0 ∷ []) b.holdings) to-paper) refl
     where
-      to-paper : (if o.credited.typ is 91 then type91 ended.security else account paper) ≡ account paper
+      to-paper : (if isOutside o.credited.typ then type91 ended.security else account paper) ≡ account paper
       to-paper = rw t
 
-  pub leaving-space : o.form ≡ 20 → (o.credited.typ is 91) ≡ true → noSpace b o ≡ false
+  pub leaving-space : o.form ≡ 20 → (isOutside o.credited.typ) ≡ true → noSpace b o ≡ false
   unfolding forms rowOf endRequest moving outcome putHoldings putRequests
   leaving-space n t =
       space-is 20 b o n (endRequest b o .after) refl securities items (booked ms b.holdings .accounts)
@@ -299,7 +300,7 @@ module _ (b : Ledger) (o : Order) (z : Sizes b) where
       )
     where
       ms : List Movement
-      ms = move (account awaiting) (if o.credited.typ is 91 then type91 ended.security else account paper) ended.quantity.0 ∷ []
+      ms = move (account awaiting) (if isOutside o.credited.typ then type91 ended.security else account paper) ended.quantity.0 ∷ []
 
       none : opened ms ≡ 0
       none = rw t
@@ -351,12 +352,12 @@ module _ (b : Ledger) (o : Order) where
       → sameAccount (requestAccount requested o.debited.member (newRequest b.day.number o)) (accountOf o.security o.debited) ≡ false
   unfolding requestAccount accountOf
   request-apart e w =
-      let entry = request-entry o.debited.typ o.credited.typ (right-types 19 b o e w) in
+      let entry = request-paper o.debited.typ o.credited.typ (right-types 19 b o e w) in
       types-apart (requestAccount requested o.debited.member (newRequest b.day.number o)) (accountOf o.security o.debited)
-      (is-sym requested o.debited.typ ∙ free-quiet o.debited.typ (entry-free o.debited.typ entry) .2)
+      (is-sym requested o.debited.typ ∙ free-quiet o.debited.typ (paper-free o.debited.typ entry) .2)
 
   pub ending-apart :
-      (o.credited.typ is 91) ≡ false → ends (endedRequest b o .typ) o.credited.typ ≡ true
+      (isOutside o.credited.typ) ≡ false → ends (endedRequest b o .typ) o.credited.typ ≡ true
       → sameAccount (requestAccount o.credited.typ o.debited.member (endedRequest b o)) (requestAccount requested o.debited.member (endedRequest b o)) ≡ false
   unfolding requestAccount
   ending-apart n w =

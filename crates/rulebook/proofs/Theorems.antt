@@ -25,6 +25,7 @@ use Rattle.rulebook.proofs.CheckingOrder.{checking-order}
 use Rattle.rulebook.proofs.Sizes.{cycle-space}
 use Rattle.rulebook.proofs.EveryCall.{fresh-premise, call-premise}
 use Rattle.rulebook.proofs.Demand3.{demand3}
+use Rattle.rulebook.proofs.AdmittedTypes.{admitted-types}
 use Rattle.rulebook.proofs.Rates.{rate-of-calls, tolerances, rate-alone, rate-refusals}
 use Rattle.rulebook.proofs.Rematerialization.{awaited-of-calls, ending-covered, request-stays, request-ends, request-refusals, ending-refusals}
 use Rattle.rulebook.proofs.Desk.{desk}
@@ -89,6 +90,7 @@ theorems = record {
   freshMeets = fresh-premise;
   callsKeep = call-premise;
   balanced = demand3;
+  admittedTypes = admitted-types;
   rateOfCalls = rate-of-calls;
   tolerances = tolerances;
   rateAlone = rate-alone;

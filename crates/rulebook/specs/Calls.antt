@@ -6,7 +6,7 @@ use mathlib.Core.Path.{_≡_}
 use lib.ListN.{take, drop}
 use lib.Dec.{T}
 use Rattle.plain.specs.Lists.{if_then_else_, _is_, _isNot_, _oneOf_, total}
-use Rattle.rulebook.specs.AccountTypes.{pledgedOrBlocked}
+use Rattle.rulebook.specs.AccountTypes.{pledgedOrBlocked, isOutside}
 use Rattle.rulebook.specs.Record.{readOf}
 use Rattle.rulebook.specs.Ledger.{Ledger, fresh, accountOf, sameAccount, issuedOf, outsideOf, cashTotal, held}
 use Rattle.rulebook.specs.declared.Account.{Account}
@@ -89,10 +89,10 @@ lastAsked security member reference (c ∷ earlier) =
     let before = lastAsked security member reference earlier in
     if c.order.form is 19 && c.order.debited.member is member && c.order.reference is reference then sharesOf 19 security c else before
 
--- what left on paper with a call: for a form 20 that credits 91, what its form 19 asked for
+-- what left on paper with a call: for a form 20 that credits the type outside, what its form 19 asked for
 unfoldable pub leftWith : (security : ℕ) → (earlier : List Accepted) → Accepted → ℕ
 leftWith security earlier c =
-    if c.order.form is 20 && c.order.credited.typ is 91 then lastAsked security c.order.debited.member c.order.reference earlier else 0
+    if c.order.form is 20 && isOutside c.order.credited.typ then lastAsked security c.order.debited.member c.order.reference earlier else 0
 
 unfoldable pub leftOnPaper : (security : ℕ) → (earlier calls : List Accepted) → ℕ
 leftOnPaper security earlier [] = 0

@@ -6,7 +6,8 @@ use mathlib.Core.List.{List, [], _∷_, _++_, map}
 use lib.ListN.{length, getD}
 use Rattle.plain.specs.Lists.{if_then_else_, _is_, keep, some}
 use Rattle.rulebook.specs.Field.{Rule, from1, from1To, always, ruleIn, D, C, all, allBut, security, currency, debited-member, debited-type, credited-member, credited-type, quantity, amount, settlement-day, reference}
-use Rattle.rulebook.specs.AccountTypes.{requested}
+use Rattle.rulebook.specs.TypeTable.{requested}
+use Rattle.rulebook.specs.AccountTypes.{isOutside}
 use Rattle.rulebook.specs.Ledger.{Ledger, Requests, noRequest, accountOf, requestAccount, putDay, putHoldings, putWaiting, putRate, putRequests, putRequest, putSecurities, oneMoreCycle, opening, closing, newSecurity}
 use Rattle.rulebook.specs.declared.Day.{Day}
 use Rattle.rulebook.specs.Windows.{Window, openingHours, counterHours, officeHours, paymentHours, cycleHours, closingHours}
@@ -153,7 +154,7 @@ endedRequest book order = requestOf book.requests order
 
 -- where the shares of an ended request go: to the credited type, or outside
 abbrev pub paperPlace : (credited member : ℕ) → Request → Place
-paperPlace credited member request = if credited is 91 then type91 request.security else account (requestAccount credited member request)
+paperPlace credited member request = if isOutside credited then type91 request.security else account (requestAccount credited member request)
 
 -- RULES 6.20: all that was requested goes from type 50 to its owner's account of the credited type, or outside, and the request closes
 unfoldable pub endRequest : Ledger → Order → Outcome

@@ -1,4 +1,5 @@
 -- The rules (docs/RULES.md) as definitions, in the order in which they are read. `Theorems` states what is proved of them.
+pub mod TypeTable
 pub mod AccountTypes
 pub mod Field
 pub mod Ledger
@@ -17,6 +18,7 @@ pub mod Checks
 pub mod Calls
 pub mod Ranges
 pub mod Premise
+pub mod AdmittedTypes
 pub mod Rates
 pub mod Rematerialization
 pub mod Desk

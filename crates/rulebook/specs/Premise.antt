@@ -1,11 +1,12 @@
 -- What the fresh book meets and every call keeps, as `Theorems` says: the one premise of a call, which no caller has to show (RULES 12.15 to 12.17).
 use Prim.Native.Nat.{ℕ, _+_, _≤_, _<_, _^_}
-use mathlib.Core.Bool.{Bool, true, false, _||_}
+use mathlib.Core.Bool.{Bool, true, false}
 use mathlib.Core.List.{List}
 use mathlib.Core.Path.{_≡_}
 use lib.ListN.{length}
-use Rattle.plain.specs.Lists.{if_then_else_, _is_, _oneOf_, total, Each, sumBelow}
-use Rattle.rulebook.specs.AccountTypes.{bookEntry, free, alike, pledgedOrBlocked, requested}
+use Rattle.plain.specs.Lists.{if_then_else_, _is_, total, Each, sumBelow}
+use Rattle.rulebook.specs.TypeTable.{requested}
+use Rattle.rulebook.specs.AccountTypes.{isFree, alike, accountType, hasPaper}
 use Rattle.rulebook.specs.Ledger.{Holdings, Ledger, Requests, accountOf, sameAccount, counted, admitted, issuedOf, outsideOf, askedOf, cashTotal, held}
 use Rattle.rulebook.specs.declared.Day.{Day}
 use Rattle.rulebook.specs.declared.Account.{Account}
@@ -43,10 +44,6 @@ pub record SecurityFits (s : Security) : Type 0 where
   pub code-most : s.code < 2 ^ 14
   pub issued-least : 1 ≤ s.issued.0
   pub issued-most : s.issued.0 < 2 ^ 40
-
--- RULES 5.1, 5.9: free, pledged or blocked, or that of requests
-unfoldable pub accountType : ℕ → Bool
-accountType typ = free typ || pledgedOrBlocked typ || typ is requested
 
 -- RULES 1.12, 1.13: a member and a shareholder
 pub record Named (member shareholder : ℕ) : Type 0 where
@@ -97,7 +94,7 @@ pub record ReferenceFits (reference : ℕ) : Type 0 where
 pub record SingleFits (debited credited : Party) (delivers : Bool) (reference : ℕ) : Type 0 where
   pub named : ReferenceFits reference
   -- its own side free and its other side's type 0
-  pub own : (if delivers then free debited.typ else free credited.typ) ≡ true
+  pub own : (if delivers then isFree debited.typ else isFree credited.typ) ≡ true
   pub other : (if delivers then credited.typ else debited.typ) ≡ 0
   pub shareholders : debited.shareholder ≡ credited.shareholder
   pub members : (debited.member is credited.member) ≡ false
@@ -158,13 +155,13 @@ pub record RateFits (rate : ℕ) : Type 0 where
   pub least : 1 ≤ rate
   pub most : rate < 2 ^ 40
 
--- an open request: of shares of a book-entry type, made today or before
+-- an open request: of shares that can become paper, made today or before
 pub record RequestFits (number : ℕ) (h : Holdings) (member reference : ℕ) (r : Request) : Type 0 where
   pub listed : admitted r.security h ≡ true
   pub security : r.security < 2 ^ 14
   pub named : Named member r.shareholder
   pub referenced : ReferenceFits reference
-  pub typ : (r.typ oneOf bookEntry) ≡ true
+  pub typ : hasPaper r.typ ≡ true
   pub quantity : r.quantity.0 < 2 ^ 40
   pub day : r.day ≤ number
 

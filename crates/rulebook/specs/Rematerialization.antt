@@ -5,8 +5,9 @@ use mathlib.Core.List.{List, [], _∷_}
 use mathlib.Core.Path.{_≡_}
 use lib.ListN.{length}
 use Rattle.plain.specs.Lists.{_is_, some, first}
-use Rattle.rulebook.specs.AccountTypes.{requested, paperPairs, listed}
-use Rattle.rulebook.specs.Ledger.{Ledger, fresh, noRequest, requestAccount, askedOf}
+use Rattle.rulebook.specs.TypeTable.{requested, onPaperAs}
+use Rattle.rulebook.specs.AccountTypes.{isOutside, become}
+use Rattle.rulebook.specs.Ledger.{Ledger, fresh, requestAccount, askedOf}
 use Rattle.rulebook.specs.Record.{recordOf}
 use Rattle.rulebook.specs.Forms.{endedRequest}
 use Rattle.rulebook.specs.Refusals.{wrongDay, goesBack, outsideWindow, wrongSecurity, wrongPair, wrongRequest, endsTooSoon, tooManyRequests, tooLittle, noSpace, refusals}
@@ -15,7 +16,6 @@ use Rattle.rulebook.specs.Calls.{Call, callsOn, bookAfter, Accepted, acc
 use Rattle.rulebook.specs.Premise.{Premise}
 use Rattle.rulebook.specs.declared.Account.{Account}
 use Rattle.rulebook.specs.declared.Order.{Order}
-use Rattle.rulebook.specs.declared.Request.{Request}
 
 -- RULES 12.20: after every list of calls an account of type 50 has what its open requests ask for, and nothing else
 unfoldable pub AwaitedOfCalls : Type 0
@@ -68,12 +68,12 @@ pub record LaterDay (book : Ledger) (member reference : ℕ) : Type 0 where
 abbrev pub EndingAccepted : (book : Ledger) (member reference credited : ℕ) → (area : List ℕ) → Type 0
 EndingAccepted book member reference credited area = answerNumber (callOf book (recordOf (ending member reference credited)) area .answer) ≡ 0
 
--- RULES 12.23: a request can be ended on every later day: to 91 always, and to its paper's type where there is room
+-- RULES 12.23: a request can be ended on every later day: to the type outside always, and to its paper's type where there is room
 unfoldable pub RequestEnds : Type 0
 RequestEnds =
     (book : Ledger) (member reference : ℕ) (area : List ℕ) → Premise book → LaterDay book member reference → 4_096 ≤ length area
-    → EndingAccepted book member reference 91 area
-    × ((credited : ℕ) → listed paperPairs (book.requests.asked member reference .typ) credited ≡ true → noSpace book (ending member reference credited) ≡ false
+    → ((credited : ℕ) → isOutside credited ≡ true → EndingAccepted book member reference credited area)
+    × ((credited : ℕ) → become onPaperAs (book.requests.asked member reference .typ) credited ≡ true → noSpace book (ending member reference credited) ≡ false
     → EndingAccepted book member reference credited area)
 
 -- RULES 6.19, 6.20: the refusals that each of the two forms meets, behind the record's own

@@ -12,6 +12,7 @@ use Rattle.rulebook.specs.Refusals.{noSpace}
 use Rattle.rulebook.specs.Checks.{CheckingOrder}
 use Rattle.rulebook.specs.Calls.{Call, resultOf, Demand3}
 use Rattle.rulebook.specs.Premise.{Premise}
+use Rattle.rulebook.specs.AdmittedTypes.{AdmittedTypes}
 use Rattle.rulebook.specs.Rates.{RateOfCalls, Tolerances, RateAlone, RateRefusals}
 use Rattle.rulebook.specs.Rematerialization.{AwaitedOfCalls, EndingCovered, RequestStays, RequestEnds, RequestRefusals, EndingRefusals}
 use Rattle.rulebook.specs.Desk.{Desk}
@@ -41,6 +42,8 @@ pub record Theorems : Type 0 where
   pub callsKeep : (book : Ledger) (c : Call) → Premise book → Premise (resultOf book c .book)
   -- RULES 12.6 to 12.12: the one claim about every list of calls
   pub balanced : Demand3
+  -- RULES 5.5: the types and pairs that each form allows
+  pub admittedTypes : AdmittedTypes
   -- RULES 12.18: the rate is that of the last form 18
   pub rateOfCalls : RateOfCalls
   -- RULES 8.4, 8.9: a difference of 2,000 in USD, and of just 20 times the rate in LBP, pairs, and one more does not, whatever the rate

@@ -6,8 +6,7 @@ use mathlib.Core.Path.{_≡_, refl, sym, ap, _∙_}
 use borrow.Author.Needs.{needs}
 use borrow.Author.Tests.{ne-eqb}
 use types.Run.{OneOf}
-use Rattle.plain.specs.Lists.{_is_}
-use Rattle.rulebook.specs.AccountTypes.{wrongTypes}
+use Rattle.rulebook.specs.AccountTypes.{isOutside, isPaper, wrongTypes}
 use Rattle.rulebook.specs.Refusals.{wrongPair}
 use Rattle.rulebook.specs.declared.Order.{Order}
 use Rattle.order_tests.proofs.Arms.{by-arm, not-arm}
@@ -52,13 +51,15 @@ returns-7 c = arm (c .before .before .args .order) (9 ∷ []) _ _ (c .is-block2 
 
 returns-8 : tie.Need-returns-8
 unfolding wrongTypes
-returns-8 c = arm (c .before .before .args .order) (19 ∷ []) _ _ (c .is-book-entry .ensures) (simp or-false) (c .before .match .keys8)
+returns-8 c = arm (c .before .before .args .order) (19 ∷ []) _ _ (c .has-paper .ensures) (simp or-false) (c .before .match .keys8)
 
 returns-9 : tie.Need-returns-9
 unfolding wrongTypes
 returns-9 c =
-    let order = c .before .before .args .order in
-    arm order (20 ∷ []) _ _ (ap (λ (paper : Bool). order .credited .typ is 91 || paper) (c .is-physical .ensures)) refl (c .before .match .keys9)
+    let order = c .before .before .before .args .order in
+    let credited = order .credited .typ in
+    arm order (20 ∷ []) (c .before .is-outside .result || c .is-paper .result) (isOutside credited || isPaper credited)
+    (rw (c .before .is-outside .ensures, c .is-paper .ensures)) refl (c .before .before .match .keys9)
 
 -- the others have none
 returns-10 : tie.Need-returns-10
@@ -81,5 +82,5 @@ pub wrong-pair-spec : {M : Type 1} → statement M
 wrong-pair-spec =
     tie.close
     (tie.spec (λ c κs. search needs) (λ c κs. search needs) (λ c κs. search needs) (λ c κs. search needs) (λ c κs. search needs) (λ c κs. search needs)
-    (λ c κs. search needs) (λ c κs. search needs) (λ c κs. search needs)
+    (λ c κs. search needs) (λ c κs. search needs) (λ c κs. search needs) (λ c κs. search needs)
     returns returns-2 returns-3 returns-4 returns-5 returns-6 returns-7 returns-8 returns-9 returns-10)

@@ -1,11 +1,10 @@
 -- `rematerialization::end_request` meets its contract: outside, or to a type of paper. Assumes nothing.
-use mathlib.Core.Path.{_≡_, ap, _∙_}
+use mathlib.Core.Path.{_≡_, sym, ap, _∙_}
 use mathlib.Core.Bool.{false}
 use native.Mathlib.Omega.{arith}
 use borrow.Author.Needs.{needs}
-use borrow.Author.Tests.{eq-eqb, ne-eqb}
-use Rattle.plain.specs.Lists.{_is_}
-use Rattle.rulebook.specs.AccountTypes.{requested}
+use Rattle.rulebook.specs.TypeTable.{requested}
+use Rattle.rulebook.specs.AccountTypes.{isOutside}
 use Rattle.rulebook.specs.Ledger.{Ledger, Requests, noRequest, requestAccount, putRequest}
 use Rattle.rulebook.specs.Forms.{endedRequest}
 use Rattle.rulebook.specs.declared.Order.{Order}
@@ -75,12 +74,12 @@ returns c =
     let account = account ended in
     let s = start account in
     ended-outside (book s) (order s) (ended .end-request .ensures .ledger) (account .before .request .ensures) (from-is account)
-    (eq-eqb _ 91 (left .if1 .taken)) (did .leave .ensures)
+    (sym (left .before .is-outside .ensures) ∙ left .if1 .taken) (did .leave .ensures)
 
 -- ---- to a type of paper
 
-not-outside : (c : tie.Else1) → (order (start (account (inside c))) .credited .typ is 91) ≡ false
-not-outside c = ne-eqb _ 91 (c .if1 .left)
+not-outside : (c : tie.Else1) → isOutside (order (start (account (inside c))) .credited .typ) ≡ false
+not-outside c = sym (c .before .is-outside .ensures) ∙ c .if1 .left
 
 shift-requires : tie.Need-shift-requires
 shift-requires c κs =
@@ -112,6 +111,6 @@ pub end-request-spec : {M : Type 1} → statement M
 end-request-spec =
     tie.close
     (tie.spec
-    request-requires (λ c κs. search needs) end-request-requires
+    request-requires (λ c κs. search needs) end-request-requires (λ c κs. search needs)
     leave-requires (λ c. search needs) (λ c. search needs) returns
     (λ c κs. search needs) shift-requires (λ c. search needs) (λ c. search needs) returns-2)

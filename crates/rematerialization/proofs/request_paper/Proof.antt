@@ -2,7 +2,7 @@
 use mathlib.Core.Path.{_≡_, sym, ap, subst, _∙_}
 use native.Mathlib.Omega.{arith}
 use borrow.Author.Needs.{needs}
-use Rattle.rulebook.specs.AccountTypes.{requested}
+use Rattle.rulebook.specs.TypeTable.{requested}
 use Rattle.rulebook.specs.Ledger.{Ledger, Requests, requestAccount, putRequest}
 use Rattle.rulebook.specs.Forms.{newRequest}
 use Rattle.rulebook.specs.declared.Day.{Day}

@@ -2,8 +2,7 @@
 use Prim.Native.Nat.{ℕ}
 use mathlib.Core.Path.{_≡_, sym, ap, subst, _∙_}
 use borrow.Author.Needs.{needs}
-use borrow.Author.Tests.{eq-eqb, ne-eqb}
-use Rattle.rulebook.specs.AccountTypes.{requested}
+use Rattle.rulebook.specs.TypeTable.{requested}
 use Rattle.rulebook.specs.Ledger.{Ledger, requestAccount}
 use Rattle.rulebook.specs.Forms.{endedRequest}
 use Rattle.rulebook.specs.Ranges.{AccountInRange}
@@ -26,7 +25,7 @@ abbrev order : tie.Start → Order
 order s = s .args .order
 
 abbrev asking : tie.After-request → tie.Start
-asking c = c .before .before .before
+asking c = c .before .before .before .before
 
 abbrev member : tie.After-request → ℕ
 member c = order (asking c) .debited .member
@@ -38,11 +37,11 @@ ended c = endedRequest (book (asking c)) (order (asking c))
 
 returns : tie.Need-returns
 returns c =
-    let s = c .before .before in
-    sym (leaving-space (book s) (order s) (s .pre .0 .premise .sizes) (s .pre .3) (eq-eqb _ _ (c .if1 .taken)))
+    let s = c .before .before .before in
+    sym (leaving-space (book s) (order s) (s .pre .0 .premise .sizes) (s .pre .3) (sym (c .before .is-outside .ensures) ∙ c .if1 .taken))
 
 request-requires : tie.Need-request-requires
-request-requires c κs = let s = c .before .before in (s .pre .0 .stored, reference-named _ (s .pre .1))
+request-requires c κs = let s = c .before .before .before in (s .pre .0 .stored, reference-named _ (s .pre .1))
 
 -- its account of type 50, and that of its paper
 awaiting : (c : tie.After-awaiting-account) → c .awaiting-account .result ≡ requestAccount requested (member (c .before)) (ended (c .before))
@@ -69,10 +68,11 @@ returns-2 c =
     let accounts = c .before in
     let looked = accounts .before .before in
     let s = asking looked in
+    let stays = sym (looked .before .before .is-outside .ensures) ∙ looked .before .if1 .left in
     c .no-room-between .ensures
     ∙ same-room (book s) (awaiting (accounts .before)) (paper accounts) (ap (λ (r : Request). r .quantity .0) (looked .request .ensures))
-    ∙ sym (ends-in-paper (book s) (order s) (s .pre .1) (s .pre .0 .premise) (s .pre .2) (s .pre .3) (ne-eqb _ _ (looked .before .if1 .left)))
+    ∙ sym (ends-in-paper (book s) (order s) (s .pre .1) (s .pre .0 .premise) (s .pre .2) (s .pre .3) stays)
 
 pub no-room-for-paper-spec : {M : Type 1} → statement M
 no-room-for-paper-spec =
-    tie.close (tie.spec returns request-requires (λ c κs. search needs) (λ c κs. search needs) no-room-between-requires returns-2)
+    tie.close (tie.spec (λ c κs. search needs) returns request-requires (λ c κs. search needs) (λ c κs. search needs) no-room-between-requires returns-2)

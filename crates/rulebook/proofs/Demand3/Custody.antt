@@ -1,6 +1,6 @@
 -- Held is deposits less withdrawals, those on paper among them, over any list of calls: an open request is the one that was asked for last under its
 -- member's reference. Assumes nothing.
-use mathlib.Core.Path.{_≡_, refl, sym, ap, subst, _∙_}
+use mathlib.Core.Path.{_≡_, refl, sym, subst}
 use mathlib.Core.Bool.{Bool, true, false, _&&_}
 use mathlib.Core.List.{List, [], _∷_, _++_}
 use Prim.Native.Nat.{ℕ, _+_, _≤_}
@@ -8,12 +8,12 @@ use native.Mathlib.Omega.{arith}
 use borrow.Author.Tests.{eqb-true}
 use Rattle.plain.specs.Lists.{if_then_else_, _is_, total, first}
 use Rattle.plain.proofs.Lists.{total-append}
-use Rattle.plain.proofs.Tests.{both}
 use Rattle.rulebook.specs.Record.{readOf}
 use Rattle.rulebook.specs.Ledger.{Ledger, Requests, fresh, noRequest, putDay, putRequest, held}
-use Rattle.rulebook.specs.Forms.{newRequest, endedRequest, effect}
+use Rattle.rulebook.specs.Forms.{newRequest, effect}
 use Rattle.rulebook.specs.Refusals.{refusals}
 use Rattle.rulebook.specs.Call.{Result, putMinute}
+use Rattle.rulebook.specs.AccountTypes.{isOutside}
 use Rattle.rulebook.specs.Calls.{Call, resultOf, recordIn, callsOn, bookAfter, Accepted, acceptedOf, acceptedCalls, sum, sharesOf, deposits, lastAsked, leftWith, leftOnPaper, withdrawals}
 use Rattle.rulebook.specs.Premise.{Premise}
 use Rattle.rulebook.specs.declared.Order.{Order}
@@ -23,7 +23,7 @@ use Rattle.rulebook.proofs.ByCall.{acceptedCall, by-answer}
 use Rattle.rulebook.proofs.Orders as Orders
 use Rattle.rulebook.proofs.Orders.{accepted, is-ended}
 use Rattle.rulebook.proofs.Sums.{none-held, held-exact}
-use Rattle.rulebook.proofs.Steps.OneCall.{paperAt, Step}
+use Rattle.rulebook.proofs.Steps.OneCall.{paperAt}
 use Rattle.rulebook.proofs.Steps.{order-step}
 use Rattle.rulebook.proofs.EveryCall.{fresh-premise, order-premise}
 use Rattle.rulebook.proofs.EveryCall.Requested.{requestsAfter, effect-requests}
@@ -89,11 +89,11 @@ module _ (b : Ledger) (o : Order) (c : Accepted) (own : c.order ≡ o) (earlier 
   -- what a form 20 to 91 takes out of the book is what its form 19 asked for
   left-is : (s : ℕ) → Orders.Accepted b o → leftWith s earlier c ≡ paperAt s o.form b o
   unfolding leftWith
-  left-is s a = rw own (go (o.form is 20) (o.credited.typ is 91) refl refl)
+  left-is s a = rw own (go (o.form is 20) (isOutside o.credited.typ) refl refl)
     where
       go :
-          (x y : Bool) → (o.form is 20) ≡ x → (o.credited.typ is 91) ≡ y
-          → (if o.form is 20 && o.credited.typ is 91 then lastAsked s o.debited.member o.reference earlier else 0) ≡ paperAt s o.form b o
+          (x y : Bool) → (o.form is 20) ≡ x → (isOutside o.credited.typ) ≡ y
+          → (if o.form is 20 && isOutside o.credited.typ then lastAsked s o.debited.member o.reference earlier else 0) ≡ paperAt s o.form b o
       go true true u v = simp (u, v) (t o.debited.member o.reference s (is-ended b o (eqb-true o.form 20 u) a.request .0))
       go true false u v = simp (u, v)
       go false y u v = simp u

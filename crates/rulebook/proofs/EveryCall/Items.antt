@@ -12,7 +12,7 @@ use Rattle.rulebook.specs.declared.State.the-variants.{Single, Pair, Tra
 use Rattle.plain.specs.Lists.{if_then_else_, _is_, _atMost_, keep, Each}
 use Rattle.plain.proofs.Tests.{both}
 use Rattle.plain.proofs.Lists.{each-append, each-map, each-kept}
-use Rattle.rulebook.specs.AccountTypes.{free, alike}
+use Rattle.rulebook.specs.AccountTypes.{isFree, alike}
 use Rattle.rulebook.specs.Ledger.{Holdings, admitted}
 use Rattle.rulebook.specs.Waiting.{isDeliver, isReceive, ownReference, withState, marked, marking, unmarked, sentBy}
 use Rattle.rulebook.specs.Matching.{agree, pairsWith, pairOf, arrive, sameTerms}
@@ -271,7 +271,7 @@ pub record ItemPosts (i : Item) : Type 0 where
 party-posts : (p : Party) → Named p.member p.shareholder → p.typ < 2 ^ 8 → Quiet p.typ → PartyPosts p
 party-posts p f l q = record { named = f; typ = l; quiet = q }
 
-free-posts : (p : Party) → Named p.member p.shareholder → free p.typ ≡ true → PartyPosts p
+free-posts : (p : Party) → Named p.member p.shareholder → isFree p.typ ≡ true → PartyPosts p
 free-posts p f e = party-posts p f (free-fits p.typ e) (free-quiet p.typ e)
 
 no-type-posts : (p : Party) → Named p.member p.shareholder → p.typ ≡ 0 → PartyPosts p

@@ -1,6 +1,6 @@
 -- Parts 3 to 7 of the premise, form by form. Assumes nothing.
 use mathlib.Core.Path.{_≡_, refl, subst}
-use mathlib.Core.Bool.{Bool, true, false, not, _||_, false≢true}
+use mathlib.Core.Bool.{Bool, true, false, not, false≢true}
 use mathlib.Core.List.{List, [], _∷_, _++_}
 use Prim.Native.Nat.{ℕ, _+_}
 use native.Mathlib.Omega.{arith}
@@ -12,7 +12,7 @@ use Rattle.rulebook.specs.declared.State.{State}
 use Rattle.rulebook.specs.declared.State.the-variants.{Single, Pair, Trade}
 use Rattle.plain.specs.Lists.{if_then_else_, _is_, within, keep, Each}
 use Rattle.plain.proofs.Lists.{_and_, total-append, each-so, each-both, each-append, each-kept}
-use Rattle.rulebook.specs.AccountTypes.{alike, wrongTypes}
+use Rattle.rulebook.specs.AccountTypes.{alike, isOutside, accountType, wrongTypes}
 use Rattle.rulebook.specs.Field as Field
 use Rattle.rulebook.specs.Ledger.{Ledger, Holdings, Requests, accountOf, requestAccount, admitted, putDay, putHoldings, putWaiting, putRequests, putSecurities, newSecurity, putRate}
 use Rattle.rulebook.specs.Movements.{account, type91, Movement, booked}
@@ -23,7 +23,7 @@ use Rattle.rulebook.specs.Close.{leaves}
 use Rattle.rulebook.specs.Forms.{outcome, moving, silent, openDay, admit, deposit, withdraw, transfer, payIn, payOut, instruct, trade, cancel, cycle, close, forms, rowOf, used, least, effect, setRate, endedRequest, requestPaper, endRequest}
 use Rattle.rulebook.specs.Refusals.{asksSecurity}
 use Rattle.rulebook.specs.Call.{putMinute}
-use Rattle.rulebook.specs.Premise.{SecurityFits, accountType, AccountFits, StateFits, ItemFits, RequestFits, Premise, today}
+use Rattle.rulebook.specs.Premise.{SecurityFits, AccountFits, StateFits, ItemFits, RequestFits, Premise, today}
 use Rattle.rulebook.proofs.ByCall.{Effect, AllForms, not-read, by-form}
 use Rattle.rulebook.proofs.Rounds.{settled-fits, notSettled-fits, Due, settled-due}
 use Rattle.rulebook.proofs.Types.{free-type, pledged-type, requested-type, ends-free, alike-free, deposit-free, transfer-free, pledge-types, release-types, block-types, unblock-types}
@@ -311,7 +311,7 @@ request-keeps b o e p a =
 
 end-keeps : Keeps 20 endRequest
 unfolding endRequest requestAccount
-end-keeps b o e p a = moves-with 20 refl b o _ _ e p a (place-gets (o.credited.typ is 91) refl, tt)
+end-keeps b o e p a = moves-with 20 refl b o _ _ e p a (place-gets (isOutside o.credited.typ) refl, tt)
   where
     ended : Request
     ended = endedRequest b o
@@ -320,7 +320,7 @@ end-keeps b o e p a = moves-with 20 refl b o _ _ e p a (place-gets (o.credited.t
     fits = p.requests o.debited.member o.reference (is-ended b o e a.request .0)
 
     place-gets :
-        (t : Bool) → (o.credited.typ is 91) ≡ t
+        (t : Bool) → (isOutside o.credited.typ) ≡ t
         → Gets b.holdings (if t then type91 ended.security else account (requestAccount o.credited.typ o.debited.member ended))
     place-gets true n = tt
     place-gets false n = record {

@@ -1,6 +1,6 @@
 -- What an accepted order of form 12, 13 or 14 brings in is such an item, under a reference that none waits under. Assumes nothing.
 use mathlib.Core.Path.{_≡_, refl}
-use mathlib.Core.Bool.{true, false, _&&_, _||_}
+use mathlib.Core.Bool.{true, false, _&&_}
 use mathlib.Core.List.{List, [], _∷_}
 use Prim.Native.Nat.{ℕ, _+_, _≤_}
 use native.Mathlib.Omega.{arith}
@@ -11,14 +11,15 @@ use Rattle.rulebook.specs.declared.State.the-variants.{Single, Trade}
 use Rattle.plain.specs.Lists.{if_then_else_, _is_, _oneOf_, within, Each}
 use Rattle.plain.proofs.Lists.{_and_}
 use Rattle.plain.proofs.Tests.{both}
-use Rattle.rulebook.specs.AccountTypes.{free}
+use Rattle.rulebook.specs.AccountTypes.{isFree}
 use Rattle.rulebook.specs.Field as Field
 use Rattle.rulebook.specs.Forms.{forms, rowOf, used, least}
 use Rattle.rulebook.specs.Ledger.{Ledger, admitted}
 use Rattle.rulebook.specs.Waiting.{itemOf, senderOf, sentBy, singleOf}
 use Rattle.rulebook.specs.Refusals.{asksSecurity}
 use Rattle.rulebook.specs.Premise.{ReferenceFits, StateFits, NotOverdue, ItemFits, today}
-use Rattle.rulebook.proofs.Types.{one-of, deliver-free, receive-free, trade-alike}
+use Rattle.rulebook.proofs.Types.{deliver-free, receive-free, trade-alike}
+use Rattle.rulebook.proofs.TypeTable.{one-of}
 use Rattle.rulebook.proofs.Orders.{Accepted, needs, needed, uses, is-admitted, right-types, is-open, instruct-parties, instruct-days, trade-parties, trade-days}
 
 -- the fields that all three use
@@ -95,7 +96,7 @@ record Instructs (n : ℕ) : Type 0 where
   not-2 : (n is 2) ≡ false
 
 single-item :
-    (n : ℕ) (b : Ledger) (o : Order) → o.form ≡ n → Accepted b o → Uses n → Instructs n → (if o.form is 12 then free o.debited.typ else free o.credited.typ)
+    (n : ℕ) (b : Ledger) (o : Order) → o.form ≡ n → Accepted b o → Uses n → Instructs n → (if o.form is 12 then isFree o.debited.typ else isFree o.credited.typ)
     ≡ true
     → (if o.form is 12 then o.credited.typ else o.debited.typ) ≡ 0 → ItemFits b.day.number (today b.day) b.holdings (singleOf o)
 single-item n b o e a u i own other =

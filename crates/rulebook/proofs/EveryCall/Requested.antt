@@ -1,29 +1,28 @@
 -- What each form makes of the requests: form 19 opens one, form 20 ends one, and the others keep them; so the premise of requests is kept. Assumes nothing.
-use mathlib.Core.Path.{_≡_, refl, sym, ap, subst}
+use mathlib.Core.Path.{_≡_, refl, sym, subst}
 use mathlib.Core.Bool.{Bool, true, false, _&&_}
 use Prim.Native.Nat.{ℕ, _+_, _≤_, _<_, _^_}
 use native.Mathlib.Omega.{arith}
-use borrow.Author.Tests.{eqb-true, eqb-false, eq-eqb}
+use borrow.Author.Tests.{eqb-true, eq-eqb}
 use Rattle.plain.specs.Lists.{if_then_else_, _is_}
 use Rattle.plain.proofs.Lists.{_and_}
 use Rattle.plain.proofs.Tests.{both}
 use Rattle.plain.proofs.Sums.{sum-none}
-use Rattle.rulebook.specs.AccountTypes.{requested}
+use Rattle.rulebook.specs.TypeTable.{requested}
 use Rattle.rulebook.specs.Field as Field
 use Rattle.rulebook.specs.Ledger.{Ledger, Holdings, Requests, fresh, noRequest, requestAccount, sameAccount, counted, admitted, askedOf, putDay, putHoldings, putWaiting, putRate, putRequests, putRequest}
 use Rattle.rulebook.specs.Movements.{account}
-use Rattle.rulebook.specs.Forms.{outcome, moving, silent, openDay, admit, deposit, withdraw, transfer, payIn, payOut, instruct, trade, cancel, cycle, close, setRate, newRequest, endedRequest, requestPaper, endRequest, forms, rowOf, used, least, effect}
+use Rattle.rulebook.specs.Forms.{outcome, moving, silent, openDay, admit, deposit, withdraw, transfer, payIn, payOut, instruct, trade, cancel, cycle, close, setRate, newRequest, requestPaper, endRequest, forms, rowOf, used, least, effect}
 use Rattle.rulebook.specs.Premise.{requestCount, RequestFits, Premise}
 use Rattle.rulebook.specs.declared.Account.{Account}
 use Rattle.rulebook.specs.declared.Order.{Order}
 use Rattle.rulebook.specs.declared.Request.{Request}
 use Rattle.rulebook.proofs.ByCall.{Effect, AllForms, HasForm, by-form}
 use Rattle.rulebook.proofs.Orders.{Accepted, needed, is-admitted, right-types, not-open, is-ended, fewer-open}
-use Rattle.rulebook.proofs.Places.{booked-codes}
-use Rattle.rulebook.proofs.Requests.{put-at, put-other, asked-put, number-put}
+use Rattle.rulebook.proofs.Requests.{asked-put, number-put}
 use Rattle.rulebook.proofs.Sizes.{counted-most, counted-none}
-use Rattle.rulebook.proofs.Types.{request-entry}
-use Rattle.rulebook.proofs.Steps.OneCall.{askedAt, endedAt, Step, step-still}
+use Rattle.rulebook.proofs.Types.{request-paper}
+use Rattle.rulebook.proofs.Steps.OneCall.{Step, step-still}
 use Rattle.rulebook.proofs.EveryCall.Owners.{still-admitted}
 
 -- the requests after an order of a form
@@ -170,7 +169,7 @@ order-requested b o p a t =
             shareholder-most = a.fits.debited.shareholder;
           };
           referenced = record { least = a.ranges.reference (needed 19 Field.reference o e refl); most = a.fits.reference };
-          typ = request-entry o.debited.typ o.credited.typ (right-types 19 b o e a.types);
+          typ = request-paper o.debited.typ o.credited.typ (right-types 19 b o e a.types);
           quantity = a.fits.quantity;
           day = effect-requests b o .1;
         })

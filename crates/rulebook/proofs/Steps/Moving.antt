@@ -1,6 +1,6 @@
 -- Forms 2 to 11: each makes one movement. Assumes nothing.
 use mathlib.Core.Path.{_≡_, refl, sym, ap, _∙_}
-use mathlib.Core.Bool.{Bool, true, false, _||_, false≢true}
+use mathlib.Core.Bool.{Bool, true, false, false≢true}
 use mathlib.Core.List.{List, [], _∷_, _++_}
 use Prim.Native.Nat.{ℕ, _+_, _<_, _^_}
 use native.Mathlib.Omega.{arith}
@@ -8,9 +8,10 @@ use borrow.Author.Tests.{ltb-false, eq-eqb}
 use Rattle.rulebook.specs.declared.Party.{Party}
 use Rattle.rulebook.specs.declared.Order.{Order}
 use Rattle.rulebook.specs.declared.Security.{Security}
-use Rattle.plain.specs.Lists.{if_then_else_, _is_, within, Each}
+use Rattle.plain.specs.Lists.{if_then_else_, _is_, Each}
 use Rattle.plain.proofs.Lists.{_and_, total-append}
-use Rattle.rulebook.specs.AccountTypes.{pledgedOrBlocked, requested, wrongTypes}
+use Rattle.rulebook.specs.TypeTable.{requested}
+use Rattle.rulebook.specs.AccountTypes.{pledgedOrBlocked, wrongTypes}
 use Rattle.rulebook.specs.Field as Field
 use Rattle.rulebook.specs.Ledger.{Ledger, Holdings, Requests, accountOf, sameAccount, outsideOf, putHoldings, putSecurities, putRequests, newSecurity}
 use Rattle.rulebook.specs.declared.Account.{Account}

@@ -9,7 +9,8 @@ use Rattle.rulebook.specs.declared.Order.{Order}
 use Rattle.rulebook.specs.declared.Account.{Account}
 use Rattle.rulebook.specs.declared.Security.{Security}
 use Rattle.plain.specs.Lists.{if_then_else_, _is_, _oneOf_}
-use Rattle.rulebook.specs.AccountTypes.{pledgedOrBlocked, requested}
+use Rattle.rulebook.specs.TypeTable.{requested}
+use Rattle.rulebook.specs.AccountTypes.{isOutside, pledgedOrBlocked}
 use Rattle.rulebook.specs.Ledger.{Ledger, Holdings, accountOf, requestAccount, sameAccount, issuedOf, putSecurities}
 use Rattle.rulebook.specs.Movements.{Place, account, type91, Movement, booked, bookHas}
 use Rattle.rulebook.specs.Rows.{postingRows}
@@ -38,7 +39,7 @@ releasedAt a form o = if form oneOf (7 ∷ 9 ∷ []) && sameAccount (accountOf o
 
 -- the shares of a request that leave on paper; what a new request brings into an account, and what an ended one takes out of it
 abbrev pub paperAt : (security : ℕ) → ℕ → Ledger → Order → ℕ
-paperAt s form b o = if form is 20 && o.credited.typ is 91 && endedRequest b o .security is s then endedRequest b o .quantity .0 else 0
+paperAt s form b o = if form is 20 && isOutside o.credited.typ && endedRequest b o .security is s then endedRequest b o .quantity .0 else 0
 
 abbrev pub askedAt : Account → ℕ → Ledger → Order → ℕ
 askedAt a form b o =

@@ -1,18 +1,19 @@
 -- Forms 19 and 20: a request is opened, and one is ended; each makes one movement. Assumes nothing.
 use mathlib.Core.Path.{_≡_, refl}
 use mathlib.Core.Bool.{Bool, true, false}
-use mathlib.Core.List.{List, [], _∷_}
-use Prim.Native.Nat.{ℕ, _+_}
+use mathlib.Core.List.{[], _∷_}
+use Prim.Native.Nat.{ℕ}
 use native.Mathlib.Omega.{arith}
 use Rattle.plain.specs.Lists.{if_then_else_, _is_}
-use Rattle.rulebook.specs.AccountTypes.{pledgedOrBlocked, requested}
-use Rattle.rulebook.specs.Ledger.{Ledger, noRequest, admitted, accountOf, requestAccount, putRequest}
+use Rattle.rulebook.specs.TypeTable.{requested}
+use Rattle.rulebook.specs.AccountTypes.{isOutside, pledgedOrBlocked}
+use Rattle.rulebook.specs.Ledger.{Ledger, admitted, accountOf, requestAccount}
 use Rattle.rulebook.specs.Movements.{Place, account, type91, move}
 use Rattle.rulebook.specs.Forms.{newRequest, endedRequest, requestPaper, endRequest, forms, rowOf}
 use Rattle.rulebook.specs.Premise.{RequestFits, Premise}
 use Rattle.rulebook.specs.declared.Order.{Order}
 use Rattle.rulebook.specs.declared.Request.{Request}
-use Rattle.rulebook.proofs.Types.{Quiet, free-quiet, entry-free, requested-free, ends-free, free-fits, request-entry}
+use Rattle.rulebook.proofs.Types.{Quiet, free-quiet, paper-free, requested-free, ends-free, free-fits, request-paper}
 use Rattle.rulebook.proofs.Securities.{known}
 use Rattle.rulebook.proofs.Places.{Known}
 use Rattle.rulebook.proofs.Reading.{Proper}
@@ -24,7 +25,7 @@ use Rattle.rulebook.proofs.Steps.Moving.{moves-with, account-proper, ap
 pub request-steps : Steps 19 requestPaper
 unfolding requestPaper requestAccount accountOf forms rowOf
 request-steps b o e p a =
-    let t = free-quiet o.debited.typ (entry-free o.debited.typ (request-entry o.debited.typ o.credited.typ (right-types 19 b o e a.types))) in
+    let t = free-quiet o.debited.typ (paper-free o.debited.typ (request-paper o.debited.typ o.credited.typ (right-types 19 b o e a.types))) in
     let to = requestAccount requested o.debited.member (newRequest b.day.number o) in
     let d = a.fits.debited in
     moves-with 19 b o _
@@ -61,10 +62,10 @@ module _ (b : Ledger) (o : Order) (e : o.form ≡ 20) (p : Premise b) (a : Accep
   place-known false = tt
 
   -- where the shares stay in the book the type is free
-  quiet : (o.credited.typ is 91) ≡ false → Quiet o.credited.typ
+  quiet : (isOutside o.credited.typ) ≡ false → Quiet o.credited.typ
   quiet n = free-quiet o.credited.typ (ends-free (ended .typ) o.credited.typ n (is-ended b o e a.request .1))
 
-  place-proper : (t : Bool) → (o.credited.typ is 91) ≡ t → Proper (place t)
+  place-proper : (t : Bool) → (isOutside o.credited.typ) ≡ t → Proper (place t)
   unfolding requestAccount
   place-proper true n = fits .security
   place-proper false n =
@@ -72,7 +73,7 @@ module _ (b : Ledger) (o : Order) (e : o.form ≡ 20) (p : Premise b) (a : Accep
       (fits .security, omega (arith, fits .named .member-most), f, fits .named .shareholder-most, quiet n .1)
 
   figures :
-      (t : Bool) → (o.credited.typ is 91) ≡ t
+      (t : Bool) → (isOutside o.credited.typ) ≡ t
       → Figures 20 b o (move (account (requestAccount requested member ended)) (place t) ended.quantity.0 ∷ [])
   unfolding requestAccount
   figures true n = record {
@@ -99,7 +100,7 @@ end-steps b o e p a =
     let x : Request = endedRequest b o in
     let f = fits b o e p a in
     moves-with 20 b o _
-    (account (requestAccount requested o.debited.member x)) (place b o e p a (o.credited.typ is 91)) x.quantity.0 refl p refl tt
-    (place-known b o e p a (o.credited.typ is 91)) (covered b o.debited.member o.reference p (is-ended b o e a.request .0))
+    (account (requestAccount requested o.debited.member x)) (place b o e p a (isOutside o.credited.typ)) x.quantity.0 refl p refl tt
+    (place-known b o e p a (isOutside o.credited.typ)) (covered b o.debited.member o.reference p (is-ended b o e a.request .0))
     (f .security, omega (arith, f .named .member-most), omega arith, f .named .shareholder-most, refl)
-    (place-proper b o e p a (o.credited.typ is 91) refl) (f .quantity) (figures b o e p a (o.credited.typ is 91) refl)
+    (place-proper b o e p a (isOutside o.credited.typ) refl) (f .quantity) (figures b o e p a (isOutside o.credited.typ) refl)
