@@ -1,11 +1,12 @@
 -- Laws of lists: totals, what holds of some element and of each. Assumes nothing.
-use mathlib.Core.Path.{_≡_, refl}
-use mathlib.Core.Bool.{Bool, true, false, not, _||_}
+use mathlib.Core.Path.{_≡_, refl, sym, subst}
+use mathlib.Core.Bool.{Bool, true, false, not, _||_, false≢true}
 use mathlib.Core.List.{List, [], _∷_, _++_, map}
 use Prim.Native.Nat.{ℕ, _+_, _≤_}
 use native.Mathlib.Omega.{arith}
+use borrow.Author.Tests.{eqb-true}
 use lib.ListN.{length}
-use Rattle.plain.specs.Lists.{some, keep, total, Each}
+use Rattle.plain.specs.Lists.{_is_, _oneOf_, some, keep, total, Each}
 use Rattle.plain.proofs.Tests.{neither}
 
 -- ---- totals of a figure
@@ -96,3 +97,19 @@ each-kept P Q test f (x ∷ rest) e = go (test x) refl (each-kept P Q test f res
     go : (t : Bool) → test x ≡ t → Each Q (keep test rest) → Each Q (keep test (x ∷ rest))
     go true p ih = simp p (f x p (e .0), ih)
     go false p ih = simp p ih
+
+-- ---- one of the numbers listed
+
+-- what holds of each holds of one of them
+pub one-of : (P : ℕ → Type 0) (xs : List ℕ) (n : ℕ) → Each P xs → (n oneOf xs) ≡ true → P n
+one-of P [] n a e = absurd (false≢true e)
+one-of P (x ∷ rest) n a e = go (n is x) refl (one-of P rest n (a .1))
+  where
+    go : (s : Bool) → (n is x) ≡ s → ((n oneOf rest) ≡ true → P n) → P n
+    go true p later = subst P (sym (eqb-true n x p)) (a .0)
+    go false p later = later (simp p at e)
+
+-- and a number that is none of them
+pub none-of : (xs : List ℕ) (n : ℕ) → (n oneOf xs) ≡ false → Each (λ x. (n is x) ≡ false) xs
+none-of [] n e = tt
+none-of (x ∷ rest) n e = let apart = neither (n is x) (n oneOf rest) e in (apart .0, none-of rest n (apart .1))

@@ -5,7 +5,7 @@ use mathlib.Core.Bool.{Bool, true, false, not, _&&_, _||_, Bool·beq, or-false, 
 use mathlib.Core.List.{List, [], _∷_, map}
 use Prim.Native.Nat.{ℕ}
 use Rattle.plain.specs.Lists.{if_then_else_, _is_, _oneOf_, some, Each}
-use Rattle.plain.proofs.Lists.{each-same}
+use Rattle.plain.proofs.Lists.{each-same, none-of}
 use Rattle.plain.proofs.Tests.{neither}
 use Rattle.rulebook.specs.TypeTable.{free, pledged, blocked, inTransit, outside, pledgedAs, blockedAs, onPaperAs, TypeRow, typeTable, emptyRow, typeRow}
 use Rattle.rulebook.specs.AccountTypes.{stateOf, isFree, alike, pledgedOrBlocked, isOutside, accountStates, accountType, listed, become, hasPaper, isPaper, ends, wrongTypes}
@@ -155,16 +155,11 @@ ending-pairs s t =
 
 -- ---- form by form
 
--- a number that is in no list of forms is none of them
-not-one : (n : ℕ) (forms : List ℕ) → (n oneOf forms) ≡ false → Each (λ form. (n is form) ≡ false) forms
-not-one n [] e = tt
-not-one n (form ∷ rest) e = let apart = neither (n is form) (n oneOf rest) e in (apart .0, not-one n rest (apart .1))
-
 other-forms :
     (n d c : ℕ) → (n oneOf (3 ∷ 4 ∷ 5 ∷ 6 ∷ 7 ∷ 8 ∷ 9 ∷ 12 ∷ 13 ∷ 14 ∷ 19 ∷ 20 ∷ [])) ≡ false → wrongTypes n d c ≡ false
 unfolding wrongTypes
 other-forms n d c e =
-    let no = not-one n (3 ∷ 4 ∷ 5 ∷ 6 ∷ 7 ∷ 8 ∷ 9 ∷ 12 ∷ 13 ∷ 14 ∷ 19 ∷ 20 ∷ []) e in
+    let no = none-of (3 ∷ 4 ∷ 5 ∷ 6 ∷ 7 ∷ 8 ∷ 9 ∷ 12 ∷ 13 ∷ 14 ∷ 19 ∷ 20 ∷ []) n e in
     let late = no .1 .1 .1 .1 .1 in
     simp (
       no .0,

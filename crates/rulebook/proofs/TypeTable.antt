@@ -5,31 +5,10 @@ use mathlib.Core.List.{List, [], _∷_, map}
 use Prim.Native.Nat.{ℕ}
 use borrow.Author.Tests.{eqb-true, not-false}
 use Rattle.plain.specs.Lists.{if_then_else_, _is_, _oneOf_, some, Each}
-use Rattle.plain.proofs.Lists.{each-none}
-use Rattle.plain.proofs.Tests.{both, neither}
+use Rattle.plain.proofs.Lists.{each-none, one-of}
+use Rattle.plain.proofs.Tests.{neither}
 use Rattle.rulebook.specs.TypeTable.{TypeRow, typeTable, emptyRow, rowIn, typeRow}
 use Rattle.rulebook.specs.AccountTypes.{listed, become}
-
--- ---- what holds of each of a list's entries holds of one of them
-
-pub one-of : (P : ℕ → Type 0) (xs : List ℕ) (t : ℕ) → Each P xs → (t oneOf xs) ≡ true → P t
-one-of P [] t a e = absurd (false≢true e)
-one-of P (x ∷ rest) t a e = go (t is x) refl (one-of P rest t (a .1))
-  where
-    go : (s : Bool) → (t is x) ≡ s → ((t oneOf rest) ≡ true → P t) → P t
-    go true p later = subst P (sym (eqb-true t x p)) (a .0)
-    go false p later = later (simp p at e)
-
-pub listed-of : (P : ℕ → ℕ → Type 0) (xs : List (ℕ × ℕ)) (s t : ℕ) → Each (λ x. P (x .0) (x .1)) xs → listed xs s t ≡ true → P s t
-unfolding listed
-listed-of P [] s t a e = absurd (false≢true e)
-listed-of P (x ∷ rest) s t a e = go (s is x .0 && t is x .1) refl (listed-of P rest s t (a .1))
-  where
-    go : (b : Bool) → (s is x .0 && t is x .1) ≡ b → (listed rest s t ≡ true → P s t) → P s t
-    go true p later =
-        let q = both (s is x .0) (t is x .1) p in
-        subst (λ (k : ℕ). P k t) (sym (eqb-true s (x .0) (q .0))) (subst (λ (k : ℕ). P (x .0) k) (sym (eqb-true t (x .1) (q .1))) (a .0))
-    go false p later = later (simp p at e)
 
 -- ---- rows
 

@@ -7,10 +7,10 @@ use native.Mathlib.Omega.{arith}
 use borrow.Author.Tests.{eqb-true, ltb-false, not-false}
 use Rattle.plain.specs.Lists.{_is_, _oneOf_, _below_, some}
 use Rattle.plain.proofs.Tests.{both, neither, not-second}
-use Rattle.plain.proofs.Lists.{_and_}
+use Rattle.plain.proofs.Lists.{_and_, one-of}
 use Rattle.rulebook.specs.TypeTable.{free, pledged, blocked, pledgedAs, blockedAs, onPaperAs, requested, typeTable, typeRow}
 use Rattle.rulebook.specs.AccountTypes.{stateOf, isFree, alike, pledgedOrBlocked, isOutside, accountStates, accountType, become, hasPaper, ends, wrongTypes}
-use Rattle.rulebook.proofs.TypeTable.{one-of, no-row, pair-of}
+use Rattle.rulebook.proofs.TypeTable.{no-row, pair-of}
 
 -- no type of 90 or 91, which rows use for counts
 abbrev pub Account·type : ℕ → Type 0

@@ -9,7 +9,7 @@ use Rattle.rulebook.specs.declared.Order.{Order}
 use Rattle.rulebook.specs.declared.State.{State}
 use Rattle.rulebook.specs.declared.State.the-variants.{Single, Trade}
 use Rattle.plain.specs.Lists.{if_then_else_, _is_, _oneOf_, within, Each}
-use Rattle.plain.proofs.Lists.{_and_}
+use Rattle.plain.proofs.Lists.{_and_, one-of}
 use Rattle.plain.proofs.Tests.{both}
 use Rattle.rulebook.specs.AccountTypes.{isFree}
 use Rattle.rulebook.specs.Field as Field
@@ -19,7 +19,6 @@ use Rattle.rulebook.specs.Waiting.{itemOf, senderOf, sentBy, singleOf}
 use Rattle.rulebook.specs.Refusals.{asksSecurity}
 use Rattle.rulebook.specs.Premise.{ReferenceFits, StateFits, NotOverdue, ItemFits, today}
 use Rattle.rulebook.proofs.Types.{deliver-free, receive-free, trade-alike}
-use Rattle.rulebook.proofs.TypeTable.{one-of}
 use Rattle.rulebook.proofs.Orders.{Accepted, needs, needed, uses, is-admitted, right-types, is-open, instruct-parties, instruct-days, trade-parties, trade-days}
 
 -- the fields that all three use
