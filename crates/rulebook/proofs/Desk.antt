@@ -11,7 +11,7 @@ use Rattle.rulebook.specs.Movements.{credit, debit, credits, debits, boo
 use Rattle.rulebook.specs.Windows.{byKind, cycleMinutes, officeEnd}
 use Rattle.rulebook.specs.Rows.{postingWidths, noticeWidths, postingBytes, postingIn, postingOf, noticeBytes, deliverReference, receiveReference, noticeOf, postingRows, rowBytes, rowsBytes}
 use Rattle.rulebook.specs.Waiting.{itemOf, isDeliver, isReceive, isTrade, ownReference, sidesOf, sides, senderOf, sentBy, notCancellable, withState, marked, bothMarked, marking, cancelled, staying, unmarked}
-use Rattle.rulebook.specs.Matching.{tolerance, agree, pairsWith, pairOf, arrive, sameTerms}
+use Rattle.rulebook.specs.Matching.{tolerance, agree, pairsWith, pairOf, arrive, sharedTerms, sameTerms}
 use Rattle.rulebook.specs.Cycle.{seller, buyer, taken, due, settlingOf, over, sharesBrought, sharesTaken, cashBrought, cashTaken, bringsShares, takesShares, bringsCash, takesCash, sharesMissing, cashMissing, debitsShort, anyShort, dropLast, rounds, settling, withMark, withoutMark, legs, settled, notSettled, dropped}
 use Rattle.rulebook.specs.Close.{closeKind, leaves, deletedAtClose, suspendedAtClose, closeNotice}
 use Rattle.rulebook.specs.Forms.{counts, outcome, moving, silent, openDay, admit, deposit, withdraw, transfer, payIn, payOut, instruct, trade, cancel, cycle, close, forms, rowOf, used, least, most, windowOf, effect, setRate, requestPaper, endRequest}
@@ -29,7 +29,7 @@ unfolding
     putRate putRequests putRequest requestAccount accountOf sameAccount counted putBalance putCash putSecurities putOutside admitted issuedOf
     outsideOf sumBelow cashTotal credit debit credits debits booked byKind cycleMinutes officeEnd postingWidths noticeWidths postingBytes
     postingIn postingOf noticeBytes deliverReference receiveReference noticeOf postingRows rowBytes rowsBytes itemOf isDeliver isReceive isTrade
-    ownReference sidesOf sides senderOf sentBy notCancellable withState marked bothMarked marking cancelled staying unmarked tolerance sameTerms
+    ownReference sidesOf sides senderOf sentBy notCancellable withState marked bothMarked marking cancelled staying unmarked tolerance sharedTerms sameTerms
     agree pairsWith pairOf arrive seller buyer taken over sharesBrought sharesTaken cashBrought cashTaken bringsShares takesShares bringsCash
     takesCash sharesMissing cashMissing due settlingOf debitsShort anyShort dropLast rounds settling withMark withoutMark legs settled notSettled
     dropped closeKind leaves deletedAtClose suspendedAtClose closeNotice counts outcome moving silent openDay admit deposit withdraw transfer

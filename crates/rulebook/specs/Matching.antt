@@ -12,9 +12,9 @@ use Rattle.rulebook.specs.Waiting.{isDeliver, isReceive, ownReference}
 unfoldable pub tolerance : (rate currency : ℕ) → ℕ
 tolerance rate currency = if currency is 1 then 2_000 else 20 * rate
 
--- RULES 8.3: what a deliver and a receive must have in common
-unfoldable pub sameTerms : Item → Item → Bool
-sameTerms deliver receive =
+-- RULES 8.3: what a deliver and a receive must have in common, but for their types
+unfoldable pub sharedTerms : Item → Item → Bool
+sharedTerms deliver receive =
     deliver.security is receive.security
     && deliver.debited.shareholder is receive.credited.shareholder
     && deliver.«trade_day» is receive.«trade_day»
@@ -23,7 +23,10 @@ sameTerms deliver receive =
     && deliver.currency is receive.currency
     && deliver.debited.member is receive.debited.member
     && deliver.credited.member is receive.credited.member
-    && alike deliver.debited.typ receive.credited.typ
+
+-- RULES 8.3: and with their types
+unfoldable pub sameTerms : Item → Item → Bool
+sameTerms deliver receive = sharedTerms deliver receive && alike deliver.debited.typ receive.credited.typ
 
 -- RULES 8.3, 8.4: and how far their amounts may differ
 unfoldable pub agree : ℕ → Item → Item → Bool

@@ -9,7 +9,7 @@ use lib.ListN.{getD, drop}
 use lib.Seq.{getD-take, getD-drop}
 use Rattle.plain.specs.Lists.{if_then_else_, _is_}
 use Rattle.rulebook.specs.Waiting.{isDeliver, isReceive, sentBy}
-use Rattle.rulebook.specs.Matching.{sameTerms, agree, pairsWith}
+use Rattle.rulebook.specs.Matching.{sharedTerms, sameTerms, agree, pairsWith}
 use Rattle.rulebook.specs.declared.Item.{Item}
 use Rattle.rulebook.specs.declared.State.{State}
 use Rattle.rulebook.specs.declared.State.the-variants.{Single, Pair, Trade}
@@ -58,7 +58,7 @@ module _ (sender reference : ℕ) (r : List ℕ) (one : (reference is getD r 13 
 -- singles of other quantities do not pair
 pub quantities-differ :
     (limit : ℕ) (a w : Item) → (w .quantity .0 is a .quantity .0) ≡ false → (a .quantity .0 is w .quantity .0) ≡ false → pairsWith limit a w ≡ false
-unfolding pairsWith agree sameTerms
+unfolding pairsWith agree sameTerms sharedTerms
 quantities-differ limit a w e f = simp (e, f, and-false)
 
 -- what is no single does not

@@ -6,9 +6,8 @@ use borrow.Author.Needs.{needs}
 use borrow.Author.Tests.{not-true, not-false}
 use Rattle.plain.specs.Lists.{_atMost_}
 use Rattle.rulebook.specs.AccountTypes.{alike}
-use Rattle.rulebook.specs.Matching.{sameTerms, agree}
+use Rattle.rulebook.specs.Matching.{sharedTerms, sameTerms, agree}
 use Rattle.rulebook.specs.declared.Item.{Item}
-use Rattle.matching.specs.Terms.{sharedTerms}
 use Rattle.matching.proofs.do_agree.Statement.{statement}
 use Rattle.matching.proofs.do_agree.Tie as tie
 
@@ -17,7 +16,7 @@ in-order :
     (limit : ℕ) (d r : Item)
     → agree limit d r
     ≡ (sharedTerms d r && (alike d.debited.typ r.credited.typ && (d.amount.0 atMost r.amount.0 && r.amount.0 - d.amount.0 atMost limit)))
-unfolding agree sameTerms sharedTerms
+unfolding agree sameTerms
 in-order limit d r =
     go (sharedTerms d r) (alike d.debited.typ r.credited.typ) (d.amount.0 atMost r.amount.0) (r.amount.0 - d.amount.0 atMost limit)
   where

@@ -1,6 +1,6 @@
 -- `matching::share_terms` meets its contract. Assumes nothing.
 use borrow.Author.Needs.{needs}
-use Rattle.matching.specs.Terms.{sharedTerms}
+use Rattle.rulebook.specs.Matching.{sharedTerms}
 use Rattle.matching.proofs.share_terms.Statement.{statement}
 use Rattle.matching.proofs.share_terms.Tie as tie
 

@@ -15,7 +15,7 @@ use Rattle.plain.proofs.Lists.{each-append, each-map, each-kept}
 use Rattle.rulebook.specs.AccountTypes.{isFree, alike}
 use Rattle.rulebook.specs.Ledger.{Holdings, admitted}
 use Rattle.rulebook.specs.Waiting.{isDeliver, isReceive, ownReference, withState, marked, marking, unmarked, sentBy}
-use Rattle.rulebook.specs.Matching.{agree, pairsWith, pairOf, arrive, sameTerms}
+use Rattle.rulebook.specs.Matching.{agree, pairsWith, pairOf, arrive, sharedTerms, sameTerms}
 use Rattle.rulebook.specs.Close.{closeKind, leaves}
 use Rattle.rulebook.specs.Premise.{SingleFits, StateFits, ItemFits, Named, NotOverdue}
 use Rattle.rulebook.proofs.Types.{Quiet, zero-quiet, free-quiet, free-fits, alike-free}
@@ -31,7 +31,7 @@ pub record Agreed (d r : Item) : Type 0 where
   pub types : alike d.debited.typ r.credited.typ ≡ true
 
 agreed : (limit : ℕ) (d r : Item) → isDeliver d.state ≡ true → isReceive r.state ≡ true → agree limit d r ≡ true → Agreed d r
-unfolding agree sameTerms
+unfolding agree sameTerms sharedTerms
 agreed limit d r x y e =
     let h₁ = both _ (r.amount.0 - d.amount.0 atMost limit) e in
     let h₂ = both _ (d.amount.0 atMost r.amount.0) (h₁ .0) in
