@@ -9,7 +9,7 @@ use borrow.Author.Tests.{eqb-true, eq-eqb}
 use Rattle.rulebook.specs.declared.Security.{Security}
 use Rattle.plain.specs.Lists.{if_then_else_, _is_, some, total, sumBelow, Each}
 use Rattle.plain.proofs.Lists.{each-so, each-both}
-use Rattle.rulebook.specs.Ledger.{Holdings, Ledger, issuedOf, outsideOf, cashTotal, held}
+use Rattle.rulebook.specs.Ledger.{Holdings, Ledger, issuedOf, outsideOf, heldOf, cashTotal, held}
 use Rattle.rulebook.specs.declared.Account.{Account}
 use Rattle.rulebook.specs.Premise.{withCode, SecurityFits, CashFits, Premise}
 use Rattle.rulebook.proofs.Securities.{outs}
@@ -130,6 +130,13 @@ module _ (b : Ledger) (p : Premise b) where
   pub held-fits : (security : ℕ) → held security b.holdings < 2 ^ 40
   held-fits s = omega (arith, issued-fits s, p.issue s)
 
+  -- no two securities have one code, so the count of a code is that of its one security
+  pub each-held : Each (λ s. s.held.0 ≡ held s.code b.holdings) b.holdings.securities
+  unfolding heldOf
+  each-held =
+      each-so (λ s. total (λ y. if y.code is s.code then y.held.0 else 0) b.holdings.securities ≡ s.held.0) (λ s. s.held.0 ≡ held s.code b.holdings)
+      (λ s e. omega (arith, e, p.custody s.code)) b.holdings.securities (only (λ s. s.held.0) b.holdings.securities p.codes)
+
   pub no-cash : (m c : ℕ) → (CashFits m c → ⊥) → b.holdings.cash m c ≡ 0
   no-cash m c n = go (b.holdings.cash m c) refl
     where
@@ -137,16 +144,24 @@ module _ (b : Ledger) (p : Premise b) where
       go zero e = e
       go (suc k) e = absurd (n (p.cash m c (omega (arith, e))))
 
-  -- every balance, and every member's cash
-  pub balance-fits : (a : Account) → b.holdings.balance a < 2 ^ 40
-  balance-fits a = go (b.holdings.balance a) refl
+  -- every balance, also against the held count that is kept, and every member's cash
+  balance-most : (a : Account) → b.holdings.balance a ≤ held a.security b.holdings
+  balance-most a = go (b.holdings.balance a) refl
     where
-      go : (k : ℕ) → b.holdings.balance a ≡ k → b.holdings.balance a < 2 ^ 40
+      go : (k : ℕ) → b.holdings.balance a ≡ k → b.holdings.balance a ≤ held a.security b.holdings
       go zero e = omega (arith, e)
       go (suc k) e =
-          let l : 1 ≤ b.holdings.balance a = omega (arith, e) in
-          let f = p.accounts a l in
-          omega (arith, balance-held b.holdings a (omega (arith, f.named.member-most)) (type-fits a.typ f.typ) f.named.shareholder-most, held-fits a.security)
+          let f = p.accounts a (omega (arith, e)) in
+          balance-held b.holdings a (omega (arith, f.named.member-most)) (type-fits a.typ f.typ) f.named.shareholder-most
+
+  pub balance-fits : (a : Account) → b.holdings.balance a < 2 ^ 40
+  balance-fits a = omega (arith, balance-most a, held-fits a.security)
+
+  pub balance-counted : (a : Account) → b.holdings.balance a ≤ heldOf a.security b.holdings
+  balance-counted a = omega (arith, balance-most a, p.custody a.security)
+
+  pub count-fits : (security : ℕ) → heldOf security b.holdings < 2 ^ 40
+  count-fits s = omega (arith, held-fits s, p.custody s)
 
   pub cash-fits : (m c : ℕ) → b.holdings.cash m c ≤ 1_000_000_000_000_000
   unfolding cashTotal

@@ -6,8 +6,8 @@ use Rattle.rulebook.specs.AccountTypes.{isFree, alike, pledgedOrBlocked,
 use Rattle.rulebook.specs.Field.{widths, places, ceiling}
 use Rattle.rulebook.specs.Record.{fieldsOf, orderOf, noForm, unusedNotZero, usedOutOfRange, fieldsIn, readRefusal, readOf, recordOf, writeRefusal, writtenOf, areaWritten}
 use Rattle.plain.specs.Lists.{sumBelow}
-use Rattle.rulebook.specs.Ledger.{fresh, putDay, putHoldings, putWaiting, accountOf, sameAccount, counted, putBalance, putCash, putSecurities, putOutside, admitted, issuedOf, outsideOf, cashTotal, putRate, putRequests, putRequest, requestAccount}
-use Rattle.rulebook.specs.Movements.{credit, debit, credits, debits, booked}
+use Rattle.rulebook.specs.Ledger.{fresh, putDay, putHoldings, putWaiting, accountOf, sameAccount, counted, putBalance, putCash, putSecurities, putOutside, putHeld, admitted, issuedOf, heldOf, outsideOf, cashTotal, putRate, putRequests, putRequest, requestAccount}
+use Rattle.rulebook.specs.Movements.{credit, debit, credits, debits, recounted, booked}
 use Rattle.rulebook.specs.Windows.{byKind, cycleMinutes, officeEnd}
 use Rattle.rulebook.specs.Rows.{postingWidths, noticeWidths, postingBytes, postingIn, postingOf, noticeBytes, deliverReference, receiveReference, noticeOf, postingRows, rowBytes, rowsBytes}
 use Rattle.rulebook.specs.Waiting.{itemOf, isDeliver, isReceive, isTrade, ownReference, sidesOf, sides, senderOf, sentBy, notCancellable, withState, marked, bothMarked, marking, cancelled, staying, unmarked}
@@ -18,25 +18,26 @@ use Rattle.rulebook.specs.Forms.{counts, outcome, moving, silent, openDa
 use Rattle.rulebook.specs.Refusals.{wrongDay, wrongCycle, goesBack, outsideWindow, wrongSecurity, wrongPair, wrongParties, wrongDays, wrongReference, wrongCancel, wrongRequest, endsTooSoon, tooManyRequests, tooLittle, overCeiling, noSpace, dayTests, orderTests, itemTests, requestTests, roomTests, refusals}
 use Rattle.rulebook.specs.Call.{answerNumber, refused, putMinute, accepted, orderCall, readCall, callOf}
 use Rattle.rulebook.specs.Calls.{resultOf, recordIn, callsOn, bookAfter, acceptedOf, acceptedCalls, sum, sharesOf, lastAsked, leftWith, leftOnPaper, withdrawals}
-use Rattle.rulebook.specs.Desk.{Desk, party, nobody, order, opens, admits, deposits, pledges, paysIn, delivers, receives, deliversPounds, receivesPounds, setsRate, runs, sells, manyDelivers, closes, asksPaper, endsPaper, send, calls, result, started, full, asked, nextDay, waits, cycled}
+use Rattle.rulebook.specs.Desk.{Desk, party, nobody, order, opens, admits, deposits, withdraws, pledges, paysIn, delivers, receives, deliversPounds, receivesPounds, setsRate, runs, sells, manyDelivers, closes, asksPaper, endsPaper, send, calls, result, started, full, asked, nextDay, inCustody, withdrawn, dayAfter, custody, waits, cycled}
 
 pub desk : Desk
 unfolding
-    party nobody order opens admits deposits pledges paysIn delivers receives deliversPounds receivesPounds setsRate runs sells manyDelivers
-    closes asksPaper endsPaper send calls result started full asked nextDay waits cycled number bytes leading field typeTable typeRow isFree alike
-    pledgedOrBlocked isOutside listed become hasPaper isPaper ends wrongTypes widths places fieldsOf orderOf ceiling used least most noForm
-    unusedNotZero usedOutOfRange fieldsIn readRefusal readOf recordOf writeRefusal writtenOf areaWritten fresh putDay putHoldings putWaiting
-    putRate putRequests putRequest requestAccount accountOf sameAccount counted putBalance putCash putSecurities putOutside admitted issuedOf
-    outsideOf sumBelow cashTotal credit debit credits debits booked byKind cycleMinutes officeEnd postingWidths noticeWidths postingBytes
-    postingIn postingOf noticeBytes deliverReference receiveReference noticeOf postingRows rowBytes rowsBytes itemOf isDeliver isReceive isTrade
-    ownReference sidesOf sides senderOf sentBy notCancellable withState marked bothMarked marking cancelled staying unmarked tolerance sharedTerms sameTerms
-    agree pairsWith pairOf arrive seller buyer taken over sharesBrought sharesTaken cashBrought cashTaken bringsShares takesShares bringsCash
-    takesCash sharesMissing cashMissing due settlingOf debitsShort anyShort dropLast rounds settling withMark withoutMark legs settled notSettled
-    dropped closeKind leaves deletedAtClose suspendedAtClose closeNotice counts outcome moving silent openDay admit deposit withdraw transfer
-    payIn payOut instruct trade cancel cycle close setRate requestPaper endRequest forms rowOf windowOf effect wrongDay wrongCycle goesBack
-    outsideWindow wrongSecurity wrongPair wrongParties wrongDays wrongReference wrongCancel wrongRequest endsTooSoon tooManyRequests tooLittle
-    overCeiling noSpace dayTests orderTests itemTests requestTests roomTests refusals answerNumber refused putMinute accepted orderCall readCall
-    callOf resultOf recordIn callsOn bookAfter acceptedOf acceptedCalls sum sharesOf lastAsked leftWith leftOnPaper withdrawals
+    party nobody order opens admits deposits withdraws pledges paysIn delivers receives deliversPounds receivesPounds setsRate runs sells manyDelivers
+    closes asksPaper endsPaper send calls result started full asked nextDay inCustody withdrawn dayAfter custody waits cycled number bytes leading
+    field typeTable typeRow isFree alike pledgedOrBlocked isOutside listed become hasPaper isPaper ends wrongTypes widths places fieldsOf orderOf
+    ceiling used least most noForm unusedNotZero usedOutOfRange fieldsIn readRefusal readOf recordOf writeRefusal writtenOf areaWritten fresh putDay
+    putHoldings putWaiting putRate putRequests putRequest requestAccount accountOf sameAccount counted putBalance putCash putSecurities putOutside
+    putHeld admitted issuedOf heldOf outsideOf sumBelow cashTotal credit debit credits debits recounted booked byKind cycleMinutes officeEnd
+    postingWidths noticeWidths postingBytes postingIn postingOf noticeBytes deliverReference receiveReference noticeOf postingRows rowBytes rowsBytes
+    itemOf isDeliver isReceive isTrade ownReference sidesOf sides senderOf sentBy notCancellable withState marked bothMarked marking cancelled staying
+    unmarked tolerance sharedTerms sameTerms agree pairsWith pairOf arrive seller buyer taken over sharesBrought sharesTaken cashBrought cashTaken
+    bringsShares takesShares bringsCash takesCash sharesMissing cashMissing due settlingOf debitsShort anyShort dropLast rounds settling withMark
+    withoutMark legs settled notSettled dropped closeKind leaves deletedAtClose suspendedAtClose closeNotice counts outcome moving silent openDay
+    admit deposit withdraw transfer payIn payOut instruct trade cancel cycle close setRate requestPaper endRequest forms rowOf windowOf effect
+    wrongDay wrongCycle goesBack outsideWindow wrongSecurity wrongPair wrongParties wrongDays wrongReference wrongCancel wrongRequest endsTooSoon
+    tooManyRequests tooLittle overCeiling noSpace dayTests orderTests itemTests requestTests roomTests refusals answerNumber refused putMinute
+    accepted orderCall readCall callOf resultOf recordIn callsOn bookAfter acceptedOf acceptedCalls sum sharesOf lastAsked leftWith leftOnPaper
+    withdrawals
 desk = record {
   p1 = refl;
   p2 = refl;
@@ -57,4 +58,6 @@ desk = record {
   p17 = (refl, refl);
   p18 = refl;
   p19 = refl;
+  p20 = (refl, refl, refl);
+  p21 = refl;
 }

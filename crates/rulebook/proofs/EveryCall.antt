@@ -20,7 +20,7 @@ use Rattle.rulebook.specs.declared.Order.{Order}
 use Rattle.rulebook.specs.declared.Read.{Read}
 use Rattle.plain.specs.Lists.{_is_, first}
 use Rattle.rulebook.specs.Record.{readOf}
-use Rattle.rulebook.specs.Ledger.{Ledger, fresh, putDay, cashTotal, issuedOf, outsideOf, held}
+use Rattle.rulebook.specs.Ledger.{Ledger, fresh, putDay, cashTotal, issuedOf, outsideOf, heldOf, held}
 use Rattle.rulebook.specs.Movements.{type91}
 use Rattle.rulebook.specs.Forms.{effect}
 use Rattle.rulebook.specs.Refusals.{overCeiling, refusals}
@@ -48,6 +48,7 @@ fresh-premise = record {
   codes = λ c. omega arith;
   securities = tt;
   issue = λ s. unfold outsideOf issuedOf in omega (arith, none-held s);
+  custody = λ s. unfold heldOf in omega (arith, none-held s);
   accounts = fresh-owned .accounts;
   ceiling = λ c. omega (arith, none-paid c);
   cash = fresh-owned .cash;
@@ -74,6 +75,18 @@ step-issue b o t s e =
       t .changes (type91 s),
       t .figures .outside s,
       step-issued o.form b o (effect b o) t s,
+    )
+
+-- the held count that is kept is what is held
+step-custody :
+    (b : Ledger) (o : Order) → Step o.form b o (effect b o) → (s : ℕ) → heldOf s b.holdings ≡ held s b.holdings
+    → heldOf s (effect b o .after .holdings) ≡ held s (effect b o .after .holdings)
+step-custody b o t s e =
+    omega (
+      arith,
+      held-exact s (t .moves) b.holdings (effect b o .after .holdings) (t .proper) (t .changes),
+      t .figures .held s,
+      t .recounts s,
     )
 
 -- a pay-in that would pass the ceiling is refused, and nothing else raises a currency's total
@@ -121,6 +134,7 @@ order-premise b o bytes p e z =
       codes = step-codes o.form b o (effect b o) t;
       securities = k.owned.securities;
       issue = λ s. step-issue b o t s (p.issue s);
+      custody = λ s. step-custody b o t s (p.custody s);
       accounts = k.owned.accounts;
       ceiling = λ c. step-ceiling b o t a.ceiling c (p.ceiling c);
       cash = k.owned.cash;

@@ -16,12 +16,14 @@ pub mod AdmittedTypes
 pub mod Rates
 -- requests for paper: their shares are there, they stay until they are ended, and can be ended on every later day
 pub mod Rematerialization
+-- held counts: what each form does to them, and that they are what the accounts hold, over every list of calls
+pub mod Custody
 -- the premise: the fresh book meets it (`fresh-premise`) and every call keeps it (`call-premise`), so the number of accounts that a book carries is
 -- the number of those with a balance (`accounts-counted`)
 pub mod EveryCall
 -- WHAT THE CODE'S PROOFS CITE
 
--- movements: what they do to each place (`booked-exact`), and what each credit and each debit keeps (`booked-any`)
+-- movements: what they do to each place (`booked-exact`), and what each change that they make keeps (`booked-puts`)
 pub mod Places
 pub mod Booking
 -- the cycle: nothing is short once its rounds end (`settling-done`), so no debit of a settlement is cut off at 0 (`Steps.Settling.cycle-exact`)
@@ -50,6 +52,8 @@ pub mod Held
 pub mod Securities
 -- one request that is opened or ended, and that its shares are there
 pub mod Requests
+-- what movements do to held counts
+pub mod Recounting
 pub mod Reading
 pub mod Sums
 -- checking orders: the test of a number (`none-applies`), one order behind another (`first-append`)

@@ -1,19 +1,19 @@
 -- What movements do to each place that a book keeps: they add what they bring, then take what they take. Assumes nothing.
 use mathlib.Core.Path.{_≡_, refl, sym, ap, subst, _∙_}
 use mathlib.Core.Bool.{Bool, true, false, _&&_, false≢true}
-use mathlib.Core.List.{List, [], _∷_, map}
+use mathlib.Core.List.{List, [], _∷_}
 use Prim.Native.Nat.{ℕ, _+_, _-_, _≤_}
 use native.Mathlib.Omega.{arith}
 use borrow.Author.Tests.{eqb-true, eqb-false, ne-eqb}
-use Rattle.rulebook.specs.declared.Security.{Security}
 use Rattle.plain.specs.Lists.{if_then_else_, _is_, total}
 use Rattle.plain.proofs.Tests.{both}
-use Rattle.rulebook.specs.Ledger.{Holdings, sameAccount, outsideOf, putBalance, putCash, putSecurities, putOutside}
+use Rattle.rulebook.specs.Ledger.{Holdings, sameAccount, outsideOf, putBalance, putCash, putSecurities, putOutside, putHeld, withOutside, withHeld}
 use Rattle.rulebook.specs.declared.Account.{Account}
-use Rattle.rulebook.specs.Movements.{Place, account, type91, type90, cashOf, member0, Movement, move, credit, debit, credits, debits, booked, bookHas, putAt}
+use Rattle.rulebook.specs.Movements.{Place, account, type91, type90, cashOf, member0, Movement, move, credit, debit, credits, debits, recounted, booked, bookHas, putAt}
 use Rattle.rulebook.specs.Premise.{withCode}
 use Rattle.rulebook.proofs.Rounds.{same-eq}
-use Rattle.rulebook.proofs.Securities.{outs, changed, count-same, outs-one, outs-other}
+use Rattle.rulebook.proofs.Booking.{recounted-keeps, recounted-beside}
+use Rattle.rulebook.proofs.Securities.{count-same, counts-kept, counts-put}
 
 -- the place is an account, the outside count of a security, or a member's cash
 
@@ -83,7 +83,7 @@ all-known-same h k e (m ∷ rest) n = (known-same h k e m.from (n .0), known-sam
 put-codes : (q : Place) (v : ℕ) (h : Holdings) → SameCodes h (putAt q v h)
 unfolding putBalance putCash putSecurities putOutside
 put-codes (account b) v h c = refl
-put-codes (type91 security) v h c = count-same c security v h.securities
+put-codes (type91 security) v h c = count-same (withOutside v) (λ x. refl) security c h.securities
 put-codes (type90 security) v h c = refl
 put-codes (cashOf member currency) v h c = refl
 put-codes (member0 currency) v h c = refl
@@ -106,19 +106,20 @@ unfolding debits
 debits-codes [] h c = refl
 debits-codes (m ∷ rest) h c = debits-codes rest (debit m.from m.number h) c ∙ debit-codes m.from m.number h c
 
+recounted-codes : (ms : List Movement) (h : Holdings) → SameCodes h (recounted ms h)
+unfolding putHeld putSecurities
+recounted-codes ms h c =
+    recounted-keeps (λ k. withCode c k.securities ≡ withCode c h.securities) (λ s v k e. count-same (withHeld v) (λ x. refl) s c k.securities ∙ e) ms h refl
+
 -- movements change no code
+pub posted-codes : (ms : List Movement) (h : Holdings) → SameCodes h (debits ms (credits ms h))
+posted-codes ms h c = debits-codes ms (credits ms h) c ∙ credits-codes ms h c
+
 pub booked-codes : (ms : List Movement) (h : Holdings) (c : ℕ) → withCode c (booked ms h .securities) ≡ withCode c h.securities
 unfolding booked
-booked-codes ms h c = debits-codes ms (credits ms h) c ∙ credits-codes ms h c
+booked-codes ms h c = recounted-codes ms (debits ms (credits ms h)) c ∙ posted-codes ms h c
 
 -- what is put at one place
-
-put-outs : (s c v : ℕ) (xs : List Security) → withCode c xs ≡ 1 → outs s (map (changed c v) xs) ≡ (if c is s then v else outs s xs)
-put-outs s c v xs k = go (c is s) refl
-  where
-    go : (t : Bool) → (c is s) ≡ t → outs s (map (changed c v) xs) ≡ (if c is s then v else outs s xs)
-    go true p = simp p (subst (λ (x : ℕ). outs x (map (changed c v) xs) ≡ v) (eqb-true c s p) (outs-one c v xs k))
-    go false p = simp p (outs-other s c v p xs)
 
 pub is-sym : (m n : ℕ) → (m is n) ≡ (n is m)
 is-sym m n = go (n is m) refl
@@ -173,7 +174,7 @@ put-has (account a) (type90 s) v h k = refl
 put-has (account a) (cashOf m c) v h k = refl
 put-has (account a) (member0 c) v h k = refl
 put-has (type91 s) (account b) v h k = refl
-put-has (type91 s) (type91 c) v h k = put-outs s c v h.securities k
+put-has (type91 s) (type91 c) v h k = counts-put (withOutside v) (λ x. refl) c (λ x. x.outside) v (λ x. refl) s h.securities k
 put-has (type91 s) (type90 c) v h k = refl
 put-has (type91 s) (cashOf m c) v h k = refl
 put-has (type91 s) (member0 c) v h k = refl
@@ -184,6 +185,17 @@ put-has (cashOf m c) (type90 s) v h k = refl
 put-has (cashOf m c) (cashOf m′ c′) v h k = refl
 put-has (cashOf m c) (member0 s) v h k = refl
 put-has (member0 c) q v h k = refl
+
+-- a held count is at no place
+recounted-has : (p : Place) (ms : List Movement) (h : Holdings) → bookHas p (recounted ms h) ≡ bookHas p h
+unfolding putHeld putSecurities outsideOf
+recounted-has (account a) ms h = ap (λ (f : Account → ℕ). f a) (recounted-beside ms h .balance)
+recounted-has (type91 s) ms h =
+    recounted-keeps (λ k. outsideOf s k ≡ outsideOf s h)
+    (λ c v k e. counts-kept (withHeld v) (λ x. refl) c (λ x. x.outside) (λ x. refl) s k.securities ∙ e) ms h refl
+recounted-has (type90 s) ms h = refl
+recounted-has (cashOf m c) ms h = ap (λ (f : ℕ → ℕ → ℕ). f m c) (recounted-beside ms h .cash)
+recounted-has (member0 c) ms h = refl
 
 -- one credit, one debit
 
@@ -249,7 +261,12 @@ module _ (p : Place) where
   booked-kept : (ms : List Movement) (h : Holdings) → AllKnown h ms → bookHas p (booked ms h) ≡ bookHas p h + brought p ms - taken p ms
   unfolding booked
   booked-kept ms h k =
-      omega (arith, debits-kept ms (credits ms h) (all-known-same h (credits ms h) (credits-codes ms h) ms k), credits-kept ms h k)
+      omega (
+        arith,
+        recounted-has p ms (debits ms (credits ms h)),
+        debits-kept ms (credits ms h) (all-known-same h (credits ms h) (credits-codes ms h) ms k),
+        credits-kept ms h k,
+      )
 
 -- no place is asked for more than it has and is brought
 abbrev pub Enough : Holdings → List Movement → Type 0

@@ -11,7 +11,7 @@ use Rattle.rulebook.specs.declared.Item.{Item}
 use Rattle.rulebook.specs.declared.Order.{Order}
 use Rattle.plain.specs.Lists.{if_then_else_, _is_, _below_, _oneOf_, total, keep}
 use Rattle.plain.proofs.Lists.{_and_, keep-length}
-use Rattle.rulebook.specs.Ledger.{Ledger, Holdings, fresh, counted, putBalance, putCash, putSecurities, putOutside, putDay, putHoldings, putWaiting, putRate}
+use Rattle.rulebook.specs.Ledger.{Ledger, Holdings, fresh, counted, putBalance, putCash, putSecurities, putOutside, putHeld, putDay, putHoldings, putWaiting, putRate}
 use Rattle.rulebook.specs.Movements.{Place, account, type91, type90, cashOf, member0, Movement, credit, debit, credits, debits, booked}
 use Rattle.rulebook.specs.Waiting.{senderOf, marking, staying, unmarked}
 use Rattle.rulebook.specs.Cycle.{settled, legs}
@@ -20,7 +20,7 @@ use Rattle.rulebook.specs.Forms.{outcome, moving, silent, openDay, withd
 use Rattle.rulebook.specs.Refusals.{noSpace}
 use Rattle.rulebook.specs.Premise.{Sizes}
 use Rattle.rulebook.proofs.ByCall.{Effect, AllForms, by-form}
-use Rattle.rulebook.proofs.Booking.{booked-puts}
+use Rattle.rulebook.proofs.Booking.{recounted-beside, booked-puts}
 use Rattle.rulebook.proofs.Rounds.{cycle-length}
 
 pub fresh-sizes : Sizes fresh
@@ -105,13 +105,14 @@ debits-accounts (m ∷ rest) h = omega (arith, debits-accounts rest (debit m.fro
 
 pub booked-accounts : (ms : List Movement) (h : Holdings) → booked ms h .accounts ≤ h.accounts + opened ms
 unfolding booked
-booked-accounts ms h = omega (arith, debits-accounts ms (credits ms h), credits-accounts ms h)
+booked-accounts ms h = omega (arith, recounted-beside ms (debits ms (credits ms h)) .accounts, debits-accounts ms (credits ms h), credits-accounts ms h)
 
 -- and neither admits a security
 pub booked-listed : (ms : List Movement) (h : Holdings) → length (booked ms h .securities) ≡ length h.securities
-unfolding putBalance putCash putSecurities putOutside
+unfolding putBalance putCash putSecurities putOutside putHeld
 booked-listed ms h =
-    booked-puts (λ k. length k.securities ≡ length h.securities) (λ a v k e. e) (λ s v k e. length-map k.securities _ ∙ e) (λ m c v k e. e) ms h refl
+    booked-puts (λ k. length k.securities ≡ length h.securities) (λ a v k e. e) (λ s v k e. length-map k.securities _ ∙ e)
+    (λ m c v k e. e) (λ s v k e. length-map k.securities _ ∙ e) ms h refl
 
 pub legs-opened : (ts : List Item) → opened (legs ts) ≡ length ts
 unfolding legs

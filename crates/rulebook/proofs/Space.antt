@@ -14,9 +14,9 @@ use Rattle.rulebook.specs.declared.State.the-variants.{Trade}
 use Rattle.plain.specs.Lists.{if_then_else_, _is_, _isNot_, _below_, _oneOf_, some}
 use Rattle.rulebook.specs.TypeTable.{requested}
 use Rattle.rulebook.specs.AccountTypes.{ends, isOutside}
-use Rattle.rulebook.specs.Ledger.{Ledger, Holdings, accountOf, requestAccount, sameAccount, counted, putBalance, putSecurities, putOutside, putHoldings, putWaiting, putRequests, newSecurity}
+use Rattle.rulebook.specs.Ledger.{Ledger, Holdings, accountOf, requestAccount, sameAccount, counted, putBalance, putSecurities, putOutside, putHeld, putHoldings, putWaiting, putRequests, newSecurity}
 use Rattle.rulebook.specs.declared.Account.{Account}
-use Rattle.rulebook.specs.Movements.{Place, Movement, account, type91, type90, move, credit, debit, credits, debits, booked}
+use Rattle.rulebook.specs.Movements.{Place, Movement, account, type91, type90, move, credit, debit, credits, debits, recounted, booked}
 use Rattle.rulebook.specs.Waiting.{itemOf, singleOf}
 use Rattle.rulebook.specs.Matching.{tolerance, pairsWith, arrive}
 use Rattle.rulebook.specs.Forms.{Outcome, outcome, moving, silent, admit, deposit, transfer, instruct, trade, newRequest, endedRequest, requestPaper, endRequest, forms, rowOf, effect}
@@ -70,7 +70,7 @@ module _ (b : Ledger) (o : Order) (z : Sizes b) where
       let ms = move (type90 o.security) (type91 o.security) o.quantity.0 ∷ [] in
       let l : length (booked ms h .securities) ≡ securities + 1 =
       booked-listed ms h ∙ (unfold putSecurities in length-append b.holdings.securities (new ∷ [])) in
-      let a : booked ms h .accounts ≡ accounts = unfold booked credits debits credit debit putOutside putSecurities in refl in
+      let a : booked ms h .accounts ≡ accounts = unfold booked credits debits credit debit recounted putOutside putSecurities in refl in
       let s = space-is 2 b o e (putHoldings (booked ms h) b) refl (securities + 1) items accounts l refl a in
       s
       ∙ simp (le-ltb 64 items z.items, le-ltb 256 (accounts + items) z.accounts)
@@ -185,7 +185,7 @@ module _ (b : Ledger) (o : Order) (z : Sizes b) where
   deposit-space e l =
       let ms = move (type91 o.security) (account to) o.quantity.0 ∷ [] in
       let a : booked ms b.holdings .accounts ≡ accounts + counted (has to + o.quantity.0) - counted (has to) =
-      unfold booked credits debits credit debit putOutside putSecurities putBalance in refl
+      unfold booked credits debits credit debit recounted putOutside putHeld putSecurities putBalance in refl
       in
       let c = counted-some (has to + o.quantity.0) (omega arith) in
       space-is 3 b o e (putHoldings (booked ms b.holdings) b) refl securities items (accounts + 1 - counted (has to)) (booked-listed ms b.holdings) refl
@@ -224,7 +224,7 @@ module _ (b : Ledger) (o : Order) (z : Sizes b) where
         let f₂ : h .balance x ≡ has x = put-other b.holdings y (has y + k) x apart in
         let g : h .accounts ≡ accounts + counted (has y + k) - counted (has y) = unfold putBalance in refl in
         let a : booked ms b.holdings .accounts ≡ h .accounts + counted (h .balance x - k) - counted (h .balance x) =
-        unfold booked credits debits credit debit putBalance in refl
+        unfold booked credits debits credit debit recounted putBalance in refl
         in
         let c = counted-some (has y + k) (omega arith) in
         let c₂ = counted-some (has x) (omega arith) in

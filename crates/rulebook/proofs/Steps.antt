@@ -16,14 +16,14 @@ use Rattle.plain.specs.Lists.{_is_, _oneOf_, first, Each}
 use Rattle.plain.proofs.Lists.{_and_}
 use Rattle.rulebook.specs.Record.{readOf}
 use Rattle.rulebook.specs.Ledger.{Ledger, Holdings, putDay, putWaiting, putSecurities, putRate}
-use Rattle.rulebook.specs.Movements.{booked, credits, debits, bookHas}
+use Rattle.rulebook.specs.Movements.{booked, credits, debits, recounted, bookHas}
 use Rattle.rulebook.specs.Rows.{postingRows}
 use Rattle.rulebook.specs.Forms.{Outcome, outcome, counts, silent, openDay, instruct, trade, cancel, close, forms, rowOf, effect, setRate}
 use Rattle.rulebook.specs.Refusals.{refusals}
 use Rattle.rulebook.specs.Premise.{Premise}
 use Rattle.rulebook.proofs.ByCall.{AllForms, not-read, by-form}
 use Rattle.rulebook.proofs.Orders.{accepted}
-use Rattle.rulebook.proofs.Steps.OneCall.{writesAt, Figures, admits-none, Step, Steps}
+use Rattle.rulebook.proofs.Steps.OneCall.{writesAt, Figures, Recounts, admits-none, Step, Steps}
 use Rattle.rulebook.proofs.Steps.Moving.{admit-steps, deposit-steps, withdraw-steps, transfer-steps, pledge-steps, release-steps, block-steps, unblock-steps, payIn-steps, payOut-steps}
 use Rattle.rulebook.proofs.Steps.Settling.{cycle-steps}
 use Rattle.rulebook.proofs.Steps.Requesting.{request-steps, end-steps}
@@ -55,10 +55,17 @@ no-figures n b o e =
       awaited = λ a q. (simp ends, simp asks);
     }
 
+no-recounts :
+    (n : ℕ) (b : Ledger) (o : Order) (x : Outcome) → (n oneOf movers) ≡ false → x.after.holdings ≡ b.holdings
+    → Recounts n b o b.holdings x.after.holdings
+no-recounts n b o x e same s =
+    let t = each-off n movers e in
+    rw same (simp (t .1 .0, t .1 .1 .0, t .1 .1 .1 .1 .1 .1 .1 .1 .1 .1 .0))
+
 still :
     (n : ℕ) (b : Ledger) (o : Order) (x : Outcome) → Premise b → (n oneOf movers) ≡ false → x.after.holdings ≡ b.holdings → (writesAt n ≡ 1 → x.rows ≡ [])
     → x.counts.rows ≡ length x.rows → Step n b o x
-unfolding postingRows booked credits debits putSecurities
+unfolding postingRows booked credits debits recounted putSecurities
 still n b o x p t e r l = record {
   listed = b.holdings.securities;
   admits = unfold putSecurities in admits-none n o b.holdings (each-off n movers t .0) p.codes;
@@ -70,6 +77,7 @@ still n b o x p t e r l = record {
   notices = λ _. refl;
   counted = l;
   figures = no-figures n b o t;
+  recounts = no-recounts n b o x t e;
 }
 
 -- ---- all forms

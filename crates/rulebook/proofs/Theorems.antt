@@ -28,6 +28,7 @@ use Rattle.rulebook.proofs.Demand3.{demand3}
 use Rattle.rulebook.proofs.AdmittedTypes.{admitted-types}
 use Rattle.rulebook.proofs.Rates.{rate-of-calls, tolerances, rate-alone, rate-refusals}
 use Rattle.rulebook.proofs.Rematerialization.{awaited-of-calls, ending-covered, request-stays, request-ends, request-refusals, ending-refusals}
+use Rattle.rulebook.proofs.Custody.{held-by-form, held-of-calls}
 use Rattle.rulebook.proofs.Desk.{desk}
 
 -- the writer writes where nothing refuses
@@ -101,5 +102,7 @@ theorems = record {
   requestEnds = request-ends;
   requestRefusals = request-refusals;
   endingRefusals = ending-refusals;
+  heldByForm = held-by-form;
+  heldOfCalls = held-of-calls;
   desk = desk;
 }

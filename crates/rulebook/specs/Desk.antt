@@ -5,7 +5,7 @@ use mathlib.Core.Path.{_≡_}
 use mathlib.Core.Bool.{true, false}
 use mathlib.Core.List.{List, [], _∷_, _++_, map}
 use lib.ListN.{take, drop, replicate}
-use Rattle.rulebook.specs.Ledger.{Ledger, fresh}
+use Rattle.rulebook.specs.Ledger.{Ledger, fresh, outsideOf, heldOf}
 use Rattle.rulebook.specs.Record.{recordOf}
 use Rattle.rulebook.specs.Forms.{counts}
 use Rattle.rulebook.specs.Call.{Result}
@@ -50,6 +50,9 @@ admits minute quantity = order 2 minute 101 0 nobody nobody quantity 0 0 0 0
 
 unfoldable pub deposits : (minute member quantity : ℕ) → Order
 deposits minute member quantity = order 3 minute 101 0 nobody (party member 20 5) quantity 0 0 0 0
+
+unfoldable pub withdraws : (minute member quantity : ℕ) → Order
+withdraws minute member quantity = order 4 minute 101 0 (party member 20 5) nobody quantity 0 0 0 0
 
 unfoldable pub pledges : (minute member from to quantity : ℕ) → Order
 pledges minute member from to quantity = order 6 minute 101 0 (party member from 5) (party member to 5) quantity 0 0 1 0
@@ -121,6 +124,20 @@ asked = calls started (deposits 510 7 400 ∷ asksPaper 520 100 9 ∷ [])
 unfoldable pub nextDay : Ledger
 nextDay = calls asked (runs 960 ∷ runs 960 ∷ runs 960 ∷ closes 960 ∷ opens 470 1 ∷ [])
 
+-- 7 deposits 400, pledges 50 of them and asks for paper of 100; then it withdraws 30; then the day ends, and the next opens
+unfoldable pub inCustody : Ledger
+inCustody = calls started (deposits 510 7 400 ∷ pledges 511 7 20 21 50 ∷ asksPaper 512 100 1 ∷ [])
+
+unfoldable pub withdrawn : Ledger
+withdrawn = calls inCustody (withdraws 513 7 30 ∷ [])
+
+unfoldable pub dayAfter : Ledger
+dayAfter = calls withdrawn (runs 960 ∷ runs 960 ∷ runs 960 ∷ closes 960 ∷ opens 470 1 ∷ [])
+
+-- the held and the outside count
+unfoldable pub custody : Ledger → ℕ × ℕ
+custody book = (heldOf 101 book.holdings, outsideOf 101 book.holdings)
+
 -- the states and the amounts of what waits
 unfoldable pub waits : Ledger → List (State × ℕ)
 waits book = map (λ item. (item.state, item.amount.0)) book.waiting
@@ -190,3 +207,7 @@ pub record Desk : Type 0 where
       withdrawals 101 (callsOn fresh (map send (opens 470 1 ∷ admits 500 1_000 ∷ deposits 510 7 400 ∷ asksPaper 520 100 9
       ∷ runs 960 ∷ runs 960 ∷ runs 960 ∷ closes 960 ∷ opens 470 1 ∷ endsPaper 510 91 9 ∷ [])))
       ≡ 100
+  -- A.20: a deposit is held, a pledge and a request leave it so, a withdrawal does not
+  pub p20 : (custody started ≡ (0, 1_000)) × (custody inCustody ≡ (400, 600)) × (custody withdrawn ≡ (370, 630))
+  -- A.21: and what ends outside is not held any more
+  pub p21 : custody (calls dayAfter (endsPaper 510 91 1 ∷ [])) ≡ (270, 730)

@@ -130,25 +130,42 @@ putCash member currency amount h = record {
 unfoldable pub putSecurities : List Security → Holdings → Holdings
 putSecurities securities h = record { securities = securities; balance = h.balance; accounts = h.accounts; cash = h.cash }
 
--- a security that is admitted now, none of it outside yet; and one with another outside count
+-- a security that is admitted now, none of it outside or held yet; one with another outside count; and one with another held count
 abbrev pub newSecurity : (code : ℕ) → (issued : Shares) → Security
-newSecurity code issued = record { code = code; issued = issued; outside = record { 0 = 0 } }
+newSecurity code issued = record { code = code; issued = issued; outside = record { 0 = 0 }; held = record { 0 = 0 } }
 
 abbrev pub withOutside : (count : ℕ) → Security → Security
-withOutside count s = record { code = s.code; issued = s.issued; outside = record { 0 = count } }
+withOutside count s = record { code = s.code; issued = s.issued; outside = record { 0 = count }; held = s.held }
+
+abbrev pub withHeld : (count : ℕ) → Security → Security
+withHeld count s = record { code = s.code; issued = s.issued; outside = s.outside; held = record { 0 = count } }
+
+-- the holdings with the security of a code changed
+abbrev pub changing : (code : ℕ) → (Security → Security) → Holdings → Holdings
+changing code change h = putSecurities (map (λ s. if s.code is code then change s else s) h.securities) h
 
 unfoldable pub putOutside : (security count : ℕ) → Holdings → Holdings
-putOutside security count h = putSecurities (map (λ s. if s.code is security then withOutside count s else s) h.securities) h
+putOutside security count = changing security (withOutside count)
+
+unfoldable pub putHeld : (security count : ℕ) → Holdings → Holdings
+putHeld security count = changing security (withHeld count)
 
 unfoldable pub admitted : ℕ → Holdings → Bool
 admitted security h = some (λ s. s.code is security) h.securities
 
 -- the counts of a security: 0 where it is not admitted
+abbrev pub countOf : (Security → Shares) → ℕ → Holdings → ℕ
+countOf count security h = total (λ s. if s.code is security then count s .0 else 0) h.securities
+
 unfoldable pub issuedOf : ℕ → Holdings → ℕ
-issuedOf security h = total (λ s. if s.code is security then s.issued.0 else 0) h.securities
+issuedOf = countOf (λ s. s.issued)
 
 unfoldable pub outsideOf : ℕ → Holdings → ℕ
-outsideOf security h = total (λ s. if s.code is security then s.outside.0 else 0) h.securities
+outsideOf = countOf (λ s. s.outside)
+
+-- RULES 3.19: the count that is kept, which `Theorems` says is what `held` adds up
+unfoldable pub heldOf : ℕ → Holdings → ℕ
+heldOf = countOf (λ s. s.held)
 
 -- RULES 3.17: for how many shares of an account paper is requested, over the references that a record can name
 unfoldable pub askedOf : Account → Requests → ℕ

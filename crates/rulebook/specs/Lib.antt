@@ -21,5 +21,6 @@ pub mod Premise
 pub mod AdmittedTypes
 pub mod Rates
 pub mod Rematerialization
+pub mod Custody
 pub mod Desk
 pub mod Theorems

@@ -1,7 +1,7 @@
 -- Movements of shares and cash, which change the holdings and are written as posting rows (RULES 6.0, 11.4).
 use Prim.Native.Nat.{ℕ, _+_, _-_}
 use mathlib.Core.List.{List, [], _∷_}
-use Rattle.rulebook.specs.Ledger.{Holdings, putBalance, putCash, putOutside, outsideOf}
+use Rattle.rulebook.specs.Ledger.{Holdings, putBalance, putCash, putOutside, putHeld, outsideOf, heldOf}
 use Rattle.rulebook.specs.declared.Account.{Account}
 
 -- RULES 11.5 to 11.7: between what shares and cash move
@@ -53,6 +53,33 @@ unfoldable pub debits : List Movement → Holdings → Holdings
 debits [] h = h
 debits (m ∷ rest) h = debits rest (debit m.from m.number h)
 
--- RULES 9.9: movements booked together, all credits and then all debits, so that what one brings another may take
+-- more of a security is held, and less
+abbrev pub addHeld : (security n : ℕ) → Holdings → Holdings
+addHeld security n h = putHeld security (heldOf security h + n) h
+
+abbrev pub takeHeld : (security n : ℕ) → Holdings → Holdings
+takeHeld security n h = putHeld security (heldOf security h - n) h
+
+-- RULES 3.19: the held counts after a movement from an account: what goes to type 91 is not held any more
+abbrev pub leaving : (to : Place) → ℕ → Holdings → Holdings
+leaving (account a) n h = h
+leaving (type91 security) n h = takeHeld security n h
+leaving (type90 security) n h = h
+leaving (cashOf member currency) n h = h
+leaving (member0 currency) n h = h
+
+-- and after any: what comes from type 91 is held from then on; an issue from type 90 is outside, and cash is not counted
+abbrev pub recount : (from to : Place) → ℕ → Holdings → Holdings
+recount (account a) to n h = leaving to n h
+recount (type91 security) to n h = addHeld security n h
+recount (type90 security) to n h = h
+recount (cashOf member currency) to n h = h
+recount (member0 currency) to n h = h
+
+unfoldable pub recounted : List Movement → Holdings → Holdings
+recounted [] h = h
+recounted (m ∷ rest) h = recounted rest (recount m.from m.to m.number h)
+
+-- RULES 9.9: movements booked together, all credits and then all debits, so that what one brings another may take; then held counts
 unfoldable pub booked : List Movement → Holdings → Holdings
-booked movements h = debits movements (credits movements h)
+booked movements h = recounted movements (debits movements (credits movements h))

@@ -7,7 +7,7 @@ use lib.ListN.{length}
 use Rattle.plain.specs.Lists.{if_then_else_, _is_, total, Each, sumBelow}
 use Rattle.rulebook.specs.TypeTable.{requested}
 use Rattle.rulebook.specs.AccountTypes.{isFree, alike, accountType, hasPaper}
-use Rattle.rulebook.specs.Ledger.{Holdings, Ledger, Requests, accountOf, sameAccount, counted, admitted, issuedOf, outsideOf, askedOf, cashTotal, held}
+use Rattle.rulebook.specs.Ledger.{Holdings, Ledger, Requests, accountOf, sameAccount, counted, admitted, issuedOf, outsideOf, heldOf, askedOf, cashTotal, held}
 use Rattle.rulebook.specs.declared.Day.{Day}
 use Rattle.rulebook.specs.declared.Account.{Account}
 use Rattle.rulebook.specs.Windows.{cycleMinutes, officeEnd}
@@ -174,6 +174,8 @@ pub record Premise (b : Ledger) : Type 0 where
   pub securities : Each SecurityFits b.holdings.securities
   -- held + outside = issued
   pub issue : (security : ℕ) → held security b.holdings + outsideOf security b.holdings ≡ issuedOf security b.holdings
+  -- RULES 3.19: the held count that is kept is what the accounts hold
+  pub custody : (security : ℕ) → heldOf security b.holdings ≡ held security b.holdings
   -- what has a balance is an account
   pub accounts : (a : Account) → 1 ≤ b.holdings.balance a → AccountFits b.holdings a
   -- a currency's total over all members, and who has cash

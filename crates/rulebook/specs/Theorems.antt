@@ -15,6 +15,7 @@ use Rattle.rulebook.specs.Premise.{Premise}
 use Rattle.rulebook.specs.AdmittedTypes.{AdmittedTypes}
 use Rattle.rulebook.specs.Rates.{RateOfCalls, Tolerances, RateAlone, RateRefusals}
 use Rattle.rulebook.specs.Rematerialization.{AwaitedOfCalls, EndingCovered, RequestStays, RequestEnds, RequestRefusals, EndingRefusals}
+use Rattle.rulebook.specs.Custody.{HeldByForm, HeldOfCalls}
 use Rattle.rulebook.specs.Desk.{Desk}
 use Rattle.rulebook.specs.declared.Order.{Order}
 use Rattle.rulebook.specs.declared.Read.{Read}
@@ -60,5 +61,8 @@ pub record Theorems : Type 0 where
   -- RULES 6.19, 6.20: what the two forms meet
   pub requestRefusals : RequestRefusals
   pub endingRefusals : EndingRefusals
+  -- RULES 12.24 to 12.26: what each form does to held counts, and that they are what the accounts hold
+  pub heldByForm : HeldByForm
+  pub heldOfCalls : HeldOfCalls
   -- RULES, appendix A
   pub desk : Desk

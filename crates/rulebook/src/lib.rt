@@ -81,11 +81,12 @@ pub struct Day {
     pub minute: u64,
 }
 
-// An admitted security.
+// An admitted security (RULES 3.1, 3.19): its code, how many shares of it are issued, are outside, and are held in its accounts.
 pub struct Security {
     pub code: u64,
     pub issued: Shares,
     pub outside: Shares,
+    pub held: Shares,
 }
 
 // A request for paper (RULES 3.15): of which shares, the type that they came from, how many, and the day on which it was made.

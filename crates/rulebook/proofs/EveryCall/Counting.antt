@@ -4,7 +4,7 @@ use mathlib.Core.List.{List, [], _∷_}
 use Prim.Native.Nat.{ℕ, _^_}
 use Rattle.rulebook.specs.declared.Security.{Security}
 use Rattle.rulebook.specs.declared.Order.{Order}
-use Rattle.rulebook.specs.Ledger.{Holdings, Ledger, fresh, counted, putCash, putSecurities, putOutside}
+use Rattle.rulebook.specs.Ledger.{Holdings, Ledger, fresh, counted, putCash, putSecurities, putOutside, putHeld}
 use Rattle.rulebook.specs.Movements.{Place, account, type91, type90, cashOf, member0, Movement, credit, debit, putAt}
 use Rattle.rulebook.specs.Forms.{Outcome}
 use Rattle.rulebook.specs.Premise.{accountCount}
@@ -29,6 +29,10 @@ put-counted (type90 s) v h f e = e
 put-counted (cashOf m c) v h f e = e
 put-counted (member0 c) v h f e = e
 
+put-held : (s v : ℕ) (h : Holdings) → Counted h → Counted (putHeld s v h)
+unfolding accountCount putSecurities putHeld
+put-held s v h e = e
+
 both-proper : (ms : List Movement) → AllProper ms → Both Proper ms
 both-proper [] f = tt
 both-proper (m ∷ rest) f = (f .0, f .1, both-proper rest (f .3))
@@ -41,5 +45,5 @@ listed-counted xs h e = e
 pub step-counted : (n : ℕ) (b : Ledger) (o : Order) (x : Outcome) → Step n b o x → Counted b.holdings → Counted x.after.holdings
 step-counted n b o x t e =
     subst Counted (sym (t .holds))
-    (booked-keeps Proper Counted (λ q n h. unfold credit in put-counted q _ h) (λ q n h. unfold debit in put-counted q _ h) (t .moves)
-    (both-proper (t .moves) (t .proper)) (putSecurities (t .listed) b.holdings) (listed-counted (t .listed) b.holdings e))
+    (booked-keeps Proper Counted (λ q n h. unfold credit in put-counted q _ h) (λ q n h. unfold debit in put-counted q _ h)
+    put-held (t .moves) (both-proper (t .moves) (t .proper)) (putSecurities (t .listed) b.holdings) (listed-counted (t .listed) b.holdings e))

@@ -1,5 +1,5 @@
 -- Parts 3 and 4 of the premise: what a security is, who has a balance and who has cash, kept by movements to such. Assumes nothing.
-use mathlib.Core.Path.{_≡_, refl, subst}
+use mathlib.Core.Path.{_≡_, refl, ap, subst}
 use mathlib.Core.Bool.{Bool, true, false, false≢true}
 use mathlib.Core.List.{List, [], _∷_, map}
 use Prim.Native.Nat.{ℕ, zero, suc, _+_, _≤_}
@@ -8,14 +8,14 @@ use borrow.Author.Tests.{eqb-true}
 use Rattle.rulebook.specs.declared.Security.{Security}
 use Rattle.plain.specs.Lists.{if_then_else_, _is_, some, Each}
 use Rattle.plain.proofs.Tests.{both}
-use Rattle.rulebook.specs.Ledger.{Holdings, fresh, admitted, putBalance, putCash, putSecurities, putOutside, withOutside}
+use Rattle.rulebook.specs.Ledger.{Holdings, fresh, admitted, putBalance, putCash, putSecurities, putOutside, putHeld, withOutside, withHeld}
 use Rattle.rulebook.specs.declared.Account.{Account}
 use Rattle.rulebook.specs.Movements.{Place, account, type91, type90, cashOf, member0, Movement, credit, debit, credits, debits, booked}
 use Rattle.rulebook.specs.Premise.{withCode, SecurityFits, AccountFits, CashFits}
 use Rattle.rulebook.proofs.Rounds.{same-eq}
 use Rattle.rulebook.proofs.Securities.{changed, known, unknown}
 use Rattle.rulebook.proofs.Places.{isAccount, isCash, brought, credit-balance, debit-balance, credit-cash, debit-cash, booked-codes}
-use Rattle.rulebook.proofs.Booking.{booked-puts}
+use Rattle.rulebook.proofs.Booking.{recounted-beside, booked-puts}
 
 -- an admitted security stays admitted
 
@@ -35,17 +35,26 @@ booked-admitted ms h c = still-admitted c h (booked ms h) (omega (arith, booked-
 
 -- a security keeps its code and its issued count
 
-changed-fits : (c v : ℕ) (xs : List Security) → Each SecurityFits xs → Each SecurityFits (map (changed c v) xs)
-changed-fits c v [] e = tt
-changed-fits c v (x ∷ rest) e = (go (x.code is c), changed-fits c v rest (e .1))
-  where
-    go : (t : Bool) → SecurityFits (if t then withOutside v x else x)
-    go true = let f = e .0 in record { code-least = f.code-least; code-most = f.code-most; issued-least = f.issued-least; issued-most = f.issued-most }
-    go false = e .0
+module _ (change : Security → Security) (keeps : (x : Security) → SecurityFits x → SecurityFits (change x)) where
+  changed-fits : (c : ℕ) (xs : List Security) → Each SecurityFits xs → Each SecurityFits (map (changed c change) xs)
+  changed-fits c [] e = tt
+  changed-fits c (x ∷ rest) e = (go (x.code is c), changed-fits c rest (e .1))
+    where
+      go : (t : Bool) → SecurityFits (if t then change x else x)
+      go true = keeps x (e .0)
+      go false = e .0
 
 booked-fits : (ms : List Movement) (h : Holdings) → Each SecurityFits h.securities → Each SecurityFits (booked ms h .securities)
-unfolding putBalance putCash putSecurities putOutside
-booked-fits ms h e = booked-puts (λ k. Each SecurityFits k.securities) (λ a v k e. e) (λ s v k e. changed-fits s v k.securities e) (λ m c v k e. e) ms h e
+unfolding putBalance putCash putSecurities putOutside putHeld
+booked-fits ms h =
+    booked-puts (λ k. Each SecurityFits k.securities) (λ a v k e. e) (λ s v k. changed-fits (withOutside v) outside s k.securities)
+    (λ m c v k e. e) (λ s v k. changed-fits (withHeld v) held s k.securities) ms h
+  where
+    outside : {v : ℕ} (x : Security) → SecurityFits x → SecurityFits (withOutside v x)
+    outside x f = record { code-least = f.code-least; code-most = f.code-most; issued-least = f.issued-least; issued-most = f.issued-most }
+
+    held : {v : ℕ} (x : Security) → SecurityFits x → SecurityFits (withHeld v x)
+    held x f = record { code-least = f.code-least; code-most = f.code-most; issued-least = f.issued-least; issued-most = f.issued-most }
 
 -- what a place has after movements it had, or they brought
 
@@ -62,7 +71,9 @@ module _ (a : Account) where
 
   booked-most : (ms : List Movement) (h : Holdings) → booked ms h .balance a ≤ h.balance a + brought (account a) ms
   unfolding booked
-  booked-most ms h = omega (arith, debits-most ms (credits ms h), credits-most ms h)
+  booked-most ms h =
+      let same = ap (λ (f : Account → ℕ). f a) (recounted-beside ms (debits ms (credits ms h)) .balance) in
+      omega (arith, same, debits-most ms (credits ms h), credits-most ms h)
 
 module _ (m c : ℕ) where
   credits-most-cash : (ms : List Movement) (h : Holdings) → credits ms h .cash m c ≤ h.cash m c + brought (cashOf m c) ms
@@ -77,7 +88,9 @@ module _ (m c : ℕ) where
 
   booked-most-cash : (ms : List Movement) (h : Holdings) → booked ms h .cash m c ≤ h.cash m c + brought (cashOf m c) ms
   unfolding booked
-  booked-most-cash ms h = omega (arith, debits-most-cash ms (credits ms h), credits-most-cash ms h)
+  booked-most-cash ms h =
+      let same = ap (λ (f : ℕ → ℕ → ℕ). f m c) (recounted-beside ms (debits ms (credits ms h)) .cash) in
+      omega (arith, same, debits-most-cash ms (credits ms h), credits-most-cash ms h)
 
 -- a place that may be credited
 

@@ -1,10 +1,10 @@
 -- Forms 2 to 11: each makes one movement. Assumes nothing.
-use mathlib.Core.Path.{_≡_, refl, sym, ap, _∙_}
+use mathlib.Core.Path.{_≡_, refl, sym, ap, subst, _∙_}
 use mathlib.Core.Bool.{Bool, true, false, false≢true}
 use mathlib.Core.List.{List, [], _∷_, _++_}
-use Prim.Native.Nat.{ℕ, _+_, _<_, _^_}
+use Prim.Native.Nat.{ℕ, _+_, _≤_, _<_, _^_}
 use native.Mathlib.Omega.{arith}
-use borrow.Author.Tests.{ltb-false, eq-eqb}
+use borrow.Author.Tests.{ltb-false, eq-eqb, eqb-true}
 use Rattle.rulebook.specs.declared.Party.{Party}
 use Rattle.rulebook.specs.declared.Order.{Order}
 use Rattle.rulebook.specs.declared.Security.{Security}
@@ -13,19 +13,21 @@ use Rattle.plain.proofs.Lists.{_and_, total-append}
 use Rattle.rulebook.specs.TypeTable.{requested}
 use Rattle.rulebook.specs.AccountTypes.{pledgedOrBlocked, wrongTypes}
 use Rattle.rulebook.specs.Field as Field
-use Rattle.rulebook.specs.Ledger.{Ledger, Holdings, Requests, accountOf, sameAccount, outsideOf, putHoldings, putSecurities, putRequests, newSecurity}
+use Rattle.rulebook.specs.Ledger.{Ledger, Holdings, Requests, accountOf, sameAccount, outsideOf, heldOf, putHoldings, putSecurities, putRequests, newSecurity}
 use Rattle.rulebook.specs.declared.Account.{Account}
-use Rattle.rulebook.specs.Movements.{Place, account, type91, type90, cashOf, member0, move, bookHas}
+use Rattle.rulebook.specs.Movements.{Place, account, type91, type90, cashOf, member0, move, recount, recounted, booked, bookHas}
 use Rattle.rulebook.specs.Forms.{outcome, counts, moving, admit, deposit, withdraw, transfer, payIn, payOut, forms, rowOf, used, least}
 use Rattle.rulebook.specs.Refusals.{asksSecurity, debitsShares, wrongSecurity}
 use Rattle.rulebook.specs.Premise.{withCode, Premise}
 use Rattle.rulebook.proofs.Rounds.{same-eq}
 use Rattle.rulebook.proofs.Orders.{is-admitted, not-admitted, little-parts, debit-enough, right-types, needed}
-use Rattle.rulebook.proofs.Securities.{outs, known, unknown, new-count, new-issued}
+use Rattle.rulebook.proofs.Securities.{known, unknown, new-count, new-none, new-issued}
 use Rattle.rulebook.proofs.Places.{brought, Known, Bears, booked-exact, one-enough}
 use Rattle.rulebook.proofs.Reading.{Proper}
+use Rattle.rulebook.proofs.Recounting.{held-stays, held-more, held-less}
+use Rattle.rulebook.proofs.Bounds.{balance-counted}
 use Rattle.rulebook.proofs.Types.{Account·type, Quiet, PutIn, free-quiet, pledged-account, pledged-not-requested, deposit-free, withdraw-free, transfer-free, pledge-types, release-types, block-types, unblock-types}
-use Rattle.rulebook.proofs.Steps.OneCall.{putInAt, releasedAt, writesAt, Figures, Admits, admits-none, Step, Steps}
+use Rattle.rulebook.proofs.Steps.OneCall.{sharesAt, paperAt, putInAt, releasedAt, writesAt, Figures, Recounts, Admits, admits-none, Step, Steps}
 use Rattle.rulebook.specs.Ranges.{PartyInRange}
 
 -- a form that makes one movement, after it admits a security or none, and opens or ends a request or none
@@ -33,10 +35,10 @@ moved :
     (n : ℕ) (b : Ledger) (o : Order) (xs : List Security) (r : Requests) (from to : Place) (k : ℕ) → Admits n o b.holdings xs → writesAt n ≡ 1
     → Known (putSecurities xs b.holdings) from
     → Known (putSecurities xs b.holdings) to → Bears (putSecurities xs b.holdings) from k → Proper from → Proper to → k < 2 ^ 40
-    → Figures n b o (move from to k ∷ [])
+    → Figures n b o (move from to k ∷ []) → Recounts n b o (putSecurities xs b.holdings) (booked (move from to k ∷ []) (putSecurities xs b.holdings))
     → Step n b o (moving (move from to k ∷ []) (putRequests r (putHoldings (putSecurities xs b.holdings) b)))
 unfolding moving outcome counts putHoldings putRequests
-moved n b o xs r from to k a w kf kt l pf pt u f =
+moved n b o xs r from to k a w kf kt l pf pt u f c =
     let ms = move from to k ∷ [] in
     let h = putSecurities xs b.holdings in
     record {
@@ -50,6 +52,7 @@ moved n b o xs r from to k a w kf kt l pf pt u f =
       notices = λ z. absurd (omega (arith, z, w));
       counted = refl;
       figures = f;
+      recounts = λ s. omega (arith, c s, a .held s);
     }
 
 -- and none but form 2 admits one
@@ -57,15 +60,23 @@ pub moves-with :
     (n : ℕ) (b : Ledger) (o : Order) (r : Requests) (from to : Place) (k : ℕ) → (n is 2) ≡ false → Premise b → writesAt n ≡ 1 → Known b.holdings from
     → Known b.holdings to
     → Bears b.holdings from k → Proper from → Proper to → k < 2 ^ 40 → Figures n b o (move from to k ∷ [])
-    → Step n b o (moving (move from to k ∷ []) (putRequests r b))
+    → Recounts n b o b.holdings (booked (move from to k ∷ []) b.holdings) → Step n b o (moving (move from to k ∷ []) (putRequests r b))
 unfolding putHoldings putSecurities putRequests
 moves-with n b o r from to k e p = moved n b o b.holdings.securities r from to k (admits-none n o b.holdings e p.codes)
 
 moves-one :
     (n : ℕ) (b : Ledger) (o : Order) (from to : Place) (k : ℕ) → (n is 2) ≡ false → Premise b → writesAt n ≡ 1 → Known b.holdings from → Known b.holdings to
-    → Bears b.holdings from k → Proper from → Proper to → k < 2 ^ 40 → Figures n b o (move from to k ∷ []) → Step n b o (moving (move from to k ∷ []) b)
+    → Bears b.holdings from k → Proper from → Proper to → k < 2 ^ 40 → Figures n b o (move from to k ∷ [])
+    → Recounts n b o b.holdings (booked (move from to k ∷ []) b.holdings) → Step n b o (moving (move from to k ∷ []) b)
 unfolding putRequests
 moves-one n b o = moves-with n b o b.requests
+
+-- a movement that is not with type 91 changes no held count
+pub inside :
+    (n : ℕ) (b : Ledger) (o : Order) (from to : Place) (k : ℕ) (h : Holdings) → ((x : Holdings) → recount from to k x ≡ x)
+    → ((s : ℕ) → sharesAt 4 s n o + paperAt s n b o ≡ sharesAt 3 s n o) → Recounts n b o h (booked (move from to k ∷ []) h)
+unfolding recounted
+inside n b o from to k h same none s = omega (arith, held-stays (move from to k ∷ []) same h s, none s)
 
 pub one-code :
     (n : ℕ) (b : Ledger) (o : Order) → o.form ≡ n → asksSecurity n ≡ true → (n is 2) ≡ false → Premise b → wrongSecurity b.holdings o ≡ false
@@ -99,14 +110,14 @@ awaits typ = typ is requested
 kept-new : (new : Security) → new.outside.0 ≡ 0 → (h : Holdings) (p : Place) → bookHas p (putSecurities (h.securities ++ (new ∷ [])) h) ≡ bookHas p h
 unfolding putSecurities outsideOf
 kept-new new z h (account a) = refl
-kept-new new z h (type91 s) = simp (total-append, z) (go (new.code is s) (outs s h.securities))
-  where
-    go : (t : Bool) (n : ℕ) → n + ((if t then 0 else 0) + 0) ≡ n
-    go true n = omega arith
-    go false n = omega arith
+kept-new new z h (type91 s) = new-none (λ x. x.outside) new z s h.securities
 kept-new new z h (type90 s) = refl
 kept-new new z h (cashOf m c) = refl
 kept-new new z h (member0 c) = refl
+
+none-held : (new : Security) → new.held.0 ≡ 0 → (h : Holdings) (s : ℕ) → heldOf s (putSecurities (h.securities ++ (new ∷ [])) h) ≡ heldOf s h
+unfolding heldOf putSecurities
+none-held new z h s = new-none (λ x. x.held) new z s h.securities
 
 pub admit-steps : Steps 2 admit
 unfolding admit putSecurities putRequests putHoldings forms rowOf
@@ -121,9 +132,11 @@ admit-steps b o e p a =
       codes = λ c. new-count o.security c xs new refl z p.codes;
       still = λ c. simp total-append (omega arith);
       issued = λ s. omega (arith, new-issued s b.holdings new);
+      held = none-held new refl b.holdings;
     })
     refl tt k tt a.fits.security a.fits.security a.fits.quantity
     (record { held = λ c. refl; outside = λ c. omega arith; cash = λ c. refl; pledged = λ x q. (refl, refl); awaited = λ x q. (refl, refl) })
+    (inside 2 b o _ _ _ _ (λ k. refl) (λ s. refl))
 
 -- forms 3 and 4
 
@@ -141,6 +154,22 @@ deposit-steps b o e p a =
       pledged = λ x q. (refl, omega (arith, party-apart pledgedOrBlocked o.security o.credited (t .0) o.quantity.0 x q));
       awaited = λ x q. (refl, omega (arith, party-apart awaits o.security o.credited (t .2) o.quantity.0 x q));
     })
+    (λ s. omega (arith, held-more (accountOf o.security o.credited) o.security o.quantity.0 b.holdings (one-code 3 b o e refl refl p a.security) s))
+
+-- what an account has is held, so what leaves it is taken off whole
+pub left-less :
+    (b : Ledger) → Premise b → (from : Account) (n : ℕ) → withCode from.security b.holdings.securities ≡ 1 → n ≤ b.holdings.balance from → (s : ℕ)
+    → heldOf s (booked (move (account from) (type91 from.security) n ∷ []) b.holdings) + (if from.security is s then n else 0) ≡ heldOf s b.holdings
+left-less b p from n k l s = go (from.security is s) refl
+  where
+    go :
+        (t : Bool) → (from.security is s) ≡ t
+        → heldOf s (booked (move (account from) (type91 from.security) n ∷ []) b.holdings) + (if from.security is s then n else 0) ≡ heldOf s b.holdings
+    go true e =
+        let less = held-less from from.security n b.holdings k s in
+        let most = subst (λ (x : ℕ). b.holdings.balance from ≤ heldOf x b.holdings) (eqb-true from.security s e) (balance-counted b p from) in
+        simp e (omega (arith, simp e at less, most, l))
+    go false e = simp e (omega (arith, rw e at (held-less from from.security n b.holdings k s)))
 
 pub withdraw-steps : Steps 4 withdraw
 unfolding withdraw accountOf forms rowOf
@@ -155,6 +184,10 @@ withdraw-steps b o e p a =
       pledged = λ x q. (omega (arith, party-apart pledgedOrBlocked o.security o.debited (t .0) o.quantity.0 x q), refl);
       awaited = λ x q. (omega (arith, party-apart awaits o.security o.debited (t .2) o.quantity.0 x q), refl);
     })
+    (λ s. omega (
+      arith,
+      left-less b p (accountOf o.security o.debited) o.quantity.0 (one-code 4 b o e refl refl p a.security) (debit-enough b o a.little (simp e)) s,
+    ))
 
 -- forms 5 to 9: which types each moves between, and what of it is put in or released
 
@@ -193,6 +226,7 @@ shifts n t w off types b o e p a =
         simp (off .1 .1 .1 .1 .1 .0) (omega (arith, party-apart awaits o.security o.credited (y .to-other) o.quantity.0 x q)),
       );
     })
+    (inside n b o _ _ _ _ (λ k. refl) (λ s. simp (off .1 .0, off .1 .1 .0, off .1 .1 .1 .1 .1 .1 .0)))
 
 -- a party whose type is quiet is no such account
 debited-apart : (o : Order) → Quiet o.debited.typ → (a : Account) → pledgedOrBlocked a.typ ≡ true → debitsOf a o ≡ 0
@@ -271,6 +305,7 @@ payIn-steps b o e p a =
     moves-one 10 b o (member0 o.currency) (cashOf o.credited.member o.currency) o.amount.0 refl p refl tt tt tt (omega (arith, a.fits.currency))
     (m .0, m .1, omega (arith, a.fits.currency)) a.fits.amount
     (record { held = λ c. refl; outside = λ c. refl; cash = λ c. omega arith; pledged = λ x q. (refl, refl); awaited = λ x q. (refl, refl) })
+    (inside 10 b o _ _ _ _ (λ k. refl) (λ s. refl))
 
 pub payOut-steps : Steps 11 payOut
 unfolding payOut used least forms rowOf
@@ -280,3 +315,4 @@ payOut-steps b o e p a =
     (ltb-false _ _ (simp e at (little-parts b o a.little .2)))
     (m .0, m .1, omega (arith, a.fits.currency)) (omega (arith, a.fits.currency)) a.fits.amount
     (record { held = λ c. refl; outside = λ c. refl; cash = λ c. omega arith; pledged = λ x q. (refl, refl); awaited = λ x q. (refl, refl) })
+    (inside 11 b o _ _ _ _ (λ k. refl) (λ s. refl))

@@ -11,7 +11,7 @@ use Rattle.rulebook.specs.declared.Security.{Security}
 use Rattle.plain.specs.Lists.{if_then_else_, _is_, _oneOf_}
 use Rattle.rulebook.specs.TypeTable.{requested}
 use Rattle.rulebook.specs.AccountTypes.{isOutside, pledgedOrBlocked}
-use Rattle.rulebook.specs.Ledger.{Ledger, Holdings, accountOf, requestAccount, sameAccount, issuedOf, putSecurities}
+use Rattle.rulebook.specs.Ledger.{Ledger, Holdings, accountOf, requestAccount, sameAccount, issuedOf, heldOf, putSecurities}
 use Rattle.rulebook.specs.Movements.{Place, account, type91, Movement, booked, bookHas}
 use Rattle.rulebook.specs.Rows.{postingRows}
 use Rattle.rulebook.specs.Forms.{Outcome, newRequest, endedRequest, rowOf}
@@ -63,16 +63,21 @@ pub record Figures (form : ℕ) (b : Ledger) (o : Order) (moves : List Movement)
   pub awaited :
       (a : Account) → (a.typ is requested) ≡ true → (taken (account a) moves ≡ endedAt a form b o) × (brought (account a) moves ≡ askedAt a form b o)
 
--- a security may be admitted first: what is kept stays, codes stay distinct, and its issued count is the order's quantity
+-- held counts change by what the order's figures say
+abbrev pub Recounts : (form : ℕ) (b : Ledger) (o : Order) (before after : Holdings) → Type 0
+Recounts form b o h k = (s : ℕ) → heldOf s k + (sharesAt 4 s form o + paperAt s form b o) ≡ heldOf s h + sharesAt 3 s form o
+
+-- a security may be admitted first: what is kept stays, codes stay distinct, its issued count is the order's quantity, and none of it is held
 pub record Admits (form : ℕ) (o : Order) (h : Holdings) (listed : List Security) : Type 0 where
   pub keeps : (p : Place) → bookHas p (putSecurities listed h) ≡ bookHas p h
   pub codes : (c : ℕ) → withCode c listed ≤ 1
   pub still : (c : ℕ) → withCode c h.securities ≤ withCode c listed
   pub issued : (s : ℕ) → sharesAt 2 s form o + issuedOf s h ≡ issuedOf s (putSecurities listed h)
+  pub held : (s : ℕ) → heldOf s (putSecurities listed h) ≡ heldOf s h
 
 pub admits-none : (form : ℕ) (o : Order) (h : Holdings) → (form is 2) ≡ false → ((c : ℕ) → withCode c h.securities ≤ 1) → Admits form o h h.securities
 unfolding putSecurities
-admits-none form o h e c = record { keeps = λ p. refl; codes = c; still = λ c. omega arith; issued = λ s. simp e (omega arith) }
+admits-none form o h e c = record { keeps = λ p. refl; codes = c; still = λ c. omega arith; issued = λ s. simp e (omega arith); held = λ s. refl }
 
 -- what a form's outcome is
 pub record Step (form : ℕ) (b : Ledger) (o : Order) (x : Outcome) : Type 0 where
@@ -86,6 +91,7 @@ pub record Step (form : ℕ) (b : Ledger) (o : Order) (x : Outcome) : Type 0 whe
   pub notices : writesAt form ≡ 0 → moves ≡ []
   pub counted : x.counts.rows ≡ length x.rows
   pub figures : Figures form b o moves
+  pub recounts : Recounts form b o b.holdings x.after.holdings
 
 -- a form makes such a step
 abbrev pub Steps : ℕ → Effect → Type 0

@@ -8,7 +8,7 @@ use Rattle.plain.specs.Lists.{if_then_else_, _is_}
 use Rattle.rulebook.specs.TypeTable.{requested}
 use Rattle.rulebook.specs.AccountTypes.{isOutside, pledgedOrBlocked}
 use Rattle.rulebook.specs.Ledger.{Ledger, admitted, accountOf, requestAccount}
-use Rattle.rulebook.specs.Movements.{Place, account, type91, move}
+use Rattle.rulebook.specs.Movements.{Place, account, type91, move, booked}
 use Rattle.rulebook.specs.Forms.{newRequest, endedRequest, requestPaper, endRequest, forms, rowOf}
 use Rattle.rulebook.specs.Premise.{RequestFits, Premise}
 use Rattle.rulebook.specs.declared.Order.{Order}
@@ -19,8 +19,8 @@ use Rattle.rulebook.proofs.Places.{Known}
 use Rattle.rulebook.proofs.Reading.{Proper}
 use Rattle.rulebook.proofs.Requests.{covered}
 use Rattle.rulebook.proofs.Orders.{Accepted, debit-enough, right-types, is-ended}
-use Rattle.rulebook.proofs.Steps.OneCall.{Figures, Steps}
-use Rattle.rulebook.proofs.Steps.Moving.{moves-with, account-proper, apart, party-apart, awaits}
+use Rattle.rulebook.proofs.Steps.OneCall.{Figures, Recounts, Steps}
+use Rattle.rulebook.proofs.Steps.Moving.{moves-with, account-proper, apart, party-apart, awaits, inside, left-less}
 
 pub request-steps : Steps 19 requestPaper
 unfolding requestPaper requestAccount accountOf forms rowOf
@@ -42,6 +42,7 @@ request-steps b o e p a =
       );
       awaited = λ x q. (omega (arith, party-apart awaits o.security o.debited (t .2) o.quantity.0 x q), omega arith);
     })
+    (inside 19 b o _ _ _ _ (λ k. refl) (λ s. refl))
 
 -- the request that a form 20 ends, and where its shares go, by whether that is outside
 module _ (b : Ledger) (o : Order) (e : o.form ≡ 20) (p : Premise b) (a : Accepted b o) where
@@ -94,6 +95,18 @@ module _ (b : Ledger) (o : Order) (e : o.form ≡ 20) (p : Premise b) (a : Accep
     awaited = λ x q. (omega arith, simp (apart awaits x (requestAccount o.credited.typ member ended) q (quiet n .2)));
   }
 
+  recounts :
+      (t : Bool) → (isOutside o.credited.typ) ≡ t
+      → Recounts 20 b o b.holdings (booked (move (account (requestAccount requested member ended)) (place t) ended.quantity.0 ∷ []) b.holdings)
+  unfolding requestAccount
+  recounts true n s =
+      simp n (omega (
+        arith,
+        left-less b p (requestAccount requested member ended) ended.quantity.0 (place-known true)
+            (covered b member o.reference p (is-ended b o e a.request .0)) s,
+      ))
+  recounts false n s = inside 20 b o _ _ _ _ (λ k. refl) (λ s. simp n) s
+
 pub end-steps : Steps 20 endRequest
 unfolding endRequest requestAccount forms rowOf
 end-steps b o e p a =
@@ -104,3 +117,4 @@ end-steps b o e p a =
     (place-known b o e p a (isOutside o.credited.typ)) (covered b o.debited.member o.reference p (is-ended b o e a.request .0))
     (f .security, omega (arith, f .named .member-most), omega arith, f .named .shareholder-most, refl)
     (place-proper b o e p a (isOutside o.credited.typ) refl) (f .quantity) (figures b o e p a (isOutside o.credited.typ) refl)
+    (recounts b o e p a (isOutside o.credited.typ) refl)

@@ -9,7 +9,7 @@ use Rattle.rulebook.specs.declared.Item.{Item}
 use Rattle.rulebook.specs.AccountTypes.{pledgedOrBlocked}
 use Rattle.rulebook.specs.Ledger.{Ledger, Holdings, accountOf, putSecurities, putDay, putHoldings, putWaiting}
 use Rattle.rulebook.specs.declared.Account.{Account}
-use Rattle.rulebook.specs.Movements.{Place, account, type91, type90, cashOf, member0, Movement, booked, bookHas}
+use Rattle.rulebook.specs.Movements.{Place, account, type91, type90, cashOf, member0, Movement, recounted, booked, bookHas}
 use Rattle.rulebook.specs.Cycle.{Marked, seller, buyer, over, bringsShares, takesShares, bringsCash, takesCash, sharesTaken, sharesBrought, cashTaken, cashBrought, settling, withMark, settled, legs}
 use Rattle.rulebook.specs.Forms.{outcome, counts, cycle, forms, rowOf}
 use Rattle.rulebook.proofs.Rounds.{settling-done, enough-shares, enough-cash, settled-fits}
@@ -18,6 +18,7 @@ use Rattle.plain.proofs.Lists.{each-so}
 use Rattle.rulebook.specs.Premise.{ItemFits, today}
 use Rattle.rulebook.proofs.Places.{isAt, brought, taken, AllKnown, Enough, booked-exact}
 use Rattle.rulebook.proofs.Reading.{Proper, AllProper}
+use Rattle.rulebook.proofs.Recounting.{held-stays}
 use Rattle.rulebook.proofs.Sums.{heldInto, heldOut, cashInto, cashOut}
 use Rattle.rulebook.proofs.EveryCall.Items.{PartyPosts, ItemPosts, item-posts}
 use Rattle.rulebook.proofs.Steps.OneCall.{admits-none, Steps}
@@ -104,6 +105,12 @@ legs-sums (t ∷ rest) =
     let l = legs-sums rest in
     ((λ s. omega (arith, l .0 s)), (λ s. (omega (arith, l .1 s .0), omega (arith, l .1 s .1))), (λ c. omega (arith, l .2 c)))
 
+-- so they change no held count
+pub legs-inside : (ts : List Item) (h : Holdings) → recounted (legs ts) h ≡ h
+unfolding legs recounted
+legs-inside [] h = refl
+legs-inside (t ∷ rest) h = legs-inside rest h
+
 none-taken : (p : Place) → ((q : Place) → isAt p q ≡ false) → (ms : List Movement) → taken p ms ≡ 0
 none-taken p f [] = refl
 none-taken p f (m ∷ rest) = simp (f m.from) (omega (arith, none-taken p f rest))
@@ -159,4 +166,5 @@ cycle-steps b o e p a =
         pledged = λ x q. legs-apart pledgedOrBlocked (λ t y. y .0) x q ts i;
         awaited = λ x q. legs-apart awaits (λ t y. y .2) x q ts i;
       };
+      recounts = λ s. omega (arith, held-stays (legs ts) (legs-inside ts) b.holdings s);
     }
