@@ -2,4 +2,4 @@
 pub mod Keys
 pub mod Rows
 pub mod Map
-pub mod HeldRows
+pub mod CountedRows

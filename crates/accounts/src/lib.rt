@@ -1,8 +1,7 @@
 // The accounts of a book, as 513 words: how many there are, 256 keys, 256 balances. An account's key is one number.
 ghost use mathlib.Core.Path.{_≡_};
-ghost use Prim.Native.Nat.{_+_, _^_, _≤_, _<_};
+ghost use Prim.Native.Nat.{_+_, _≤_, _<_};
 ghost use lib.ListN.{length};
-ghost use Rattle.rulebook.specs.Ledger as Ledger;
 ghost use Rattle.rulebook.specs.Ledger.{Holdings};
 ghost use Rattle.rulebook.specs.Movements as movements;
 ghost use Rattle.rulebook.specs.Ranges.{AccountInRange};
@@ -52,23 +51,6 @@ pub fn balance(accounts: &[u64], account: Account) -> Shares
 {
     let key = key_of(account);
     Shares(words::value(accounts, key, BALANCES))
-}
-
-// Held: the sum of a security's accounts.
-pub fn held(accounts: &[u64], security: u64) -> Shares
-    requires { ⌜ Kept (now accounts) × ((h : Holdings) → Ledger.held security (withAccounts (now accounts) h) < 2 ^ 64) ⌝ }
-    ensures { λ r. ⌜ ((h : Holdings) → r .0 ≡ Ledger.held security (withAccounts (now (accounts .entry)) h)) ⌝ }
-{
-    let n = accounts[0] as usize;
-    let mut sum: u64 = 0;
-    let mut i: usize = 0;
-    while i < n {
-        if accounts[i + 1] >> 48 == security {
-            sum += accounts[i + BALANCES];
-        }
-        i += 1;
-    }
-    Shares(sum)
 }
 
 // An account goes last.

@@ -15,7 +15,7 @@ use Rattle.words.specs.Tables.{rows}
 use Rattle.words.proofs.Regions.{region-put, region-length, end-within}
 use Rattle.securities.specs.Admitted.{securitiesOf, withSecurities}
 use Rattle.securities.specs.Admitted as securities
-use Rattle.accounts.proofs.HeldRows.{rows-counted}
+use Rattle.accounts.proofs.CountedRows.{rows-counted}
 use Rattle.accounts.specs.Map.{balanceOf, withAccounts}
 use Rattle.accounts.specs.Map as accounts
 use Rattle.cash.specs.Amounts.{amountOf, withCash}

@@ -17,7 +17,7 @@ use Rattle.requests.specs.Map as requests
 -- the regions of a book and how many words each has: the day, the securities, the accounts, the members' cash, the waiting list, the rate, the open
 -- requests for paper
 abbrev pub widths : List ℕ
-widths = 8 ∷ 97 ∷ 513 ∷ 128 ∷ 1025 ∷ 1 ∷ 49 ∷ []
+widths = 8 ∷ 129 ∷ 513 ∷ 128 ∷ 1025 ∷ 1 ∷ 49 ∷ []
 
 -- how many words a book has
 abbrev pub bookLength : ℕ

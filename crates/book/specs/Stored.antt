@@ -8,6 +8,7 @@ use Rattle.rulebook.specs.Premise.{Premise}
 use Rattle.rulebook.specs.declared.Item.{Item}
 use Rattle.rulebook.specs.declared.Shares.{Shares}
 use Rattle.securities.specs.Admitted as securities
+pub use Rattle.securities.specs.Admitted.{entered, left}
 use Rattle.accounts.specs.Map as accounts
 use Rattle.waiting_list.specs.Waiting as items
 use Rattle.requests.specs.Map as requests

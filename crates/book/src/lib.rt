@@ -4,8 +4,7 @@ ghost use mathlib.Core.Bool.{false};
 ghost use mathlib.Core.List.{_++_, _∷_, []};
 ghost use Prim.Native.Nat.{ℕ, _+_, _^_, _≤_, _<_};
 ghost use lib.ListN.{length, getD, set, take};
-ghost use Rattle.rulebook.specs.Ledger as Ledger;
-ghost use Rattle.rulebook.specs.Ledger.{putDay, putRate, admitted, outsideOf, cashTotal, noRequest, putRequest};
+ghost use Rattle.rulebook.specs.Ledger.{putDay, putRate, admitted, outsideOf, heldOf, cashTotal, noRequest, putRequest};
 ghost use Rattle.rulebook.specs.Matching.{pairsWith};
 ghost use Rattle.rulebook.specs.Movements as movements;
 ghost use Rattle.rulebook.specs.Premise.{CashFits};
@@ -14,7 +13,7 @@ ghost use Rattle.rulebook.specs.Ranges.{AccountInRange};
 ghost use Rattle.words.specs.Places.{removeAt};
 ghost use Rattle.book.specs.Keys.{keyOf, CreditFits, ReferenceInRange, RequestInRange};
 ghost use Rattle.book.specs.Meaning.{dayIn, rateIn, ledgerOf, holdingsOf, waitingOf, requestsOf};
-ghost use Rattle.book.specs.Stored.{Stored, Becomes, HoldingsBecome, WaitingBecomes, RequestsBecome, withSecurity};
+ghost use Rattle.book.specs.Stored.{Stored, Becomes, HoldingsBecome, WaitingBecomes, RequestsBecome, withSecurity, entered, left};
 ghost use Rattle.book.specs.Fresh.{Freshened};
 use rulebook::Account;
 use rulebook::Cents;
@@ -30,7 +29,7 @@ const DAY: usize = 0;
 
 const SECURITIES: usize = DAY + 8;
 
-const ACCOUNTS: usize = SECURITIES + 97;
+const ACCOUNTS: usize = SECURITIES + 129;
 
 const CASH: usize = ACCOUNTS + 513;
 
@@ -115,14 +114,6 @@ pub fn key_of(account: Account) -> u64
     ensures { λ r. ⌜ r ≡ keyOf account ⌝ }
 {
     accounts::key_of(account)
-}
-
-// Held: the sum of a security's accounts.
-pub fn held(book: &[u64], security: u64) -> Shares
-    requires { ⌜ Stored (now book) × (Ledger.held security (holdingsOf (now book)) < 2 ^ 64) ⌝ }
-    ensures { λ r. ⌜ r .0 ≡ Ledger.held security (holdingsOf (now (book .entry))) ⌝ }
-{
-    accounts::held(&book[ACCOUNTS..CASH], security)
 }
 
 // More in the account.
@@ -278,6 +269,14 @@ pub fn outside(book: &[u64], security: u64) -> Shares
     securities::outside(&book[SECURITIES..ACCOUNTS], security)
 }
 
+// The security's held count.
+pub fn held(book: &[u64], security: u64) -> Shares
+    requires { ⌜ Stored (now book) ⌝ }
+    ensures { λ r. ⌜ r .0 ≡ heldOf security (holdingsOf (now (book .entry))) ⌝ }
+{
+    securities::held(&book[SECURITIES..ACCOUNTS], security)
+}
+
 // The security is admitted, all of it outside.
 pub fn admit(book: &mut [u64], security: u64, quantity: Shares)
     requires { ⌜ Stored (now book) × (length (holdingsOf (now book) .securities) < 32) × (admitted security (holdingsOf (now book)) ≡ false) ⌝ }
@@ -286,20 +285,24 @@ pub fn admit(book: &mut [u64], security: u64, quantity: Shares)
     securities::admit(&mut book[SECURITIES..ACCOUNTS], security, quantity);
 }
 
-// More of the security outside.
-pub fn credit_outside(book: &mut [u64], security: u64, quantity: Shares)
-    requires { ⌜ Stored (now book) × (outsideOf security (holdingsOf (now book)) + quantity .0 < 2 ^ 64) ⌝ }
-    ensures { λ u. ⌜ HoldingsBecome (movements.credit (movements.type91 security) (quantity .0)) (now (book .entry)) (now (book .exit)) ⌝ }
+// Shares of the security come into custody: less of it outside, more of it held.
+pub fn enter_custody(book: &mut [u64], security: u64, quantity: Shares)
+    requires { ⌜
+        Stored (now book) × (quantity .0 ≤ outsideOf security (holdingsOf (now book))) × (heldOf security (holdingsOf (now book)) + quantity .0 < 2 ^ 64)
+        ⌝ }
+    ensures { λ u. ⌜ HoldingsBecome (entered security (quantity .0)) (now (book .entry)) (now (book .exit)) ⌝ }
 {
-    securities::credit_outside(&mut book[SECURITIES..ACCOUNTS], security, quantity);
+    securities::enter_custody(&mut book[SECURITIES..ACCOUNTS], security, quantity);
 }
 
-// Less of the security outside.
-pub fn debit_outside(book: &mut [u64], security: u64, quantity: Shares)
-    requires { ⌜ Stored (now book) × (quantity .0 ≤ outsideOf security (holdingsOf (now book))) ⌝ }
-    ensures { λ u. ⌜ HoldingsBecome (movements.debit (movements.type91 security) (quantity .0)) (now (book .entry)) (now (book .exit)) ⌝ }
+// Shares of the security leave custody: more of it outside, less of it held.
+pub fn leave_custody(book: &mut [u64], security: u64, quantity: Shares)
+    requires { ⌜
+        Stored (now book) × (outsideOf security (holdingsOf (now book)) + quantity .0 < 2 ^ 64) × (quantity .0 ≤ heldOf security (holdingsOf (now book)))
+        ⌝ }
+    ensures { λ u. ⌜ HoldingsBecome (left security (quantity .0)) (now (book .entry)) (now (book .exit)) ⌝ }
 {
-    securities::debit_outside(&mut book[SECURITIES..ACCOUNTS], security, quantity);
+    securities::leave_custody(&mut book[SECURITIES..ACCOUNTS], security, quantity);
 }
 
 // ---- the rate

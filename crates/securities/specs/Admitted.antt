@@ -3,23 +3,27 @@ use Prim.Native.Nat.{ℕ, _+_, _≤_}
 use mathlib.Core.List.{List}
 use mathlib.Core.Path.{_≡_}
 use lib.ListN.{length, getD}
-use Rattle.rulebook.specs.Ledger.{Holdings, newSecurity, withOutside}
+use Rattle.rulebook.specs.Ledger.{Holdings, newSecurity, withOutside, withHeld}
+use Rattle.rulebook.specs.Movements.{type91, credit, debit, addHeld, takeHeld}
 use Rattle.rulebook.specs.declared.Security.{Security}
 use Rattle.words.specs.Places.{listFrom}
 use Rattle.words.specs.Tables.{rows, keyAt, KeysOnce}
 
--- where the issued counts and the outside counts start
+-- where the issued counts, the outside counts and the held counts start
 abbrev pub ISSUED : ℕ
 ISSUED = 33
 
 abbrev pub OUTSIDE : ℕ
 OUTSIDE = 65
 
-abbrev pub security : (code issued outside : ℕ) → Security
-security code issued outside = withOutside outside (newSecurity code (record { 0 = issued }))
+abbrev pub HELD : ℕ
+HELD = 97
+
+abbrev pub security : (code issued outside held : ℕ) → Security
+security code issued outside held = withHeld held (withOutside outside (newSecurity code (record { 0 = issued })))
 
 abbrev pub securityAt : List ℕ → ℕ → Security
-securityAt s i = security (keyAt s i) (getD s (i + ISSUED) 0) (getD s (i + OUTSIDE) 0)
+securityAt s i = security (keyAt s i) (getD s (i + ISSUED) 0) (getD s (i + OUTSIDE) 0) (getD s (i + HELD) 0)
 
 -- the securities in order of admission
 unfoldable pub securitiesOf : List ℕ → List Security
@@ -29,8 +33,15 @@ securitiesOf s = listFrom (securityAt s) 0 (rows s)
 abbrev pub withSecurities : List ℕ → Holdings → Holdings
 withSecurities s h = record { securities = securitiesOf s; balance = h.balance; accounts = h.accounts; cash = h.cash }
 
+-- shares of a security come into custody: less of it is outside, more is held; and they leave it
+abbrev pub entered : (code n : ℕ) → Holdings → Holdings
+entered code n h = addHeld code n (debit (type91 code) n h)
+
+abbrev pub left : (code n : ℕ) → Holdings → Holdings
+left code n h = takeHeld code n (credit (type91 code) n h)
+
 -- kept true: room for as many securities as there are, no code twice
 pub record Kept (s : List ℕ) : Type 0 where
-  pub long : length s ≡ 97
+  pub long : length s ≡ 129
   pub size : rows s ≤ 32
   pub once : KeysOnce s

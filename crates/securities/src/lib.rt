@@ -1,13 +1,12 @@
-// The securities of a book, as 97 words: how many there are, 32 codes, 32 issued counts, 32 outside counts, in order of admission.
+// The securities of a book, as 129 words: how many there are, 32 codes, 32 issued counts, 32 outside counts, 32 held counts, in order of admission.
 ghost use mathlib.Core.Path.{_≡_};
 ghost use mathlib.Core.Bool.{false};
 ghost use mathlib.Core.List.{_++_, _∷_, []};
 ghost use Prim.Native.Nat.{_+_, _^_, _≤_, _<_};
 ghost use lib.ListN.{getD};
-ghost use Rattle.rulebook.specs.Ledger.{Holdings, admitted, outsideOf};
-ghost use Rattle.rulebook.specs.Movements as movements;
+ghost use Rattle.rulebook.specs.Ledger.{Holdings, admitted, outsideOf, heldOf, newSecurity, withOutside};
 ghost use Rattle.words.specs.Tables.{rows};
-ghost use Rattle.securities.specs.Admitted.{securitiesOf, withSecurities, Kept};
+ghost use Rattle.securities.specs.Admitted.{securitiesOf, withSecurities, entered, left, Kept};
 use rulebook::Security;
 use rulebook::Shares;
 use words::Found;
@@ -15,6 +14,8 @@ use words::Found;
 const ISSUED: usize = 33;
 
 const OUTSIDE: usize = 65;
+
+const HELD: usize = 97;
 
 // Whether the security is admitted.
 pub fn admitted(securities: &[u64], code: u64) -> bool
@@ -37,6 +38,7 @@ pub fn security_at(securities: &[u64], i: usize) -> Security
         code: securities[i + 1],
         issued: Shares(securities[i + ISSUED]),
         outside: Shares(securities[i + OUTSIDE]),
+        held: Shares(securities[i + HELD]),
     }
 }
 
@@ -48,13 +50,20 @@ pub fn outside(securities: &[u64], code: u64) -> Shares
     Shares(words::value(securities, code, OUTSIDE))
 }
 
+// The security's held count.
+pub fn held(securities: &[u64], code: u64) -> Shares
+    requires { ⌜ Kept (now securities) ⌝ }
+    ensures { λ r. ⌜ ((h : Holdings) → r .0 ≡ heldOf code (withSecurities (now (securities .entry)) h)) ⌝ }
+{
+    Shares(words::value(securities, code, HELD))
+}
+
 // The security goes last, all of it outside.
 pub fn admit(securities: &mut [u64], code: u64, quantity: Shares)
     requires { ⌜ Kept (now securities) × (rows (now securities) < 32) × ((h : Holdings) → admitted code (withSecurities (now securities) h) ≡ false) ⌝ }
     ensures { λ u. ⌜
         Kept (now (securities .exit))
-        ×
-        (securitiesOf (now (securities .exit)) ≡ securitiesOf (now (securities .entry)) ++ (record { code = code; issued = quantity; outside = quantity } ∷ []))
+        × (securitiesOf (now (securities .exit)) ≡ securitiesOf (now (securities .entry)) ++ (withOutside (quantity .0) (newSecurity code quantity) ∷ []))
         ⌝ }
 {
     let n = securities[0];
@@ -62,44 +71,51 @@ pub fn admit(securities: &mut [u64], code: u64, quantity: Shares)
     securities[at + 1] = code;
     securities[at + ISSUED] = quantity.0;
     securities[at + OUTSIDE] = quantity.0;
+    securities[at + HELD] = 0;
     securities[0] = n + 1;
 }
 
-// More of the security outside.
-pub fn credit_outside(securities: &mut [u64], code: u64, quantity: Shares)
-    requires { ⌜ Kept (now securities) × ((h : Holdings) → outsideOf code (withSecurities (now securities) h) + quantity .0 < 2 ^ 64) ⌝ }
+// Shares of the security come into custody: less of it outside, more of it held.
+pub fn enter_custody(securities: &mut [u64], code: u64, quantity: Shares)
+    requires { ⌜
+        Kept (now securities) × ((h : Holdings) → quantity .0 ≤ outsideOf code (withSecurities (now securities) h))
+        × ((h : Holdings) → heldOf code (withSecurities (now securities) h) + quantity .0 < 2 ^ 64)
+        ⌝ }
     ensures { λ u. ⌜
         Kept (now (securities .exit))
-        ×
-        ((h : Holdings) → withSecurities (now (securities .exit)) h
-        ≡ movements.credit (movements.type91 code) (quantity .0) (withSecurities (now (securities .entry)) h))
+        × ((h : Holdings) → withSecurities (now (securities .exit)) h ≡ entered code (quantity .0) (withSecurities (now (securities .entry)) h))
         ⌝ }
 {
     let found = words::find(securities, code);
     match found {
         Found::At(i) => {
-            let now = securities[i + OUTSIDE];
-            securities[i + OUTSIDE] = now + quantity.0;
+            let outside = securities[i + OUTSIDE];
+            securities[i + OUTSIDE] = outside - quantity.0;
+            let held = securities[i + HELD];
+            securities[i + HELD] = held + quantity.0;
         }
         Found::Nothing => {}
     }
 }
 
-// Less of the security outside.
-pub fn debit_outside(securities: &mut [u64], code: u64, quantity: Shares)
-    requires { ⌜ Kept (now securities) × ((h : Holdings) → quantity .0 ≤ outsideOf code (withSecurities (now securities) h)) ⌝ }
+// Shares of the security leave custody: more of it outside, less of it held.
+pub fn leave_custody(securities: &mut [u64], code: u64, quantity: Shares)
+    requires { ⌜
+        Kept (now securities) × ((h : Holdings) → outsideOf code (withSecurities (now securities) h) + quantity .0 < 2 ^ 64)
+        × ((h : Holdings) → quantity .0 ≤ heldOf code (withSecurities (now securities) h))
+        ⌝ }
     ensures { λ u. ⌜
         Kept (now (securities .exit))
-        ×
-        ((h : Holdings) → withSecurities (now (securities .exit)) h
-        ≡ movements.debit (movements.type91 code) (quantity .0) (withSecurities (now (securities .entry)) h))
+        × ((h : Holdings) → withSecurities (now (securities .exit)) h ≡ left code (quantity .0) (withSecurities (now (securities .entry)) h))
         ⌝ }
 {
     let found = words::find(securities, code);
     match found {
         Found::At(i) => {
-            let now = securities[i + OUTSIDE];
-            securities[i + OUTSIDE] = now - quantity.0;
+            let outside = securities[i + OUTSIDE];
+            securities[i + OUTSIDE] = outside + quantity.0;
+            let held = securities[i + HELD];
+            securities[i + HELD] = held - quantity.0;
         }
         Found::Nothing => {}
     }

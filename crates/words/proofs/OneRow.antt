@@ -109,10 +109,10 @@ module _
       key-other : (k : ℕ) → k < w → k ≢ i → keyAt r k ≡ keyAt a k
       key-other k l d = shown k 1 (omega arith) ∙ row-other w i inside row 1 a apart 0 (omega arith) k l d
 
-      value-here : getD r (i + c) 0 ≡ wordOf row m
+      pub value-here : getD r (i + c) 0 ≡ wordOf row m
       value-here = shown i c behind ∙ row-stored w i inside row 1 a apart m known (omega arith)
 
-      value-other : (k : ℕ) → k < w → k ≢ i → getD r (k + c) 0 ≡ getD a (k + c) 0
+      pub value-other : (k : ℕ) → k < w → k ≢ i → getD r (k + c) 0 ≡ getD a (k + c) 0
       value-other k l d = shown k c behind ∙ row-other w i inside row 1 a apart m known k l d
 
     -- behind the last

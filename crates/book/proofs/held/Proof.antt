@@ -1,17 +1,12 @@
 -- `book::held` meets its contract. Assumes nothing.
 use borrow.Author.Needs.{needs}
-use Rattle.rulebook.specs.Ledger.{held}
 use Rattle.book.specs.Meaning.{holdingsOf}
 use Rattle.book.proofs.held.Statement.{statement}
 use Rattle.book.proofs.held.Tie as tie
-
-held-requires : tie.Need-held-requires
-unfolding holdingsOf held
-held-requires c κs = let s = c .before .before in (s .pre .0 .parts .accounts, λ h. s .pre .1)
 
 returns : tie.Need-returns
 unfolding holdingsOf
 returns c = c .held .ensures (holdingsOf (c .before .before .before .args .book .now))
 
 pub held-spec : {M : Type 1} → statement M
-held-spec = tie.close (tie.spec (λ c. search needs) (λ c. search needs) (λ c. search needs) held-requires returns)
+held-spec = tie.close (tie.spec (λ c. search needs) (λ c. search needs) (λ c. search needs) (λ c κs. search needs) returns)

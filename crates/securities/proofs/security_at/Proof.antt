@@ -5,10 +5,10 @@ use Rattle.securities.proofs.security_at.Statement.{statement}
 use Rattle.securities.proofs.security_at.Tie as tie
 
 returns : tie.Need-returns
-returns c = let s = c .before .before .before in λ d. security-there (s .args .securities .now) (s .args .i) d (s .pre .1)
+returns c = let s = c .before .before .before .before in λ d. security-there (s .args .securities .now) (s .args .i) d (s .pre .1)
 
 pub security-at-spec : {M : Type 1} → statement M
 security-at-spec =
     tie.close
     (tie.spec (λ c. search needs) (λ c. search needs) (λ c. search needs) (λ c. search needs) (λ c. search needs) (λ c. search needs) (λ c. search needs)
-    (λ c. search needs) (λ c. search needs) returns)
+    (λ c. search needs) (λ c. search needs) (λ c. search needs) (λ c. search needs) (λ c. search needs) returns)

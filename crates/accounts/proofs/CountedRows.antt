@@ -1,37 +1,27 @@
--- The rows are balances put one after the other into the holdings of the fresh book: so their sum is what is held, and their number is that of the accounts
--- with a balance. Assumes nothing.
+-- The rows are balances put one after the other into the holdings of the fresh book: so their number is that of the accounts with a balance. Assumes nothing.
 use Prim.Native.Nat.{ℕ, zero, suc, _+_, _-_, _^_, _≤_, _<_}
 use native.Mathlib.Omega.{arith}
 use mathlib.Core.Bool.{Bool, true, false}
 use mathlib.Core.List.{List, []}
-use mathlib.Core.Path.{_≡_, refl, sym, ap, _∙_, fun-ext, subst}
-use borrow.Author.Tests.{eqb-true, eqb-false, eq-eqb, ne-eqb, ltb-true}
+use mathlib.Core.Path.{_≡_, refl, sym, ap, _∙_, fun-ext}
+use borrow.Author.Tests.{eqb-true, ne-eqb, ltb-true}
 use Rattle.plain.specs.Lists.{if_then_else_, _is_, _below_, sumBelow}
-use Rattle.plain.proofs.Sums.{sum-none, sum-suc, sum-last, sum-least, sum-grows}
-use Rattle.rulebook.specs.Ledger.{Holdings, fresh, counted, putBalance, sameAccount, held}
+use Rattle.plain.proofs.Sums.{sum-none, sum-suc, sum-least}
+use Rattle.rulebook.specs.Ledger.{Holdings, fresh, counted, putBalance, sameAccount}
 use Rattle.rulebook.specs.Premise.{accountCount}
 use Rattle.rulebook.specs.declared.Account.{Account}
-use Rattle.rulebook.proofs.Held.{held-put, held-put-other, accounts-put}
-use Rattle.rulebook.proofs.Sums.{none-held}
+use Rattle.rulebook.proofs.Held.{accounts-put}
 use Rattle.rulebook.proofs.Sizes.{counted-some, counted-none}
 use Rattle.rulebook.proofs.EveryCall.{fresh-premise}
 use Rattle.rulebook.specs.Ranges.{AccountInRange}
 use Rattle.words.specs.Tables.{rows, keyAt, sumOf, valueOf}
 use Rattle.words.proofs.Tables.{key-once}
-use Rattle.accounts.specs.Keys.{keyOf, securityOf, inRange}
+use Rattle.accounts.specs.Keys.{keyOf, inRange}
 use Rattle.accounts.specs.Map.{balanceAt, balanceOf, withAccounts, Kept}
 use Rattle.accounts.proofs.Keys.{range-true, range-holds, account-range, key-back, key-test, other-range, accountOf}
 use Rattle.accounts.proofs.Rows.{balance-some}
 
--- what is held, and how many accounts have a balance, goes by the balances alone
-same-held : (s : ℕ) (h k : Holdings) → h.balance ≡ k.balance → held s h ≡ held s k
-unfolding held
-same-held s h k e =
-    ap
-    (λ (b : Account → ℕ). sumBelow (2 ^ 10) λ member. sumBelow (2 ^ 8) λ typ. sumBelow (2 ^ 30) λ shareholder. b
-    (record { security = s; member = member; typ = typ; shareholder = shareholder }))
-    e
-
+-- how many accounts have a balance goes by the balances alone
 same-count : (h k : Holdings) → h.balance ≡ k.balance → accountCount h ≡ accountCount k
 unfolding accountCount
 same-count h k e =
@@ -39,13 +29,6 @@ same-count h k e =
     (λ (b : Account → ℕ). sumBelow (2 ^ 14) λ security. sumBelow (2 ^ 10) λ member. sumBelow (2 ^ 8) λ typ. sumBelow (2 ^ 30) λ shareholder. counted
     (b (record { security = security; member = member; typ = typ; shareholder = shareholder })))
     e
-
--- the sum of a security's balances in the first m rows
-abbrev pub heldTo : List ℕ → (security m : ℕ) → ℕ
-heldTo a s m = sumBelow m (λ i. if securityOf (keyAt a i) is s then balanceAt a i else 0)
-
-pub held-none : (a : List ℕ) (s : ℕ) → 0 ≡ heldTo a s 0
-held-none a s = sym (sum-none 0 _ (λ i l. absurd (omega arith)))
 
 module _ (a : List ℕ) (kept : Kept a) where
   -- the holdings of the first m rows
@@ -128,31 +111,8 @@ module _ (a : List ℕ) (kept : Kept a) where
             go true e = same (range-holds other e) (sameAccount own other) refl
             go false e = rw (other-range own other range e)
 
-    held-more : (s : ℕ) → held s (first (suc m)) ≡ held s (first m) + (if securityOf (keyAt a m) is s then balanceAt a m else 0)
-    unfolding own
-    held-more s = ap (held s) first-more ∙ go (securityOf (keyAt a m) is s) refl
-      where
-        go :
-            (b : Bool) → (securityOf (keyAt a m) is s) ≡ b → held s (putBalance own (balanceAt a m) (first m))
-            ≡ held s (first m) + (if b then balanceAt a m else 0)
-        go true e =
-            let p : held own.security (putBalance own (balanceAt a m) (first m)) + first m .balance own ≡ held own.security (first m) + balanceAt a m =
-            held-put (first m) own (balanceAt a m) range.member range.typ range.shareholder in
-            let q : own.security ≡ s = eqb-true (securityOf (keyAt a m)) s e in
-            let r : held s (putBalance own (balanceAt a m) (first m)) + first m .balance own ≡ held s (first m) + balanceAt a m =
-            subst (λ (x : ℕ). held x (putBalance own (balanceAt a m) (first m)) + first m .balance own ≡ held x (first m) + balanceAt a m) q p
-            in
-            omega (arith, r, own-none)
-        go false e = held-put-other (first m) own (balanceAt a m) s (λ q. eqb-false (securityOf (keyAt a m)) s e (sym q)) ∙ omega arith
-
     counted-more : first m .accounts ≡ accountCount (first m) → first (suc m) .accounts ≡ accountCount (first (suc m))
     counted-more e = rw first-more (accounts-put (first m) own (balanceAt a m) range.security range.member range.typ range.shareholder e)
-
-  held-to : (s m : ℕ) → m ≤ rows a → heldTo a s m ≡ held s (first m)
-  held-to s zero l = sym (held-none a s) ∙ sym (ap (held s) first-none ∙ none-held s)
-  held-to s (suc m) l =
-      sum-suc m _ ∙ ap (λ (x : ℕ). x + (if securityOf (keyAt a m) is s then balanceAt a m else 0)) (held-to s m (omega arith))
-      ∙ sym (held-more m (omega arith) s)
 
   counted-to : (m : ℕ) → m ≤ rows a → first m .accounts ≡ accountCount (first m)
   counted-to zero l = rw first-none (fresh-premise .counted)
@@ -162,29 +122,7 @@ module _ (a : List ℕ) (kept : Kept a) where
   unfolding first sum-to balanceOf valueOf sumOf
   same-balances h = refl
 
-  -- what the rows of a security sum up to is what is held of it
-  pub rows-held : (s : ℕ) (h : Holdings) → heldTo a s (rows a) ≡ held s (withAccounts a h)
-  rows-held s h = held-to s (rows a) (omega arith) ∙ same-held s (first (rows a)) (withAccounts a h) (same-balances h)
-
   -- there are as many rows as accounts with a balance
   pub rows-counted : (h : Holdings) → rows a ≡ accountCount (withAccounts a h)
   unfolding first
   rows-counted h = counted-to (rows a) (omega arith) ∙ same-count (first (rows a)) (withAccounts a h) (same-balances h)
-
-  -- ---- the sum so far
-
-  module _ (s i : ℕ) (low : i < rows a) (sum : ℕ) (so-far : sum ≡ heldTo a s i) where
-    pub held-taken : securityOf (keyAt a i) ≡ s → sum + balanceAt a i ≡ heldTo a s (i + 1)
-    held-taken e =
-        let t : (if securityOf (keyAt a i) is s then balanceAt a i else 0)
-        ≡ balanceAt a i = rw (eq-eqb (securityOf (keyAt a i)) s e) in omega
-        (arith, t, sum-last i (λ k. if securityOf (keyAt a k) is s then balanceAt a k else 0))
-
-    pub held-left : (securityOf (keyAt a i) ≡ s → ⊥) → sum ≡ heldTo a s (i + 1)
-    held-left d =
-        let t : (if securityOf (keyAt a i) is s then balanceAt a i else 0)
-        ≡ 0 = rw (ne-eqb (securityOf (keyAt a i)) s d) in omega (arith, t, sum-last i (λ k. if securityOf (keyAt a k) is s then balanceAt a k else 0))
-
-    pub held-fits : (h : Holdings) → securityOf (keyAt a i) ≡ s → sum + balanceAt a i ≤ held s (withAccounts a h)
-    held-fits h e =
-        omega (arith, held-taken e, sum-grows (i + 1) (rows a) (λ k. if securityOf (keyAt a k) is s then balanceAt a k else 0) (omega arith), rows-held s h)
