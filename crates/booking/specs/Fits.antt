@@ -4,7 +4,7 @@ use mathlib.Core.Bool.{false, _&&_}
 use mathlib.Core.Path.{_≡_}
 use lib.ListN.{length}
 use Rattle.plain.specs.Lists.{_is_, _isNot_, _below_}
-use Rattle.rulebook.specs.Ledger.{Ledger, sameAccount, outsideOf}
+use Rattle.rulebook.specs.Ledger.{Ledger, sameAccount, outsideOf, heldOf}
 use Rattle.rulebook.specs.Ranges.{AccountInRange}
 use Rattle.rulebook.specs.declared.Account.{Account}
 
@@ -25,3 +25,4 @@ pub record LeaveFits (b : Ledger) (from : Account) (quantity : ℕ) : Type 0 whe
   pub some : 1 ≤ quantity
   pub enough : quantity ≤ b.holdings.balance from
   pub word : outsideOf from.security b.holdings + quantity < 2 ^ 64
+  pub held : quantity ≤ heldOf from.security b.holdings

@@ -41,7 +41,7 @@ pub fn leave(book: &mut [u64], area: &mut [u8], from: Account, quantity: Shares)
         ⌝ }
 {
     let outside = parties::outside_account(from.security);
-    book::credit_outside(book, from.security, quantity);
+    book::leave_custody(book, from.security, quantity);
     book::debit(book, from, quantity);
     rows::write_shares(area, from, outside, quantity);
     rows::two_rows()

@@ -1,21 +1,21 @@
 -- What is known of a book and an order that no refusal applies to, as the book's functions ask for it. Assumes nothing.
 use Prim.Native.Nat.{ℕ, _+_, _≤_, _<_, _^_}
 use mathlib.Core.Path.{_≡_, refl, sym, _∙_}
-use mathlib.Core.Bool.{false, _&&_}
+use mathlib.Core.Bool.{false}
 use mathlib.Core.List.{List}
 use native.Mathlib.Omega.{arith}
 use lib.ListN.{length}
 use borrow.Author.Tests.{ltb-false, eq-eqb, le-leb}
 use Rattle.plain.proofs.Tests.{not-second}
 use Rattle.plain.specs.Lists.{_is_, _below_}
-use Rattle.rulebook.specs.Ledger.{Ledger, accountOf, sameAccount, admitted, outsideOf}
+use Rattle.rulebook.specs.Ledger.{Ledger, accountOf, sameAccount, admitted, outsideOf, heldOf}
 use Rattle.rulebook.specs.Premise.{CashFits}
 use Rattle.rulebook.specs.Field as Field
 use Rattle.rulebook.specs.Forms.{forms, rowOf, used, least}
 use Rattle.rulebook.specs.declared.Account.{Account}
 use Rattle.rulebook.specs.declared.Order.{Order}
 use Rattle.rulebook.proofs.Orders.{little-parts, debit-enough, not-admitted, needed}
-use Rattle.rulebook.proofs.Bounds.{balance-fits, outside-fits, cash-fits}
+use Rattle.rulebook.proofs.Bounds.{balance-fits, balance-counted, count-fits, outside-fits, cash-fits}
 use Rattle.rulebook.proofs.Space.{admit-space, deposit-space, transfer-space, sides-apart}
 use Rattle.accounts.specs.Map.{CreditFits}
 use Rattle.rows.specs.Widths as rows
@@ -58,6 +58,10 @@ module _ (book : List ℕ) (o : Order) (g : Given book o) where
   pub deposit-enough : o.form ≡ 3 → o.quantity.0 ≤ outsideOf o.security b.holdings
   deposit-enough e = ltb-false _ _ (not-second _ _ (little-parts b o (known g .little) .0) (eq-eqb o.form 3 e))
 
+  -- none of it can pass what was issued
+  pub deposit-held : heldOf o.security b.holdings + o.quantity.0 < 2 ^ 64
+  deposit-held = omega (arith, count-fits b g.kept.premise o.security, fits o g.read .quantity)
+
   pub deposit-fits : o.form ≡ 3 → CreditFits to (b.holdings.balance to) b.holdings.accounts o.quantity.0
   deposit-fits e =
       let l : 3 ≤ o.form = omega (arith, e) in
@@ -78,6 +82,7 @@ module _ (book : List ℕ) (o : Order) (g : Given book o) where
     some = some-quantity o g.read (omega (arith, e)) (omega (arith, e));
     enough = debit-enough b o (known g .little) (rw e);
     word = omega (arith, outside-fits b g.kept.premise o.security, fits o g.read .quantity);
+    held = omega (arith, debit-enough b o (known g .little) (rw e), balance-counted b g.kept.premise from);
   })
 
   -- ---- forms 5 to 9

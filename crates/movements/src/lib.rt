@@ -28,7 +28,7 @@ pub fn deposit(book: &mut [u64], order: Order, area: &mut [u8]) -> Counts
     let outside = parties::outside_account(order.security);
     let to = parties::account_of(order.security, order.credited);
     book::credit(book, to, order.quantity);
-    book::debit_outside(book, order.security, order.quantity);
+    book::enter_custody(book, order.security, order.quantity);
     rows::write_shares(area, outside, to, order.quantity);
     rows::two_rows()
 }

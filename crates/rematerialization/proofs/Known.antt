@@ -14,7 +14,7 @@ use Rattle.rulebook.specs.Premise.{RequestFits}
 use Rattle.rulebook.specs.declared.Account.{Account}
 use Rattle.rulebook.specs.declared.Order.{Order}
 use Rattle.rulebook.specs.declared.Request.{Request}
-use Rattle.rulebook.proofs.Bounds.{balance-fits, outside-fits}
+use Rattle.rulebook.proofs.Bounds.{balance-fits, outside-fits, balance-counted}
 use Rattle.rulebook.proofs.Orders.{debit-enough, needed, not-open, is-ended, fewer-open}
 use Rattle.rulebook.proofs.Space.{request-space, request-apart, ending-space, ending-apart}
 use Rattle.requests.specs.Packed.{ReferenceInRange, RequestInRange}
@@ -115,6 +115,7 @@ module _ (book : List ℕ) (o : Order) (g : Given book o) where
       some = some-open;
       enough = covers;
       word = omega (arith, outside-fits b g.kept.premise (ended .security), request .quantity);
+      held = omega (arith, covers, balance-counted b g.kept.premise awaiting);
     })
 
     -- and go to a type of paper

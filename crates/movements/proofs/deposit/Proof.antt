@@ -1,18 +1,16 @@
 -- `movements::deposit` meets its contract. Assumes nothing.
-use mathlib.Core.Path.{refl, sym, subst}
+use mathlib.Core.Path.{sym, subst}
 use native.Mathlib.Omega.{arith}
 use borrow.Author.Needs.{needs}
-use Rattle.rulebook.specs.Movements.{account, type91}
-use Rattle.rulebook.specs.Rows.{postingRows, postingOf}
-use Rattle.rulebook.specs.Forms.{deposit}
+use Rattle.rulebook.specs.Movements.{credit}
 use Rattle.rulebook.specs.declared.Account.{Account}
 use Rattle.rulebook.specs.Ranges.{AccountInRange}
 use Rattle.accounts.specs.Map.{CreditFits}
 use Rattle.book.specs.Meaning.{ledgerOf}
 use Rattle.checking.proofs.Orders.{fits, credited-named}
-use Rattle.movements.proofs.Known.{deposit-fits, deposit-enough}
-use Rattle.booking.proofs.Moved.{outside-row, between}
-use Rattle.movements.proofs.Moved.{outside-kept}
+use Rattle.movements.proofs.Known.{deposit-fits, deposit-enough, deposit-held}
+use Rattle.booking.proofs.Moved.{outside-row}
+use Rattle.movements.proofs.Moved.{did-deposit, counts-kept}
 use Rattle.movements.proofs.deposit.Statement.{statement}
 use Rattle.movements.proofs.deposit.Tie as tie
 
@@ -22,10 +20,10 @@ start c = c .before .before .before .before
 abbrev to : tie.After-credit → tie.After-account-of
 to c = c .before .before
 
-abbrev credited : tie.After-debit-outside → tie.After-credit
+abbrev credited : tie.After-enter-custody → tie.After-credit
 credited c = c .before .before .before .before
 
-abbrev debited : tie.After-write-shares-arg → tie.After-debit-outside
+abbrev debited : tie.After-write-shares-arg → tie.After-enter-custody
 debited c = c .before .before .before
 
 credit-requires : tie.Need-credit-requires
@@ -37,12 +35,15 @@ credit-requires c κs =
           (deposit-fits _ _ (s .pre .0 .given) (s .pre .1)),
     )
 
-debit-outside-requires : tie.Need-debit-outside-requires
-debit-outside-requires c κs =
+enter-custody-requires : tie.Need-enter-custody-requires
+enter-custody-requires c κs =
     let credited = c .before .before .before in
     let s = start (to credited) in
-    let same = outside-kept (ledgerOf (s .args .book .now)) _ _ _ (s .args .order .security) (credited .credit .ensures) in
-    (credited .credit .ensures .stored, rw same (deposit-enough _ _ (s .pre .0 .given) (s .pre .1)))
+    let same = counts-kept (ledgerOf (s .args .book .now)) _ _ _ (s .args .order .security) (credited .credit .ensures) in (
+      credited .credit .ensures .stored,
+      rw (same .0) (deposit-enough _ _ (s .pre .0 .given) (s .pre .1)),
+      rw (same .1) (deposit-held _ _ (s .pre .0 .given)),
+    )
 
 write-shares-requires : tie.Need-write-shares-requires
 write-shares-requires c κs =
@@ -54,16 +55,14 @@ write-shares-requires c κs =
     )
 
 returns : tie.Need-returns
-unfolding deposit postingRows postingOf
 returns c =
     let wrote = c .before .before .before in
     let debited = debited (wrote .before) in
     let credited = credited debited in
     let to = to credited in
-    let order = start to .args .order in
-    between (ledgerOf (start to .args .book .now)) (c .two-rows .ensures) (λ a. type91 (order .security)) account (order .quantity .0)
-    (to .before .outside-account .ensures) (to .account-of .ensures) refl
-    (credited .credit .ensures) (debited .debit-outside .ensures) (wrote .write-shares .ensures)
+    let s = start to in
+    did-deposit (ledgerOf (s .args .book .now)) (s .args .order) (c .two-rows .ensures) (credited .credit .ensures) (debited .enter-custody .ensures)
+    (to .before .outside-account .ensures) (to .account-of .ensures) (wrote .write-shares .ensures)
 
 pub deposit-spec : {M : Type 1} → statement M
 deposit-spec =
@@ -72,7 +71,7 @@ deposit-spec =
     (λ c κs. search needs)
     (λ c κs. search needs)
     credit-requires
-    debit-outside-requires
+    enter-custody-requires
     write-shares-requires
     (λ c κs. search needs)
     (λ c. search needs)

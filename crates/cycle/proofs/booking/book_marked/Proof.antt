@@ -1,11 +1,13 @@
 -- `cycle::booking::book_marked` meets its contract. Assumes nothing.
-use mathlib.Core.Path.{sym, subst}
+use mathlib.Core.Path.{sym, ap, subst}
 use borrow.Author.Needs.{needs}
-use Rattle.rulebook.specs.Ledger.{Ledger, putHoldings}
-use Rattle.rulebook.specs.Movements.{debits, booked}
+use Rattle.rulebook.specs.Ledger.{Ledger, Holdings, putHoldings}
+use Rattle.rulebook.specs.Movements.{credits, debits, booked}
 use Rattle.rulebook.specs.Cycle.{withMark, legs}
+use Rattle.rulebook.proofs.Steps.Settling.{legs-inside}
 use Rattle.book.specs.Meaning.{ledgerOf}
 use Rattle.book.proofs.Parts.{next}
+use Rattle.book.proofs.Handled.{means-so}
 use Rattle.marks.specs.Marks.{markedOf}
 use Rattle.cycle.specs.Booking.{Covered}
 use Rattle.cycle.proofs.Walking.{covered}
@@ -33,9 +35,14 @@ returns : tie.Need-returns
 unfolding putHoldings booked
 returns c =
     let k = c .before .before in
-    let marks = entry (credited k) .args .marks in
-    next (λ x. putHoldings (debits (legs (withMark (markedOf marks (x .waiting)))) (x .holdings)) x) (credited k .credit-marked .ensures)
-    (k .debit-marked .ensures)
+    let s = entry (credited k) in
+    let b = ledgerOf (s .args .book .now) in
+    let trades = withMark (markedOf (s .args .marks) (b .waiting)) in
+    means-so _ _ _
+    (next (λ x. putHoldings (debits (legs (withMark (markedOf (s .args .marks) (x .waiting)))) (x .holdings)) x) (credited k .credit-marked .ensures)
+    (k .debit-marked .ensures))
+    -- trades change no held count
+    (ap (λ (h : Holdings). putHoldings h b) (sym (legs-inside trades (debits (legs trades) (credits (legs trades) (b .holdings))))))
 
 pub book-marked-spec : {M : Type 1} → statement M
 book-marked-spec = tie.close (tie.spec (λ c κs. search needs) debit-marked-requires (λ c. search needs) returns)
