@@ -26,7 +26,7 @@
 extern "C" {
 #endif
 
-#define DEPOSITORY_BOOK_WORDS 1821u
+#define DEPOSITORY_BOOK_WORDS 1853u
 #define DEPOSITORY_RECORD_BYTES 40u
 #define DEPOSITORY_AREA_BYTES 4096u
 #define DEPOSITORY_ROW_BYTES 16u
@@ -189,13 +189,14 @@ uint64_t depository_rate(const uint64_t *book, size_t book_words,
 uint64_t depository_sizes(const uint64_t *book, size_t book_words,
                           uint64_t *values, size_t values_words);
 
-/* The security at a place, from 0, in order of admission; `values_words` is
- * DEPOSITORY_SECURITY_WORDS. */
+/* The security at a place, from 0, in order of admission: the four figures of
+ * a custody line. `values_words` is DEPOSITORY_SECURITY_WORDS. */
 uint64_t depository_security(const uint64_t *book, size_t book_words,
                              size_t place,
                              uint64_t *values, size_t values_words);
 
-/* The sum of a security's accounts: 0 if it has none or is not admitted.
+/* What is held of a security, by its code: the count that the book keeps,
+ * which is the sum of its accounts. 0 if it has none or is not admitted.
  * `values_words` is 1. */
 uint64_t depository_held(const uint64_t *book, size_t book_words,
                          uint64_t security,

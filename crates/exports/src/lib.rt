@@ -179,12 +179,12 @@ pub extern "C" fn depository_sizes(book: &[u64], values: &mut [u64]) -> u64
     0
 }
 
-// The security at a place, in order of admission: code, issued, held, outside.
+// The security at a place, in order of admission: code, issued, held, outside, a custody line's four figures.
 #[no_mangle]
 pub extern "C" fn depository_security(book: &[u64], place: usize, values: &mut [u64]) -> u64
     requires { ⌜ Lent (now book) ⌝ }
     ensures { λ r. ⌜
-        TellsAt (now (book .entry)) (now (values .entry)) 4 (securityFigures (ledgerOf (now (book .entry)) .holdings))
+        TellsAt (now (book .entry)) (now (values .entry)) 4 securityFigures
         place (ledgerOf (now (book .entry)) .holdings .securities) r (now (values .exit))
         ⌝ }
 {
@@ -196,8 +196,7 @@ pub extern "C" fn depository_security(book: &[u64], place: usize, values: &mut [
         return NO_SUCH_PLACE;
     }
     let security = reading::security_at(book, place);
-    let held = reading::held(book, security.code);
-    figures::put_security(values, security, held);
+    figures::put_security(values, security);
     0
 }
 

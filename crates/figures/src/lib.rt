@@ -1,13 +1,12 @@
 // A call's counts and what a book says, as words in a buffer of the right length.
 ghost use mathlib.Core.Path.{_≡_};
 ghost use lib.ListN.{length};
-ghost use Rattle.figures.specs.Figures.{countFigures, dayFigures, securityWith, requestFigures, stateFigures, itemFigures};
+ghost use Rattle.figures.specs.Figures.{countFigures, dayFigures, securityFigures, requestFigures, stateFigures, itemFigures};
 use rulebook::Counts;
 use rulebook::Day;
 use rulebook::Item;
 use rulebook::Request;
 use rulebook::Security;
-use rulebook::Shares;
 use rulebook::State;
 
 // A waiting item's state: 1 deliver, 2 receive, 3 pair, 4 exchange trade; its references, and which halves of a pair are marked.
@@ -45,12 +44,17 @@ pub fn put_day(values: &mut [u64], day: Day)
     words::write(values, 0, &figures);
 }
 
-// A security and what its accounts hold go into 4 words.
-pub fn put_security(values: &mut [u64], security: Security, held: Shares)
+// A security goes into 4 words.
+pub fn put_security(values: &mut [u64], security: Security)
     requires { ⌜ length (now values) ≡ 4 ⌝ }
-    ensures { λ u. ⌜ now (values .exit) ≡ securityWith security (held .0) ⌝ }
+    ensures { λ u. ⌜ now (values .exit) ≡ securityFigures security ⌝ }
 {
-    let figures = [security.code, security.issued.0, held.0, security.outside.0];
+    let figures = [
+        security.code,
+        security.issued.0,
+        security.held.0,
+        security.outside.0,
+    ];
     words::write(values, 0, &figures);
 }
 

@@ -1,16 +1,18 @@
--- Demand 3, the rate and the requests of the code's own books: from the rulebook's theorems, and from what `fresh` and `call` promise. Assumes nothing.
+-- Demand 3, held counts, the rate and the requests of the code's own books: from the rulebook's theorems, and what `fresh` and `call` promise. Assumes nothing.
 use Prim.Native.Nat.{ℕ}
 use mathlib.Core.Path.{_≡_, refl, sym, ap, subst, _∙_}
 use mathlib.Core.List.{List, [], _∷_, _++_}
 use Rattle.rulebook.specs.Ledger.{Ledger, firstRate, fresh}
 use Rattle.rulebook.specs.Call.{callOf}
 use Rattle.rulebook.specs.Calls.{Call, call, Made, resultOf, callsOn, bookAfter, acceptedCalls, lastRate, Balanced, Demand3}
+use Rattle.rulebook.specs.Custody.{HeldCounts, HeldOfCalls}
 use Rattle.rulebook.specs.Rates.{RateOfCalls}
+use Rattle.rulebook.proofs.Custody.{held-of-calls}
 use Rattle.rulebook.proofs.Demand3.{demand3}
 use Rattle.rulebook.proofs.Rates.{rate-of-calls}
 use Rattle.book.specs.Meaning.{ledgerOf}
 use Rattle.book.specs.Stored.{Kept}
-use Rattle.ledger.specs.Reached.{Reached, made, called, ReachedBalanced, ReachedRate, ReachedAwaited}
+use Rattle.ledger.specs.Reached.{Reached, made, called, ReachedBalanced, ReachedHeld, ReachedRate, ReachedAwaited}
 
 -- a call, as it is answered on a book
 abbrev madeOn : Ledger → Call → Made
@@ -51,19 +53,25 @@ follows (called {book} {book′} {history} octets area {answer} {area′} r c) =
           (λ i. before .made i ++ (record { made = one; answer = answered i; area = written i } ∷ [])) ∙ sym (calls-more fresh (before .calls) one);
     }
 
+-- so what holds after every list of calls holds of it
+by-calls :
+    (P : List Made → Ledger → Type 0) → ((calls : List Call) → P (callsOn fresh calls) (bookAfter fresh calls))
+    → (book : List ℕ) (history : List Made) → Reached book history → P history (ledgerOf book)
+by-calls P all book history r =
+    let f = follows r in
+    subst (λ (h : List Made). P h (ledgerOf book)) (sym (f .made)) (subst (P (callsOn fresh (f .calls))) (sym (f .ledger)) (all (f .calls)))
+
 pub reached-balanced : ReachedBalanced
 unfolding Demand3 ReachedBalanced
-reached-balanced book history r =
-    let f = follows r in
-    subst (λ (h : List Made). Balanced h (ledgerOf book)) (sym (f .made))
-    (subst (Balanced (callsOn fresh (f .calls))) (sym (f .ledger)) (demand3 (f .calls)))
+reached-balanced = by-calls Balanced demand3
+
+pub reached-held : ReachedHeld
+unfolding HeldOfCalls ReachedHeld
+reached-held = by-calls HeldCounts held-of-calls
 
 pub reached-rate : ReachedRate
 unfolding RateOfCalls ReachedRate
-reached-rate book history r =
-    let f = follows r in
-    ap (λ (b : Ledger). b.rate) (f .ledger) ∙ rate-of-calls (f .calls)
-    ∙ ap (λ (h : List Made). lastRate firstRate (acceptedCalls h)) (sym (f .made))
+reached-rate = by-calls (λ history last. last.rate ≡ lastRate firstRate (acceptedCalls history)) rate-of-calls
 
 pub reached-awaited : ReachedAwaited
 unfolding ReachedAwaited

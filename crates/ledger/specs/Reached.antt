@@ -6,6 +6,7 @@ use mathlib.Core.Path.{_≡_}
 use Rattle.rulebook.specs.TypeTable.{requested}
 use Rattle.rulebook.specs.Ledger.{firstRate, askedOf}
 use Rattle.rulebook.specs.Calls.{call, Made, acceptedCalls, lastRate, Balanced}
+use Rattle.rulebook.specs.Custody.{HeldCounts}
 use Rattle.rulebook.specs.declared.Account.{Account}
 use Rattle.rulebook.specs.declared.Answer.{Answer}
 use Rattle.book.specs.Meaning.{ledgerOf}
@@ -33,3 +34,7 @@ unfoldable pub ReachedAwaited : Type 0
 ReachedAwaited =
     (book : List ℕ) (history : List Made) → Reached book history → (a : Account) → a.typ ≡ requested
     → ledgerOf book .holdings .balance a ≡ askedOf a (ledgerOf book .requests)
+
+-- RULES 12.25, 12.26: and the held count that it keeps of each security is what the accounts hold
+unfoldable pub ReachedHeld : Type 0
+ReachedHeld = (book : List ℕ) (history : List Made) → Reached book history → HeldCounts history (ledgerOf book)

@@ -5,7 +5,6 @@ use mathlib.Core.List.{List, _++_}
 use Rattle.rulebook.specs.Call.{answerNumber, answerRows}
 use Rattle.rulebook.specs.declared.Answer.{Answer}
 use Rattle.rulebook.specs.declared.Security.{Security}
-use Rattle.rulebook.specs.declared.Shares.{Shares}
 use Rattle.lines.specs.Text.{text, decimal}
 
 -- words, and a number behind them
@@ -17,7 +16,7 @@ unfoldable pub answerLine : ℕ → Answer → List ℕ
 answerLine number answer = decimal number ++ figure " " (answerNumber answer) ++ figure " " (answerRows answer) ++ text "\n"
 
 -- RULES 13.4
-unfoldable pub custodyLine : Security → Shares → List ℕ
-custodyLine security held =
-    figure "CUSTODY " (security .code) ++ figure " ISSUED " (security .issued .0) ++ figure " HELD " (held .0) ++ figure " OUTSIDE " (security .outside .0) ++
-    text "\n"
+unfoldable pub custodyLine : Security → List ℕ
+custodyLine security =
+    figure "CUSTODY " (security .code) ++ figure " ISSUED " (security .issued .0) ++ figure " HELD " (security .held .0)
+    ++ figure " OUTSIDE " (security .outside .0) ++ text "\n"

@@ -8,7 +8,6 @@ ghost use Rattle.lines.specs.Text.{digit, decimal, Put};
 ghost use Rattle.lines.specs.Lines.{answerLine, custodyLine};
 use rulebook::Answer;
 use rulebook::Security;
-use rulebook::Shares;
 
 pub fn put_bytes(out: &mut [u8], at: usize, bytes: &[u8]) -> usize
     requires { ⌜ at + length (now bytes) ≤ length (now out) ⌝ }
@@ -84,14 +83,14 @@ pub fn put_answer_line(out: &mut [u8], at: usize, number: u64, answer: Answer) -
 }
 
 // A security's line.
-pub fn put_custody_line(out: &mut [u8], at: usize, security: Security, held: Shares) -> usize
+pub fn put_custody_line(out: &mut [u8], at: usize, security: Security) -> usize
     requires { ⌜ at + 112 ≤ length (now out) ⌝ }
-    ensures { λ r. ⌜ Put (now (out .entry)) at (custodyLine security held) (now (out .exit)) r ⌝ }
+    ensures { λ r. ⌜ Put (now (out .entry)) at (custodyLine security) (now (out .exit)) r ⌝ }
     ensures { λ r. ⌜ r ≤ at + 112 ⌝ }
 {
     let mut next = put_figure(out, at, b"CUSTODY ", security.code);
     next = put_figure(out, next, b" ISSUED ", security.issued.0);
-    next = put_figure(out, next, b" HELD ", held.0);
+    next = put_figure(out, next, b" HELD ", security.held.0);
     next = put_figure(out, next, b" OUTSIDE ", security.outside.0);
     put_bytes(out, next, b"\n")
 }

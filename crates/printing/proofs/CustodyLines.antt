@@ -5,17 +5,16 @@ use mathlib.Core.List.{List, [], _∷_, _++_, append-assoc, append-nil}
 use mathlib.Core.Path.{_≡_}
 use lib.ListN.{length, getD, take}
 use lib.Seq.{take-suc}
-use Rattle.rulebook.specs.Ledger.{Holdings}
 use Rattle.rulebook.specs.declared.Security.{Security}
-use Rattle.printing.specs.Printed.{custodyOf, custodyFrom}
+use Rattle.lines.specs.Lines.{custodyLine}
+use Rattle.printing.specs.Printed.{custodyFrom}
 
-module _ (h : Holdings) where
-  behind : (securities : List Security) (last : Security) → custodyFrom h (securities ++ (last ∷ [])) ≡ custodyFrom h securities ++ custodyOf h last
-  unfolding custodyFrom
-  behind [] last = append-nil (custodyOf h last)
-  behind (security ∷ securities) last = rw (behind securities last, append-assoc)
+behind : (securities : List Security) (last : Security) → custodyFrom (securities ++ (last ∷ [])) ≡ custodyFrom securities ++ custodyLine last
+unfolding custodyFrom
+behind [] last = append-nil (custodyLine last)
+behind (security ∷ securities) last = rw (behind securities last, append-assoc)
 
-  pub one-line-more :
-      (securities : List Security) (i : ℕ) (d : Security) → i < length securities
-      → custodyFrom h (take (i + 1) securities) ≡ custodyFrom h (take i securities) ++ custodyOf h (getD securities i d)
-  one-line-more securities i d inside = rw (add-one i, take-suc securities i d) (behind (take i securities) (getD securities i d))
+pub one-line-more :
+    (securities : List Security) (i : ℕ) (d : Security) → i < length securities
+    → custodyFrom (take (i + 1) securities) ≡ custodyFrom (take i securities) ++ custodyLine (getD securities i d)
+one-line-more securities i d inside = rw (add-one i, take-suc securities i d) (behind (take i securities) (getD securities i d))

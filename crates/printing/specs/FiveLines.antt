@@ -5,7 +5,7 @@ use mathlib.Core.Path.{_≡_}
 use lib.ListN.{replicate}
 use Rattle.rulebook.specs.Ledger.{fresh}
 use Rattle.rulebook.specs.Record.{recordOf}
-use Rattle.rulebook.specs.Desk.{party, nobody, order, opens, admits, deposits}
+use Rattle.rulebook.specs.Desk.{opens, admits, deposits, withdraws}
 use Rattle.lines.specs.Text.{text}
 use Rattle.printing.specs.Printed.{printed}
 
@@ -13,7 +13,7 @@ use Rattle.printing.specs.Printed.{printed}
 unfoldable pub example : List ℕ
 example =
     recordOf (opens 470 1) ++ recordOf (admits 500 1_000) ++ recordOf (deposits 540 7 400)
-    ++ recordOf (order 4 541 101 0 (party 7 20 5) nobody 401 0 0 0 0)
+    ++ recordOf (withdraws 541 7 401)
 
 unfoldable pub FiveLines : Type 0
 FiveLines =

@@ -1,3 +1,4 @@
--- What the printing program prints, and an example.
+-- What the printing program prints, what it prints as held, and an example.
 pub mod Printed
+pub mod HeldPrinted
 pub mod FiveLines

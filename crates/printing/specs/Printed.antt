@@ -4,7 +4,7 @@ use mathlib.Core.List.{List, [], _∷_, _++_}
 use mathlib.Core.Path.{_≡_}
 use lib.ListN.{length}
 use Rattle.rulebook.specs.Call.{Result, callOf}
-use Rattle.rulebook.specs.Ledger.{Ledger, Holdings, held}
+use Rattle.rulebook.specs.Ledger.{Ledger, Holdings}
 use Rattle.rulebook.specs.declared.Security.{Security}
 use Rattle.book.specs.Meaning.{ledgerOf}
 use Rattle.book.specs.Stored.{Kept}
@@ -31,17 +31,13 @@ areaAfter book area (octets ∷ rest) =
     let result : Result = callOf book octets area in
     areaAfter result.book result.area rest
 
--- a security's line: its held count is the sum of its accounts
-unfoldable pub custodyOf : Holdings → Security → List ℕ
-custodyOf h security = custodyLine security (record { 0 = held security.code h })
+unfoldable pub custodyFrom : List Security → List ℕ
+custodyFrom [] = []
+custodyFrom (security ∷ rest) = custodyLine security ++ custodyFrom rest
 
-unfoldable pub custodyFrom : Holdings → List Security → List ℕ
-custodyFrom h [] = []
-custodyFrom h (security ∷ rest) = custodyOf h security ++ custodyFrom h rest
-
--- per security, in order of admission
+-- per security, in order of admission, with the counts that are kept; `HeldPrinted` says that those held are what accounts hold
 unfoldable pub custodyLines : Holdings → List ℕ
-custodyLines h = custodyFrom h h.securities
+custodyLines h = custodyFrom h.securities
 
 -- what the program prints of a record file, on a book and with an area: the answer lines from a number on, then the custody lines
 unfoldable pub printed : (number : ℕ) → Ledger → (area : List ℕ) → (file : List ℕ) → List ℕ

@@ -4,21 +4,20 @@ ghost use lib.ListN.{length, getD};
 ghost use Rattle.rulebook.specs.declared.Security.{Security};
 ghost use Rattle.book.specs.Meaning.{ledgerOf};
 ghost use Rattle.book.specs.Stored.{Kept};
+ghost use Rattle.lines.specs.Lines.{custodyLine};
 ghost use Rattle.lines.specs.Text.{Put};
-ghost use Rattle.printing.specs.Printed.{custodyOf, custodyLines};
+ghost use Rattle.printing.specs.Printed.{custodyLines};
 
 // The line of the security at `i`.
 fn put_security(out: &mut [u8], at: usize, book: &[u64], i: usize) -> usize
     requires { ⌜ Kept (now book) × (i < length (ledgerOf (now book) .holdings .securities)) × (at + 112 ≤ length (now out)) ⌝ }
     ensures { λ r. ⌜
-        ((d : Security) → let h = ledgerOf (now (book .entry)) .holdings in
-        Put (now (out .entry)) at (custodyOf h (getD (h .securities) i d)) (now (out .exit)) r)
+        ((d : Security) → Put (now (out .entry)) at (custodyLine (getD (ledgerOf (now (book .entry)) .holdings .securities) i d)) (now (out .exit)) r)
         ⌝ }
     ensures { λ r. ⌜ r ≤ at + 112 ⌝ }
 {
     let security = reading::security_at(book, i);
-    let held = reading::held(book, security.code);
-    lines::put_custody_line(out, at, security, held)
+    lines::put_custody_line(out, at, security)
 }
 
 // Per security, in order of admission: at most 32 lines of at most 112 bytes.

@@ -38,17 +38,19 @@ pub fn securities(book: &[u64]) -> usize
     book::securities(book)
 }
 
-// The security at `i`, in order of admission.
+// The security at `i`, in order of admission; its held count is what its accounts hold.
 pub fn security_at(book: &[u64], i: usize) -> Security
     requires { ⌜ Kept (now book) × (i < length (ledgerOf (now book) .holdings .securities)) ⌝ }
     ensures { λ r. ⌜ ((d : Security) → r ≡ getD (ledgerOf (now (book .entry)) .holdings .securities) i d) ⌝ }
+    ensures { λ r. ⌜ r .held .0 ≡ Ledger.held (r .code) (ledgerOf (now (book .entry)) .holdings) ⌝ }
 {
     book::security_at(book, i)
 }
 
-// What a security's accounts hold.
+// The security's held count, which is what its accounts hold.
 pub fn held(book: &[u64], security: u64) -> Shares
     requires { ⌜ Kept (now book) ⌝ }
+    ensures { λ r. ⌜ r .0 ≡ Ledger.heldOf security (ledgerOf (now (book .entry)) .holdings) ⌝ }
     ensures { λ r. ⌜ r .0 ≡ Ledger.held security (ledgerOf (now (book .entry)) .holdings) ⌝ }
 {
     book::held(book, security)

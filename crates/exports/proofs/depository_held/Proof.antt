@@ -27,7 +27,7 @@ returns-2 : tie.Need-returns-2
 returns-2 c =
     let lengths = c .before .before in
     tells _ _ _ _ _ (lengths .lengths .ensures) (c .before .if1 .left)
-    (one-word (start lengths .args .values .now) _ _ (right (c .before) .1) (c .held .ensures))
+    (one-word (start lengths .args .values .now) _ _ (right (c .before) .1) (c .held .ensures .1))
 
 pub depository-held-spec : {M : Type 1} → statement M
 depository-held-spec = tie.close (tie.spec (λ c κs. search needs) returns held-requires slice-write-values (λ c. search needs) returns-2)

@@ -1,14 +1,11 @@
 -- `exports::depository_security` meets its contract. Assumes nothing.
-use Prim.Native.Nat.{ℕ, _<_}
+use Prim.Native.Nat.{_<_}
 use mathlib.Core.Path.{_≡_, sym, ap, _∙_}
-use mathlib.Core.List.{List}
 use native.Mathlib.Omega.{arith}
 use borrow.Author.Needs.{needs}
 use lib.ListN.{length}
-use Rattle.rulebook.specs.Ledger.{held}
-use Rattle.rulebook.specs.declared.Security.{Security}
 use Rattle.book.specs.Meaning.{bookLength, holdingsOf}
-use Rattle.figures.specs.Figures.{securityWith, securityFigures}
+use Rattle.figures.specs.Figures.{securityFigures}
 use Rattle.exports.proofs.Answers.{lengths-right, tells-at-wrong, tells-none, tells-at}
 use Rattle.exports.proofs.depository_security.Statement.{statement}
 use Rattle.exports.proofs.depository_security.Tie as tie
@@ -39,30 +36,19 @@ there c = omega (arith, c .before .securities .ensures, c .if2 .left)
 security-at-requires : tie.Need-security-at-requires
 security-at-requires c κs = let passed = c .before .before in (start (passed .before) .pre (right passed .0), there c)
 
-held-requires : tie.Need-held-requires
-held-requires c κs = let passed = c .before .before .before in start (passed .before) .pre (right passed .0)
-
 put-security-requires : tie.Need-put-security-requires
-put-security-requires c κs = right (c .before .before .before .before .before) .1
-
--- the figures of the security that was found
-told :
-    (book : List ℕ) (found is : Security) {sum : ℕ} → found ≡ is → sum ≡ held (found .code) (holdingsOf book)
-    → securityWith found sum ≡ securityFigures (holdingsOf book) is
-told book found is e f =
-    ap (securityWith found) f ∙ ap (securityFigures (holdingsOf book)) e
+put-security-requires c κs = right (c .before .before .before .before) .1
 
 returns-3 : tie.Need-returns-3
 returns-3 c =
     let put = c .before .before in
-    let held = put .before .before in
-    let found = held .before in
+    let found = put .before .before in
     let passed = found .before .before .before in
     tells-at _ _ _ _ _ _ _ (passed .before .lengths .ensures) (passed .if1 .left) _ (there (found .before))
-    (λ other. put .put-security .ensures ∙ told (start (passed .before) .args .book .now) _ _ (found .security-at .ensures other) (held .held .ensures))
+    (λ other. put .put-security .ensures ∙ ap securityFigures (found .security-at .ensures .0 other))
 
 pub depository-security-spec : {M : Type 1} → statement M
 depository-security-spec =
     tie.close
-    (tie.spec (λ c κs. search needs) returns securities-requires returns-2 security-at-requires held-requires put-security-requires
+    (tie.spec (λ c κs. search needs) returns securities-requires returns-2 security-at-requires put-security-requires
     (λ c. search needs) returns-3)

@@ -1,15 +1,13 @@
 -- `reading::held` meets its contract. Assumes nothing.
-use native.Mathlib.Omega.{arith}
+use mathlib.Core.Path.{_∙_}
 use borrow.Author.Needs.{needs}
-use Rattle.book.specs.Meaning.{ledgerOf}
-use Rattle.rulebook.proofs.Bounds.{held-fits}
 use Rattle.reading.proofs.held.Statement.{statement}
 use Rattle.reading.proofs.held.Tie as tie
 
-held-requires : tie.Need-held-requires
-held-requires c κs =
-    let s = c .before in
-    (s .pre .stored, omega (arith, held-fits (ledgerOf (s .args .book .now)) (s .pre .premise) (s .args .security)))
+returns : tie.Need-returns
+returns c =
+    let s = c .before .before in
+    (c .held .ensures, c .held .ensures ∙ s .pre .premise .custody (s .args .security))
 
 pub held-spec : {M : Type 1} → statement M
-held-spec = tie.close (tie.spec held-requires (λ c. search needs))
+held-spec = tie.close (tie.spec (λ c κs. search needs) returns)

@@ -15,12 +15,11 @@ use Rattle.printing.proofs.custody.put_custody.Statement.{statement}
 use Rattle.printing.proofs.custody.put_custody.Tie as tie
 
 none : Security
-none = record { code = 0; issued = record { 0 = 0 }; outside = record { 0 = 0 } }
+none = record { code = 0; issued = record { 0 = 0 }; outside = record { 0 = 0 }; held = record { 0 = 0 } }
 
 abbrev Inv-loop : tie.InvT-loop
 Inv-loop out₀ at book n next₀ i₀ out next i =
-    let h = ledgerOf book .holdings in
-    (i ≤ n) × (next ≤ at + 112 * i) × (length out ≡ length out₀) × Put out₀ at (custodyFrom h (take i (h .securities))) out next
+    (i ≤ n) × (next ≤ at + 112 * i) × (length out ≡ length out₀) × Put out₀ at (custodyFrom (take i (ledgerOf book .holdings .securities))) out next
 
 abbrev μ-loop : tie.MeasureT-loop
 μ-loop out₀ at book n next₀ i₀ out next i = n - i
@@ -51,7 +50,7 @@ loop-again c =
       omega arith,
       omega arith,
       put .put-security .kept .0 ∙ l .loop .inv .2,
-      rw (one-line-more _ securities (l .loop .i) none (omega arith)) (put-then (l .loop .inv .3) (put .put-security .ensures .0 none)),
+      rw (one-line-more securities (l .loop .i) none (omega arith)) (put-then (l .loop .inv .3) (put .put-security .ensures .0 none)),
     )
 
 returns : tie.Need-returns Inv-loop μ-loop
