@@ -1,4 +1,6 @@
 /* A short day is called, and everything is read back through the boundary. */
+#include <inttypes.h>
+
 #include "check.h"
 
 static uint64_t book[DEPOSITORY_BOOK_WORDS], values[DEPOSITORY_ITEM_WORDS];
@@ -24,10 +26,22 @@ static uint64_t security(size_t place) {
     return depository_security(book, DEPOSITORY_BOOK_WORDS, place, values, DEPOSITORY_SECURITY_WORDS);
 }
 
+/* A caller prints the custody line of the security at a place from its four values alone. */
+static void prints_custody(size_t place, const char *expected) {
+    char line[128];
+    uint64_t number = security(place);
+    check(number == 0, "a custody line", "answers", number);
+    snprintf(line, sizeof line, "CUSTODY %" PRIu64 " ISSUED %" PRIu64 " HELD %" PRIu64 " OUTSIDE %" PRIu64, values[DEPOSITORY_SECURITY_CODE],
+             values[DEPOSITORY_SECURITY_ISSUED], values[DEPOSITORY_SECURITY_HELD], values[DEPOSITORY_SECURITY_OUTSIDE]);
+    check(strcmp(line, expected) == 0, expected, line, place);
+}
+
 static void reads_securities(void) {
     const uint64_t first[DEPOSITORY_SECURITY_WORDS] = {101, 1000, 400, 600}, second[DEPOSITORY_SECURITY_WORDS] = {102, 7, 0, 7};
     tells(security(0), "the first security", first, DEPOSITORY_SECURITY_WORDS);
     tells(security(1), "the second security", second, DEPOSITORY_SECURITY_WORDS);
+    prints_custody(0, "CUSTODY 101 ISSUED 1000 HELD 400 OUTSIDE 600");
+    prints_custody(1, "CUSTODY 102 ISSUED 7 HELD 0 OUTSIDE 7");
     check(security(2) == DEPOSITORY_NO_SUCH_PLACE, "no third security", "", 0);
     check(security(SIZE_MAX) == DEPOSITORY_NO_SUCH_PLACE, "no last security", "", 0);
     check(memcmp(values, second, sizeof second) == 0, "no security", "leaves the values", 0);
@@ -143,6 +157,54 @@ static void reads_ended_requests(void) {
     check(values[DEPOSITORY_REQUESTS] == 1, "one request is open", "", values[DEPOSITORY_REQUESTS]);
 }
 
+/* An order of the custody day, and the custody line after it. */
+struct custody {
+    uint64_t order[DEPOSITORY_FIELD_WORDS];
+    const char *line;
+};
+
+/* What is deposited and withdrawn moves the line, at last a request that ends outside; a pledge, a request and a night leave it. */
+static const struct custody CUSTODY[] = {
+    {{[DEPOSITORY_FORM] = 2, [DEPOSITORY_MINUTE] = 500, [DEPOSITORY_SECURITY] = 101, [DEPOSITORY_QUANTITY] = 1000},
+     "CUSTODY 101 ISSUED 1000 HELD 0 OUTSIDE 1000"},
+    {{[DEPOSITORY_FORM] = 3, [DEPOSITORY_MINUTE] = 510, [DEPOSITORY_SECURITY] = 101, [DEPOSITORY_CREDITED_MEMBER] = 7,
+      [DEPOSITORY_CREDITED_TYPE] = 20, [DEPOSITORY_CREDITED_SHAREHOLDER] = 5, [DEPOSITORY_QUANTITY] = 400},
+     "CUSTODY 101 ISSUED 1000 HELD 400 OUTSIDE 600"},
+    {{[DEPOSITORY_FORM] = 6, [DEPOSITORY_MINUTE] = 511, [DEPOSITORY_SECURITY] = 101, [DEPOSITORY_DEBITED_MEMBER] = 7,
+      [DEPOSITORY_DEBITED_TYPE] = 20, [DEPOSITORY_DEBITED_SHAREHOLDER] = 5, [DEPOSITORY_CREDITED_MEMBER] = 7,
+      [DEPOSITORY_CREDITED_TYPE] = 21, [DEPOSITORY_CREDITED_SHAREHOLDER] = 5, [DEPOSITORY_QUANTITY] = 50,
+      [DEPOSITORY_SETTLEMENT_DAY] = 1},
+     "CUSTODY 101 ISSUED 1000 HELD 400 OUTSIDE 600"},
+    {{[DEPOSITORY_FORM] = 19, [DEPOSITORY_MINUTE] = 512, [DEPOSITORY_SECURITY] = 101, [DEPOSITORY_DEBITED_MEMBER] = 7,
+      [DEPOSITORY_DEBITED_TYPE] = 20, [DEPOSITORY_DEBITED_SHAREHOLDER] = 5, [DEPOSITORY_QUANTITY] = 100, [DEPOSITORY_REFERENCE] = 1},
+     "CUSTODY 101 ISSUED 1000 HELD 400 OUTSIDE 600"},
+    {{[DEPOSITORY_FORM] = 4, [DEPOSITORY_MINUTE] = 513, [DEPOSITORY_SECURITY] = 101, [DEPOSITORY_DEBITED_MEMBER] = 7,
+      [DEPOSITORY_DEBITED_TYPE] = 20, [DEPOSITORY_DEBITED_SHAREHOLDER] = 5, [DEPOSITORY_QUANTITY] = 30},
+     "CUSTODY 101 ISSUED 1000 HELD 370 OUTSIDE 630"},
+    {{[DEPOSITORY_FORM] = 16, [DEPOSITORY_MINUTE] = 960}, "CUSTODY 101 ISSUED 1000 HELD 370 OUTSIDE 630"},
+    {{[DEPOSITORY_FORM] = 16, [DEPOSITORY_MINUTE] = 960}, "CUSTODY 101 ISSUED 1000 HELD 370 OUTSIDE 630"},
+    {{[DEPOSITORY_FORM] = 16, [DEPOSITORY_MINUTE] = 960}, "CUSTODY 101 ISSUED 1000 HELD 370 OUTSIDE 630"},
+    {{[DEPOSITORY_FORM] = 17, [DEPOSITORY_MINUTE] = 960}, "CUSTODY 101 ISSUED 1000 HELD 370 OUTSIDE 630"},
+    {{[DEPOSITORY_FORM] = 1, [DEPOSITORY_MINUTE] = 470, [DEPOSITORY_QUANTITY] = 1}, "CUSTODY 101 ISSUED 1000 HELD 370 OUTSIDE 630"},
+    {{[DEPOSITORY_FORM] = 20, [DEPOSITORY_MINUTE] = 510, [DEPOSITORY_DEBITED_MEMBER] = 7, [DEPOSITORY_CREDITED_TYPE] = 91,
+      [DEPOSITORY_REFERENCE] = 1},
+     "CUSTODY 101 ISSUED 1000 HELD 270 OUTSIDE 730"},
+};
+
+/* After each order the line, and held by its code as it stands in the line. */
+static void prints_custody_lines(void) {
+    uint64_t counts[DEPOSITORY_COUNT_WORDS];
+    depository_fresh(book, DEPOSITORY_BOOK_WORDS);
+    call(book, ORDERS[0], counts);
+    for (size_t i = 0; i < sizeof CUSTODY / sizeof CUSTODY[0]; i++) {
+        uint64_t number = call(book, CUSTODY[i].order, counts);
+        check(number == 0, "an order of the custody day", "answers", number);
+        prints_custody(0, CUSTODY[i].line);
+        uint64_t printed = values[DEPOSITORY_SECURITY_HELD];
+        reads_one(held(101), "held by its code", printed);
+    }
+}
+
 static uint64_t item(size_t place) {
     return depository_item(book, DEPOSITORY_BOOK_WORDS, place, values, DEPOSITORY_ITEM_WORDS);
 }
@@ -179,6 +241,7 @@ int main(void) {
     reads_requests();
     reads_the_rate();
     reads_ended_requests();
+    prints_custody_lines();
     reads_a_deliver();
     return close_checks();
 }

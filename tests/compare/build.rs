@@ -6,11 +6,12 @@ use std::path::{Path, PathBuf};
 use std::process::Command;
 
 /// All of the library that this program calls.
-const FUNCTIONS: [&str; 8] = [
+const FUNCTIONS: [&str; 9] = [
     "depository_fresh",
     "depository_call",
     "depository_rate",
     "depository_sizes",
+    "depository_security",
     "depository_held",
     "depository_request",
     "depository_read",

@@ -46,7 +46,10 @@ fn count(word: u64, room: usize, name: &str) -> Result<usize, String> {
 fn securities(words: &[u64]) -> Result<Vec<Security>, String> {
     let count = count(words[0], SECURITY_ROOM, "securities")?;
     let at = |column: usize, place: usize| words[1 + column * SECURITY_ROOM + place];
-    let security = |place| Security { code: at(0, place), issued: at(1, place), outside: at(2, place) };
+    let security = |place| {
+        let [code, issued, outside, held] = [0, 1, 2, 3].map(|column| at(column, place));
+        Security { code, issued, outside, held }
+    };
     Ok((0..count).map(security).collect())
 }
 

@@ -24,6 +24,7 @@ fn securities(book: &Book, words: &mut [u64]) {
         words[1 + place] = security.code;
         words[1 + SECURITY_ROOM + place] = security.issued;
         words[1 + 2 * SECURITY_ROOM + place] = security.outside;
+        words[1 + 3 * SECURITY_ROOM + place] = security.held;
     }
 }
 

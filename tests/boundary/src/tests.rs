@@ -1,6 +1,6 @@
 //! The layout, and words that no book has.
 
-use reference::book::{Book, Request, RequestName};
+use reference::book::{Book, Request, RequestName, Security};
 
 use super::*;
 
@@ -20,12 +20,39 @@ fn words_with(place: usize, word: u64) -> Vec<u64> {
 
 #[test]
 fn the_parts_lie_one_behind_the_other() {
-    assert_eq!(SECURITIES + 1 + 3 * SECURITY_ROOM, ACCOUNTS);
+    assert_eq!(SECURITIES + 1 + 4 * SECURITY_ROOM, ACCOUNTS);
     assert_eq!(ACCOUNTS + 1 + 2 * ACCOUNT_ROOM, CASH);
     assert_eq!(CASH + 2 * 64, WAITING);
     assert_eq!(WAITING + 1 + ITEM_ROOM * ITEM_WORDS, RATE);
     assert_eq!(RATE + 1, REQUESTS);
     assert_eq!(REQUESTS + 1 + 3 * REQUEST_ROOM, BOOK_WORDS);
+}
+
+fn of_securities(securities: Vec<Security>) -> Book {
+    Book { securities, ..Book::fresh() }
+}
+
+#[test]
+fn a_security_is_a_code_and_three_counts() {
+    let most = (1 << 40) - 1;
+    let first = Security { code: 101, issued: 1_000, outside: 730, held: 270 };
+    let widest = Security { code: 16_383, issued: most, outside: 0, held: most };
+    let book = of_securities(vec![first, widest]);
+    let words = words_of(&book);
+    assert_eq!(words[8..12], [2, 101, 16_383, u64::MAX], "free words are kept");
+    assert_eq!(words[41..44], [1_000, most, u64::MAX]);
+    assert_eq!(words[73..76], [730, 0, u64::MAX]);
+    assert_eq!(words[105..108], [270, most, u64::MAX]);
+    assert_eq!(decode(&words), Ok(book));
+}
+
+#[test]
+fn thirty_two_securities_have_room() {
+    let numbered = |n| Security { code: n, issued: 1_000 * n, outside: 900 * n, held: 100 * n };
+    let book = of_securities((1..=32).map(numbered).collect());
+    let words = words_of(&book);
+    assert_eq!((words[40], words[72], words[104], words[136]), (32, 32_000, 28_800, 3_200));
+    assert_eq!((words[137], decode(&words)), (0, Ok(book)), "no account");
 }
 
 #[test]
@@ -61,10 +88,10 @@ fn request_words(words: &[u64], place: usize) -> [u64; 3] {
 #[test]
 fn a_request_is_a_key_and_two_words() {
     let words = words_of(&two_requests());
-    assert_eq!(words[1772], 2);
+    assert_eq!(words[1804], 2);
     assert_eq!(request_words(&words, 0), [7 << 32 | 9, 101 << 38 | 20 << 30 | 5, 100 << 16 | 3]);
     assert_eq!(request_words(&words, 1), [0x40_FFFF_FFFF, 0x000F_FFC2_BFFF_FFFF, 0x00FF_FFFF_FFFF_EA60]);
-    assert_eq!((words[1773], words[1789], words[1805]), (7 << 32 | 9, 101 << 38 | 20 << 30 | 5, 100 << 16 | 3));
+    assert_eq!((words[1805], words[1821], words[1837]), (7 << 32 | 9, 101 << 38 | 20 << 30 | 5, 100 << 16 | 3));
     assert!((2..REQUEST_ROOM).all(|place| request_words(&words, place) == [u64::MAX; 3]), "free words are kept");
     assert_eq!(decode(&words), Ok(two_requests()));
 }

@@ -2,7 +2,7 @@
 
 use std::borrow::Cow;
 
-use boundary::{REQUEST_WORDS, SIZE_WORDS, request_told, sizes_told};
+use boundary::{REQUEST_WORDS, SECURITY_WORDS, SIZE_WORDS, request_told, security_told, sizes_told};
 use reference::book::Book;
 use reference::call::Answer;
 use reference::record::{self, Fields};
@@ -17,6 +17,9 @@ pub trait Depository: Clone {
     fn rate(&self) -> u64;
     /// Securities, accounts, items and open requests.
     fn sizes(&self) -> [u64; SIZE_WORDS];
+    /// Code, issued, held and outside of the security at a place, if there is
+    /// one.
+    fn security(&self, place: usize) -> Option<[u64; SECURITY_WORDS]>;
     fn held(&self, security: u64) -> u64;
     /// Security, type, shareholder, quantity and day of an open request.
     fn request(&self, member: u64, reference: u64) -> [u64; REQUEST_WORDS];
@@ -44,6 +47,10 @@ impl Depository for Book {
 
     fn sizes(&self) -> [u64; SIZE_WORDS] {
         sizes_told(self)
+    }
+
+    fn security(&self, place: usize) -> Option<[u64; SECURITY_WORDS]> {
+        security_told(self, place)
     }
 
     fn held(&self, security: u64) -> u64 {

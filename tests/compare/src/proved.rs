@@ -3,7 +3,7 @@
 
 use std::borrow::Cow;
 
-use boundary::{BOOK_WORDS, COUNT_WORDS, REQUEST_WORDS, SIZE_WORDS, WRONG_BOOK, decode};
+use boundary::{BOOK_WORDS, COUNT_WORDS, NO_SUCH_PLACE, REQUEST_WORDS, SECURITY_WORDS, SIZE_WORDS, WRONG_BOOK, decode};
 use reference::book::{Book, FIRST_RATE};
 use reference::call::{Answer, Counts};
 use reference::record::{FIELD_COUNT, Fields};
@@ -24,6 +24,7 @@ unsafe extern "C" {
     ) -> u64;
     fn depository_rate(book: *const u64, words: usize, values: *mut u64, values_words: usize) -> u64;
     fn depository_sizes(book: *const u64, words: usize, values: *mut u64, values_words: usize) -> u64;
+    fn depository_security(book: *const u64, words: usize, place: usize, values: *mut u64, values_words: usize) -> u64;
     fn depository_held(book: *const u64, words: usize, security: u64, values: *mut u64, values_words: usize) -> u64;
     fn depository_request(
         book: *const u64,
@@ -96,6 +97,19 @@ impl Depository for Proved {
         sizes
     }
 
+    fn security(&self, place: usize) -> Option<[u64; SECURITY_WORDS]> {
+        let mut values = [UNTOUCHED; SECURITY_WORDS];
+        let words = self.words.as_ptr();
+        // SAFETY: as in `call`.
+        let number = unsafe { depository_security(words, BOOK_WORDS, place, values.as_mut_ptr(), SECURITY_WORDS) };
+        if number == NO_SUCH_PLACE {
+            assert_eq!(values, [UNTOUCHED; SECURITY_WORDS], "no such place leaves the values");
+            return None;
+        }
+        assert_eq!(number, 0, "a book of the right length is read");
+        Some(values)
+    }
+
     fn held(&self, security: u64) -> u64 {
         let mut held = [UNTOUCHED];
         // SAFETY: as in `call`.
@@ -147,6 +161,7 @@ impl Depository for Proved {
             ("a fresh book over any words", Proved::fresh().book().is_ok_and(|book| *book == Book::fresh())),
             ("the rate of a fresh book is told", Proved::fresh().rate() == FIRST_RATE),
             ("the sizes of a fresh book are told", Proved::fresh().sizes() == [0; SIZE_WORDS]),
+            ("no security of a fresh book is told", Proved::fresh().security(0).is_none()),
             ("no request of a fresh book is told", Proved::fresh().request(1, 1) == [0; REQUEST_WORDS]),
         ]
     }

@@ -3,14 +3,15 @@
 
 use std::fmt::Debug;
 
-use boundary::{REQUEST_WORDS, request_told, sizes_told};
-use reference::book::{Book, RequestName};
+use boundary::{REQUEST_WORDS, request_told, security_told, sizes_told};
+use reference::book::{Book, MOST_SECURITIES, RequestName};
 
 use crate::depository::Depository;
 
 pub fn check<D: Depository>(book: &Book, under_test: &D) -> Result<(), String> {
     told("the rate", &book.rate, &under_test.rate())?;
     told("the sizes", &sizes_told(book), &under_test.sizes())?;
+    securities(book, under_test)?;
     held_of_others(book, under_test)?;
     open_requests(book, under_test)?;
     other_requests(book, under_test)
@@ -18,6 +19,19 @@ pub fn check<D: Depository>(book: &Book, under_test: &D) -> Result<(), String> {
 
 fn told<T: PartialEq + Debug>(what: &str, expected: &T, found: &T) -> Result<(), String> {
     if expected == found { Ok(()) } else { Err(format!("{what}: expected {expected:?}, but {found:?} is told")) }
+}
+
+/// Each security is told by its place, and what is held of it by its code; no
+/// security is told behind the last.
+fn securities<D: Depository>(book: &Book, under_test: &D) -> Result<(), String> {
+    for place in (0..=MOST_SECURITIES).chain([usize::MAX]) {
+        let name = format!("code, issued, held and outside at place {place}");
+        told(&name, &security_told(book, place), &under_test.security(place))?;
+    }
+    for security in &book.securities {
+        told(&format!("held of security {}", security.code), &security.held, &under_test.held(security.code))?;
+    }
+    Ok(())
 }
 
 /// Nothing is held of a security that is not admitted.

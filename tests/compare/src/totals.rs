@@ -4,7 +4,7 @@
 use std::collections::{BTreeMap, BTreeSet};
 
 use reference::account_types::REQUESTED;
-use reference::book::{Account, Book, Purse};
+use reference::book::{Account, Book, Purse, Security};
 use reference::call::{Answer, Counts};
 use reference::forms::{self, Written};
 use reference::record::{Order, unpack};
@@ -102,26 +102,28 @@ impl Totals {
         }
     }
 
-    /// Holds the totals against the last book; `held` is the library's own.
-    pub fn check(&self, book: &Book, held: impl Fn(u64) -> u64) -> Result<(), String> {
-        self.check_custody(book, held)?;
+    /// Holds the totals against the last book; `told` is what the library says
+    /// is held of a security.
+    pub fn check(&self, book: &Book, told: impl Fn(u64) -> u64) -> Result<(), String> {
+        self.check_custody(book, told)?;
         self.check_cash(book)?;
         self.check_accounts(book)?;
         let waiting: i128 = book.waiting.iter().map(|item| i128::from(item.sides())).sum();
         same("sides taken in = gone + waiting", &"", self.sides_taken_in, self.sides_gone + waiting)
     }
 
-    /// Issued is that of form 2; held is deposits less withdrawals; issued is
-    /// held plus outside.
-    fn check_custody(&self, book: &Book, held: impl Fn(u64) -> u64) -> Result<(), String> {
-        let codes: BTreeSet<u64> = book.securities.iter().map(|security| security.code).collect();
-        let named = codes.iter().chain(self.issued.keys()).chain(self.posted_outside.keys());
-        for code in named.collect::<BTreeSet<_>>() {
+    /// What is kept as held is the sum of the accounts, what the library tells,
+    /// and deposits less withdrawals. Issued is that of form 2, and what is kept
+    /// as held plus what is kept as outside.
+    fn check_custody(&self, book: &Book, told: impl Fn(u64) -> u64) -> Result<(), String> {
+        for code in &self.securities(book) {
             let kept = book.security(*code);
-            let issued = kept.map_or(0, |security| i128::from(security.issued));
-            let outside = kept.map_or(0, |security| i128::from(security.outside));
-            let held = i128::from(held(*code));
-            same("held by the library = sum of accounts", code, held, i128::from(book.held(*code)))?;
+            let figure = |figure: fn(&Security) -> u64| i128::from(kept.map_or(0, figure));
+            let issued = figure(|security| security.issued);
+            let outside = figure(|security| security.outside);
+            let held = figure(|security| security.held);
+            same("held = sum of accounts", code, held, i128::from(book.sum_of_accounts(*code)))?;
+            same("held = held by the library", code, held, i128::from(told(*code)))?;
             same("issued = quantity of form 2", code, issued, at(&self.issued, code))?;
             let deposited = at(&self.deposits, code) - at(&self.withdrawals, code);
             same("held = deposits - withdrawals", code, held, deposited)?;
@@ -129,6 +131,16 @@ impl Totals {
             same("outside = posted rows of type 91", code, outside, at(&self.posted_outside, code))?;
         }
         Ok(())
+    }
+
+    /// The securities of the book, also those of accounts alone, and those of
+    /// the calls. What is not admitted has only zeros.
+    fn securities(&self, book: &Book) -> BTreeSet<u64> {
+        let of_calls = [&self.issued, &self.deposits, &self.withdrawals, &self.posted_outside];
+        let mut codes: BTreeSet<u64> = of_calls.into_iter().flat_map(BTreeMap::keys).copied().collect();
+        codes.extend(book.securities.iter().map(|security| security.code));
+        codes.extend(book.accounts.keys().map(|account| account.security));
+        codes
     }
 
     fn check_cash(&self, book: &Book) -> Result<(), String> {

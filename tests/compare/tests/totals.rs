@@ -23,14 +23,19 @@ fn busy_list() -> (Totals, Book) {
     (totals, book)
 }
 
+/// What the totals say of a book.
+fn check(totals: &Totals, book: &Book) -> Result<(), String> {
+    totals.check(book, |security| book.held(security))
+}
+
 /// What the totals say of a changed book.
 fn complaint(change: impl Fn(&mut Book)) -> String {
     let (totals, right) = busy_list();
-    assert_eq!(totals.check(&right, |security| right.held(security)), Ok(()));
+    assert_eq!(check(&totals, &right), Ok(()));
     let mut wrong = right.clone();
     change(&mut wrong);
     assert_ne!(right, wrong, "the change changes something");
-    totals.check(&wrong, |security| wrong.held(security)).expect_err("a wrong book")
+    check(&totals, &wrong).expect_err("a wrong book")
 }
 
 fn account_where(book: &Book, wanted: impl Fn(&Account) -> bool) -> Account {
@@ -42,8 +47,51 @@ fn a_share_from_nowhere_is_seen() {
     let text = complaint(|book| {
         let account = account_where(book, |account| account.account_type == 20);
         book.set_balance(account, book.balance(&account) + 1);
+        book.admitted(account.security).held += 1;
     });
     assert!(text.starts_with("held = deposits - withdrawals"), "{text}");
+}
+
+#[test]
+fn a_held_figure_that_is_not_the_sum_of_accounts_is_seen() {
+    let changes: [fn(&mut Book); 5] = [
+        |book| book.securities[0].held += 1,
+        |book| book.securities[1].held -= 1,
+        |book| book.securities[0].held = 0,
+        |book| {
+            let security = &mut book.securities[0];
+            std::mem::swap(&mut security.held, &mut security.outside);
+        },
+        |book| {
+            let account = account_where(book, |account| account.account_type == 20);
+            book.set_balance(account, book.balance(&account) + 1);
+        },
+    ];
+    for (place, change) in changes.into_iter().enumerate() {
+        let text = complaint(change);
+        assert!(text.starts_with("held = sum of accounts"), "change {place}: {text}");
+    }
+}
+
+#[test]
+fn an_account_of_a_security_that_is_not_admitted_is_seen() {
+    let text = complaint(|book| {
+        let admitted = account_where(book, |account| account.account_type == 20);
+        book.set_balance(Account { security: 16_000, ..admitted }, 3);
+    });
+    assert_eq!(text, "held = sum of accounts: 16000 has 0 and 3");
+}
+
+#[test]
+fn a_held_figure_that_the_library_does_not_tell_is_seen() {
+    let (totals, book) = busy_list();
+    let (first, second) = (&book.securities[0], &book.securities[1]);
+    assert!(first.held != first.outside && first.held != second.held, "else nothing would be seen");
+    let outside = |code| book.security(code).map_or(0, |security| security.outside);
+    let others = |code| if code == first.code { second.held } else { book.held(code) };
+    for text in [totals.check(&book, outside), totals.check(&book, others), totals.check(&book, |_| 0)] {
+        assert!(text.as_ref().is_err_and(|text| text.starts_with("held = held by the library")), "{text:?}");
+    }
 }
 
 #[test]
@@ -89,7 +137,7 @@ fn a_rate_counts_nowhere() {
     let (mut totals, book) = busy_list();
     let order = Order { form: 18, minute: 500, quantity: 150_000, ..Order::default() };
     totals.take(&pack(&order.fields(), 0), &Answer::Accepted(Counts::default()), &[]);
-    assert_eq!(totals.check(&book, |security| book.held(security)), Ok(()));
+    assert_eq!(check(&totals, &book), Ok(()));
 }
 
 /// A list of orders that are all accepted. Of one of them the totals may see
@@ -144,7 +192,7 @@ fn three_requests() -> Vec<Order> {
 #[test]
 fn what_leaves_by_a_request_is_withdrawn() {
     let (totals, book) = list_of(&three_requests(), None);
-    assert_eq!(totals.check(&book, |security| book.held(security)), Ok(()));
+    assert_eq!(check(&totals, &book), Ok(()));
     assert_eq!([101, 102].map(|security| book.held(security)), [350, 293]);
 }
 
@@ -157,7 +205,7 @@ fn the_last_request_before_an_ending_counts() {
     let checks: Vec<Result<(), String>> = requests
         .map(|place| {
             let (totals, book) = list_of(&orders, Some(place));
-            totals.check(&book, |security| book.held(security))
+            check(&totals, &book)
         })
         .collect();
     let complaint = |text: &str| Err(format!("held = deposits - withdrawals: 101 has {text}"));

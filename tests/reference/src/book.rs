@@ -30,6 +30,8 @@ pub struct Security {
     pub code: u64,
     pub issued: u64,
     pub outside: u64,
+    /// What its accounts hold, kept so that nobody has to add them up.
+    pub held: u64,
 }
 
 /// What names an account (RULES 1.15).
@@ -246,8 +248,13 @@ impl Book {
         self.cash.iter().filter(|(purse, _)| purse.currency == currency).map(|(_, amount)| amount).sum()
     }
 
-    /// RULES 1.17.
+    /// The figure that is kept with the security (RULES 3.19).
     pub fn held(&self, security: u64) -> u64 {
+        self.security(security).map_or(0, |security| security.held)
+    }
+
+    /// What `held` must be (RULES 1.17).
+    pub fn sum_of_accounts(&self, security: u64) -> u64 {
         let of_security = |account: &Account| account.security == security;
         self.accounts.iter().filter(|(account, _)| of_security(account)).map(|(_, balance)| balance).sum()
     }

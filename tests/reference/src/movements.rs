@@ -17,17 +17,19 @@ pub fn open_day(book: &mut Book, order: &Order, _: &mut Rows) -> Counts {
     Counts::default()
 }
 
-/// At first the whole issue is outside.
+/// At first the whole issue is outside, and nothing is held.
 pub fn admit(book: &mut Book, order: &Order, rows: &mut Rows) -> Counts {
     let Order { security: code, quantity, .. } = *order;
-    book.securities.push(Security { code, issued: quantity, outside: quantity });
+    book.securities.push(Security { code, issued: quantity, outside: quantity, held: 0 });
     rows.admission(code, quantity);
     Counts::default()
 }
 
 pub fn deposit(book: &mut Book, order: &Order, rows: &mut Rows) -> Counts {
     let account = credited_account(order);
-    book.admitted(order.security).outside -= order.quantity;
+    let security = book.admitted(order.security);
+    security.outside -= order.quantity;
+    security.held += order.quantity;
     book.set_balance(account, book.balance(&account) + order.quantity);
     rows.deposit(&account, order.quantity);
     Counts::default()
@@ -36,12 +38,14 @@ pub fn deposit(book: &mut Book, order: &Order, rows: &mut Rows) -> Counts {
 pub fn withdraw(book: &mut Book, order: &Order, rows: &mut Rows) -> Counts {
     let account = debited_account(order);
     book.set_balance(account, book.balance(&account) - order.quantity);
-    book.admitted(order.security).outside += order.quantity;
+    let security = book.admitted(order.security);
+    security.held -= order.quantity;
+    security.outside += order.quantity;
     rows.withdrawal(&account, order.quantity);
     Counts::default()
 }
 
-/// Transfer, pledge, release, block and unblock.
+/// Transfer, pledge, release, block and unblock: as much is held as before.
 pub fn move_shares(book: &mut Book, order: &Order, rows: &mut Rows) -> Counts {
     let (from, to) = (debited_account(order), credited_account(order));
     book.set_balance(from, book.balance(&from) - order.quantity);

@@ -2,7 +2,7 @@
 
 use std::fmt::Write;
 
-use crate::book::Book;
+use crate::book::{Book, Security};
 use crate::call::{AREA_BYTES, Answer};
 use crate::record::RECORD_BYTES;
 
@@ -20,9 +20,13 @@ pub fn print(input: &[u8]) -> String {
         writeln!(text, "{} {answer} {rows}", place + 1).expect("a string takes all");
     }
     for security in &book.securities {
-        let (code, issued, outside) = (security.code, security.issued, security.outside);
-        let held = book.held(code);
-        writeln!(text, "CUSTODY {code} ISSUED {issued} HELD {held} OUTSIDE {outside}").expect("a string takes all");
+        writeln!(text, "{}", custody_line(security)).expect("a string takes all");
     }
     text
+}
+
+/// All four figures are kept with the security; no account is looked at.
+pub fn custody_line(security: &Security) -> String {
+    let Security { code, issued, outside, held } = security;
+    format!("CUSTODY {code} ISSUED {issued} HELD {held} OUTSIDE {outside}")
 }

@@ -61,7 +61,9 @@ pub fn end(book: &mut Book, order: &Order, rows: &mut Rows) -> Counts {
             rows.share_movement(&from, &to, quantity);
         }
         None => {
-            book.admitted(from.security).outside += quantity;
+            let security = book.admitted(from.security);
+            security.held -= quantity;
+            security.outside += quantity;
             rows.withdrawal(&from, quantity);
         }
     }

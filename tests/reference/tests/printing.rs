@@ -1,9 +1,11 @@
-//! The printing example of RULES 13.7.
+//! The printing example of RULES 13.7, and the custody lines of worked lists.
 
 mod common;
 
 use common::*;
-use reference::printing::print;
+use reference::book::{Book, Security};
+use reference::printing::{custody_line, print};
+use reference::worked::{self, Reply};
 
 fn example() -> Vec<u8> {
     let holder = account(7, 20, 5);
@@ -39,6 +41,38 @@ fn what_is_requested_is_held() {
     let text = print(&input);
     assert!(text.contains("\n11 0 2\n12 0 2\n"), "{text}");
     assert_eq!(text.lines().last(), Some("CUSTODY 101 ISSUED 1000 HELD 350 OUTSIDE 650"));
+}
+
+/// All records of a worked list, one behind the other.
+fn records_of(list: &str) -> Vec<u8> {
+    let named = worked::lists().into_iter().find(|worked| worked.name == list).expect("a worked list");
+    let (mut records, mut book, mut area) = (Vec::new(), Book::fresh(), vec![0; 4096]);
+    let run = named.run(|order| {
+        records.extend(record(order));
+        let answer = book.call(&record(order), &mut area);
+        Ok(Reply { answer, area: area.clone(), book: book.clone() })
+    });
+    assert_eq!(run, Ok(()));
+    records
+}
+
+#[test]
+fn what_is_held_of_each_security_is_printed() {
+    let one = print(&records_of("custody of one security"));
+    let two = print(&records_of("custody of two securities"));
+    let custody = |text: &str| text[text.find("CUSTODY").expect("a custody line")..].to_string();
+    assert_eq!(custody(&one), "CUSTODY 101 ISSUED 1000 HELD 270 OUTSIDE 730\n");
+    assert_eq!(
+        custody(&two),
+        "CUSTODY 101 ISSUED 1000 HELD 260 OUTSIDE 740\nCUSTODY 102 ISSUED 500 HELD 70 OUTSIDE 430\n"
+    );
+}
+
+/// Even if it were wrong.
+#[test]
+fn the_figure_that_is_kept_is_printed() {
+    let security = Security { code: 1, issued: 2, outside: 3, held: 4 };
+    assert_eq!(custody_line(&security), "CUSTODY 1 ISSUED 2 HELD 4 OUTSIDE 3");
 }
 
 #[test]

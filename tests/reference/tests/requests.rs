@@ -113,7 +113,7 @@ fn a_request_moves_shares_to_type_50_and_is_remembered() {
         assert_eq!((book.balance(&holder(from)), book.balance(&holder(50))), (70, 30));
         let request = Request { security: SECURITY, account_type: from, shareholder: 5, quantity: 30, day: 1 };
         assert_eq!(book.requests.iter().collect::<Vec<_>>(), [(&RequestName { member: 7, reference: 9 }, &request)]);
-        assert_eq!((book.held(SECURITY), &book.securities), (before.held(SECURITY), &before.securities));
+        assert_eq!((book.sum_of_accounts(SECURITY), &book.securities), (400, &before.securities));
         assert_eq!(book.day.last_minute, 600);
     }
 }

@@ -3,7 +3,7 @@
 mod common;
 
 use common::*;
-use reference::book::Book;
+use reference::book::{Book, Security};
 use reference::call::Answer;
 use reference::record::Order;
 use reference::worked::{self, Reply};
@@ -47,5 +47,21 @@ fn a_worked_list_sees_a_wrong_row_or_figure() {
     let figures = complaints(|reply| reply.book.requests.clear());
     assert!(figures.len() == 2 && figures.iter().all(|text| text.contains("open requests")), "{figures:?}");
     let figures = complaints(|reply| reply.book.accounts.clear());
-    assert!(figures.len() == 2 && figures.iter().all(|text| text.contains("accounts: expected")), "{figures:?}");
+    assert!(figures.len() == 5 && figures.iter().all(|text| text.contains("accounts: expected")), "{figures:?}");
+}
+
+/// What the lists of custody say of a book in which each security is changed
+/// like this.
+fn custody_complaints(change: impl Fn(&mut Security)) -> Vec<String> {
+    let mut complaints = complaints(|reply| reply.book.securities.iter_mut().for_each(&change));
+    complaints.retain(|text| text.contains("'custody of"));
+    complaints
+}
+
+#[test]
+fn a_worked_list_sees_a_wrong_held_figure() {
+    let more = custody_complaints(|security| security.held += 1);
+    assert!(more.len() == 3 && more.iter().all(|text| text.contains(": held: expected")), "{more:?}");
+    let exchanged = custody_complaints(|security| std::mem::swap(&mut security.held, &mut security.outside));
+    assert!(exchanged.len() == 3 && exchanged.iter().all(|text| text.contains(": held: expected")), "{exchanged:?}");
 }

@@ -7,8 +7,8 @@
 use std::slice::{from_raw_parts, from_raw_parts_mut};
 
 use boundary::{
-    BOOK_WORDS, COUNT_WORDS, WRONG_BOOK, WRONG_COUNTS, WRONG_FIELDS, WRONG_VALUES, decode, encode, request_told,
-    sizes_told,
+    BOOK_WORDS, COUNT_WORDS, NO_SUCH_PLACE, WRONG_BOOK, WRONG_COUNTS, WRONG_FIELDS, WRONG_VALUES, decode, encode,
+    request_told, security_told, sizes_told,
 };
 use reference::book::Book;
 use reference::call::{Answer, Counts};
@@ -127,15 +127,41 @@ pub unsafe extern "C" fn depository_request(
     tell(words, values, |book| request_told(book, member, reference))
 }
 
+/// # Safety
+/// See depository.h.
+#[unsafe(no_mangle)]
+pub unsafe extern "C" fn depository_security(
+    book: *const u64,
+    words: usize,
+    place: usize,
+    values: *mut u64,
+    values_words: usize,
+) -> u64 {
+    let (words, values) = unsafe { (shared(book, words), unique(values, values_words)) };
+    tell_of_place(words, values, |book| security_told(book, place))
+}
+
 /// Puts figures of a book into values of as many words.
 fn tell<const WORDS: usize>(words: &[u64], values: &mut [u64], figures: impl Fn(&Book) -> [u64; WORDS]) -> u64 {
+    tell_of_place(words, values, |book| Some(figures(book)))
+}
+
+/// The same where a place may be behind the last.
+fn tell_of_place<const WORDS: usize>(
+    words: &[u64],
+    values: &mut [u64],
+    figures: impl Fn(&Book) -> Option<[u64; WORDS]>,
+) -> u64 {
     if words.len() != BOOK_WORDS {
         return WRONG_BOOK;
     }
     if values.len() != WORDS {
         return WRONG_VALUES;
     }
-    values.copy_from_slice(&figures(&decode(words).expect("a book of this library")));
+    let Some(figures) = figures(&decode(words).expect("a book of this library")) else {
+        return NO_SUCH_PLACE;
+    };
+    values.copy_from_slice(&figures);
     0
 }
 

@@ -34,6 +34,7 @@ pub const EVENTS: &[&str] = &[
     "cycle opens an account",
     "cycle empties an account",
     "cycle settles in a full book",
+    "trades of two securities settle in one cycle",
 ];
 
 type Trades<'a> = [&'a Item];
@@ -56,6 +57,10 @@ impl Coverage {
             (settled.len() == 64, "64 trades settled in one cycle"),
             (left.len() == 64, "64 trades left in one cycle"),
             (!settled.is_empty() && is_full(book), "cycle settles in a full book"),
+            (
+                settled.iter().any(|trade| trade.security != settled[0].security),
+                "trades of two securities settle in one cycle",
+            ),
         ]);
         self.settled_trades(book, &settled);
         self.netting(book, &settled);

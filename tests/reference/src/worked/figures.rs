@@ -1,6 +1,7 @@
 //! What a worked list says of a book.
 
 use crate::book::{Account, Book, Item, State};
+use crate::printing::custody_line;
 
 /// One figure of a book.
 pub enum Figure {
@@ -20,6 +21,11 @@ pub enum Figure {
     Requests(usize),
     /// A security's outside count.
     Outside(u64, u64),
+    /// A security's held count: the figure that is kept, and the sum of its
+    /// accounts.
+    Held(u64, u64),
+    /// The custody lines, in order of admission.
+    Printed(&'static [&'static str]),
 }
 
 impl Figure {
@@ -40,6 +46,14 @@ impl Figure {
             Figure::Requests(count) => same("open requests", count, &book.requests.len()),
             Figure::Outside(code, outside) => {
                 same("outside", &Some(*outside), &book.security(*code).map(|security| security.outside))
+            }
+            Figure::Held(code, held) => {
+                same("held", held, &book.held(*code))?;
+                same("sum of accounts", held, &book.sum_of_accounts(*code))
+            }
+            Figure::Printed(lines) => {
+                let expected: Vec<String> = lines.iter().map(|line| line.to_string()).collect();
+                same("custody lines", &expected, &book.securities.iter().map(custody_line).collect())
             }
         }
     }

@@ -2,7 +2,9 @@
 //! worked out on paper. They stand here alone. The tests of this crate run
 //! them, and so does the comparison, on both of its sides.
 
+mod custody;
 mod figures;
+mod orders;
 mod rate;
 mod requests;
 
@@ -12,6 +14,7 @@ use crate::record::Order;
 use crate::rows::ROW_BYTES;
 use crate::windows::{end_of_work, next_cycle_minute};
 use figures::{Figure, same};
+use orders::{form, open};
 
 /// A list starts from the fresh book.
 pub struct List {
@@ -39,33 +42,26 @@ pub struct Reply {
 
 /// All lists.
 pub fn lists() -> Vec<List> {
-    rate::lists().into_iter().chain(requests::lists()).collect()
+    [rate::lists(), requests::lists(), custody::lists()].into_iter().flatten().collect()
 }
 
 /// An accepted call that writes no row and counts nothing.
 fn accepted(order: Order) -> Step {
-    accepted_with_rows(order, 0)
+    Step::Call(order, Answer::Accepted(Counts::default()))
 }
 
-fn accepted_with_rows(order: Order, rows: u64) -> Step {
-    Step::Call(order, Answer::Accepted(Counts { rows, ..Counts::default() }))
+/// A call that writes a movement's two rows.
+fn moved(order: Order) -> Step {
+    Step::Call(order, Answer::Accepted(Counts { rows: 2, ..Counts::default() }))
 }
 
 fn refused(order: Order, number: u64) -> Step {
     Step::Call(order, Answer::Refused(number))
 }
 
-fn form(form: u64, minute: u64) -> Order {
-    Order { form, minute, ..Order::default() }
-}
-
-fn open(kind: u64, minute: u64) -> Order {
-    Order { quantity: kind, ..form(1, minute) }
-}
-
 /// Security 101, of 1,000 shares.
 fn admission(minute: u64) -> Step {
-    accepted_with_rows(Order { security: 101, quantity: 1_000, ..form(2, minute) }, 2)
+    moved(Order { security: 101, quantity: 1_000, ..form(2, minute) })
 }
 
 impl List {

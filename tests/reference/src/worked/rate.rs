@@ -1,7 +1,8 @@
 //! The rate and the tolerance in LBP that follows it (RULES 6.18, 8.4, 8.9).
 
 use super::Figure::*;
-use super::{List, Step, accepted, admission, form, open, refused};
+use super::orders::{form, open};
+use super::{List, Step, accepted, admission, refused};
 use crate::record::Order;
 
 /// The largest rate, and the largest amount.

@@ -1,7 +1,8 @@
 //! Requests for paper and their endings (RULES 6.19, 6.20, 7.19 to 7.21).
 
 use super::Figure::*;
-use super::{List, Step, accepted, accepted_with_rows, admission, form, open, refused};
+use super::orders::{Party, credit, debit, ending, form, open, request};
+use super::{List, Step, accepted, admission, moved, refused};
 use crate::record::Order;
 
 pub fn lists() -> Vec<List> {
@@ -12,44 +13,8 @@ pub fn lists() -> Vec<List> {
     ]
 }
 
-/// Member, type and shareholder.
-type Party = (u64, u64, u64);
-
-/// Shares of security 101 from a party.
-fn debit((member, account_type, shareholder): Party, quantity: u64, order: Order) -> Order {
-    Order {
-        security: 101,
-        debited_member: member,
-        debited_type: account_type,
-        debited_shareholder: shareholder,
-        quantity,
-        ..order
-    }
-}
-
-fn deposit(quantity: u64, (member, account_type, shareholder): Party) -> Step {
-    let order = Order {
-        security: 101,
-        credited_member: member,
-        credited_type: account_type,
-        credited_shareholder: shareholder,
-        quantity,
-        ..form(3, 510)
-    };
-    accepted_with_rows(order, 2)
-}
-
-fn request(minute: u64, quantity: u64, from: Party, reference: u64) -> Order {
-    Order { reference, ..debit(from, quantity, form(19, minute)) }
-}
-
-fn ending(minute: u64, sender: u64, into: u64, reference: u64) -> Order {
-    Order { debited_member: sender, credited_type: into, reference, ..form(20, minute) }
-}
-
-/// A call that writes a movement's two rows.
-fn moved(order: Order) -> Step {
-    accepted_with_rows(order, 2)
+fn deposit(quantity: u64, to: Party) -> Step {
+    moved(credit(to, quantity, form(3, 510)))
 }
 
 /// One account of type 50 with two requests: the one ends in paper, the other

@@ -136,11 +136,22 @@ pub fn send(book: &mut Book, order: &Order) -> Answer {
     book.call(&record(order), &mut [0; 4096])
 }
 
-/// Sends an order that must be accepted.
+/// Sends an order that must be accepted, and sees that what is held of each
+/// security is still the sum of its accounts.
 pub fn accept(book: &mut Book, order: &Order) -> Counts {
     match send(book, order) {
-        Answer::Accepted(counts) => counts,
+        Answer::Accepted(counts) => {
+            check_held(book);
+            counts
+        }
         Answer::Refused(number) => panic!("{order:?} is refused with {number}"),
+    }
+}
+
+fn check_held(book: &Book) {
+    for security in &book.securities {
+        assert_eq!(security.held, book.sum_of_accounts(security.code), "{security:?}");
+        assert_eq!(security.held + security.outside, security.issued, "{security:?}");
     }
 }
 
@@ -160,6 +171,7 @@ pub fn rows_of(book: &mut Book, order: &Order) -> (Counts, Vec<[u8; 16]>) {
     let Answer::Accepted(counts) = book.call(&record(order), &mut area) else {
         panic!("{order:?} is refused");
     };
+    check_held(book);
     let end = counts.rows as usize * 16;
     assert!(area[end..].iter().all(|byte| *byte == 0xEE), "bytes after the rows are kept");
     (counts, area[..end].chunks(16).map(|row| row.try_into().expect("16 bytes")).collect())
