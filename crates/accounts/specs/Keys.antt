@@ -1,5 +1,5 @@
 -- An account as one number: security, member, type and shareholder, as in a posting row.
-use Prim.Native.Nat.{ℕ, _+_, _*_, _/_, _^_}
+use Prim.Native.Nat.{ℕ, _+_, _*_, _^_}
 use mathlib.Core.Bool.{Bool, _&&_}
 use Rattle.plain.specs.Lists.{_below_}
 use Rattle.rulebook.specs.declared.Account.{Account}
@@ -7,10 +7,6 @@ use Rattle.rulebook.specs.declared.Account.{Account}
 abbrev pub keyOf : Account → ℕ
 keyOf a = a.security * 2 ^ 48 + a.member * 2 ^ 38 + a.typ * 2 ^ 30 + a.shareholder
 
--- the security of a key, by which the proofs sum what is held
-abbrev pub securityOf : ℕ → ℕ
-securityOf key = key / 2 ^ 48
-
--- the same as a test
+-- what `AccountInRange` says, as a test
 unfoldable pub inRange : Account → Bool
 inRange a = a.security below 2 ^ 14 && a.member below 2 ^ 10 && a.typ below 2 ^ 8 && a.shareholder below 2 ^ 30
