@@ -106,8 +106,8 @@ module _ (s : List ℕ) (kept : Kept s) (code : ℕ) where
 
 -- the outside count of a code is stored, and then its held count
 
-abbrev Counts : (outside held : ℕ → ℕ) → ℕ → Holdings → Holdings
-Counts outside held code h = let k = putOutside code (outside (outsideOf code h)) h in putHeld code (held (heldOf code k)) k
+abbrev counted : (outside held : ℕ → ℕ) → ℕ → Holdings → Holdings
+counted outside held code h = let k = putOutside code (outside (outsideOf code h)) h in putHeld code (held (heldOf code k)) k
 
 module _ (s : List ℕ) (kept : Kept s) (code j : ℕ) (here : placeOf code s ≡ At j) (outside held : ℕ → ℕ) where
   abbrev low : j < rows s
@@ -145,7 +145,7 @@ module _ (s : List ℕ) (kept : Kept s) (code j : ℕ) (here : placeOf code s �
   unfolding putHeld
   two = stored first (one .0) code j low-first own-first HELD withHeld held-column (held (getD first (j + HELD) 0))
 
-  pub both-stored : Kept both × ((h : Holdings) → withSecurities both h ≡ Counts outside held code (withSecurities s h))
+  pub both-stored : Kept both × ((h : Holdings) → withSecurities both h ≡ counted outside held code (withSecurities s h))
   both-stored = (
     two .0,
     λ h. two .1 h
@@ -156,7 +156,7 @@ module _ (s : List ℕ) (kept : Kept s) (code j : ℕ) (here : placeOf code s �
 -- and where there is none with the code nothing changes
 pub both-nowhere :
     (s : List ℕ) → Kept s → (code : ℕ) → placeOf code s ≡ Nothing → (outside held : ℕ → ℕ) (h : Holdings)
-    → withSecurities s h ≡ Counts outside held code (withSecurities s h)
+    → withSecurities s h ≡ counted outside held code (withSecurities s h)
 unfolding putOutside putHeld
 both-nowhere s kept code e outside held h =
     let none = nowhere s kept code e in
