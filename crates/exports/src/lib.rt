@@ -184,7 +184,7 @@ pub extern "C" fn depository_sizes(book: &[u64], values: &mut [u64]) -> u64
 pub extern "C" fn depository_security(book: &[u64], place: usize, values: &mut [u64]) -> u64
     requires { ⌜ Lent (now book) ⌝ }
     ensures { λ r. ⌜
-        TellsAt (now (book .entry)) (now (values .entry)) 4 securityFigures
+        TellsAt (now (book .entry)) (now (values .entry)) 4 (securityFigures (ledgerOf (now (book .entry)) .holdings))
         place (ledgerOf (now (book .entry)) .holdings .securities) r (now (values .exit))
         ⌝ }
 {

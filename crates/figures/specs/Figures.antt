@@ -3,7 +3,7 @@ use Prim.Native.Nat.{ℕ}
 use mathlib.Core.List.{List, [], _∷_}
 use lib.ListN.{length}
 use Rattle.plain.specs.Lists.{if_then_else_}
-use Rattle.rulebook.specs.Ledger.{Ledger, held}
+use Rattle.rulebook.specs.Ledger.{Ledger, Holdings, held}
 use Rattle.rulebook.specs.declared.Counts.{Counts}
 use Rattle.rulebook.specs.declared.Day.{Day}
 use Rattle.rulebook.specs.declared.Item.{Item}
@@ -24,9 +24,13 @@ dayFigures d = d.number ∷ bit d.opened ∷ d.kind ∷ d.cycles ∷ d.minute �
 abbrev pub sizeFigures : Ledger → List ℕ
 sizeFigures b = length b.holdings.securities ∷ b.holdings.accounts ∷ length b.waiting ∷ b.requests.number ∷ []
 
--- what was issued, what is held, what is outside
-abbrev pub securityFigures : Security → List ℕ
-securityFigures s = s.code ∷ s.issued.0 ∷ s.held.0 ∷ s.outside.0 ∷ []
+-- a security, with a count as what is held of it
+abbrev pub securityWith : Security → ℕ → List ℕ
+securityWith s held = s.code ∷ s.issued.0 ∷ held ∷ s.outside.0 ∷ []
+
+-- with what its accounts hold
+abbrev pub securityFigures : Holdings → Security → List ℕ
+securityFigures h s = securityWith s (held s.code h)
 
 abbrev pub requestFigures : Request → List ℕ
 requestFigures r = r.security ∷ r.typ ∷ r.shareholder ∷ r.quantity.0 ∷ r.day ∷ []

@@ -1,7 +1,7 @@
 // A call's counts and what a book says, as words in a buffer of the right length.
 ghost use mathlib.Core.Path.{_≡_};
 ghost use lib.ListN.{length};
-ghost use Rattle.figures.specs.Figures.{countFigures, dayFigures, securityFigures, requestFigures, stateFigures, itemFigures};
+ghost use Rattle.figures.specs.Figures.{countFigures, dayFigures, securityWith, requestFigures, stateFigures, itemFigures};
 use rulebook::Counts;
 use rulebook::Day;
 use rulebook::Item;
@@ -44,10 +44,10 @@ pub fn put_day(values: &mut [u64], day: Day)
     words::write(values, 0, &figures);
 }
 
-// A security goes into 4 words.
+// A security goes into 4 words, with the held count that it keeps.
 pub fn put_security(values: &mut [u64], security: Security)
     requires { ⌜ length (now values) ≡ 4 ⌝ }
-    ensures { λ u. ⌜ now (values .exit) ≡ securityFigures security ⌝ }
+    ensures { λ u. ⌜ now (values .exit) ≡ securityWith security (security .held .0) ⌝ }
 {
     let figures = [
         security.code,

@@ -1,11 +1,14 @@
 -- `exports::depository_security` meets its contract. Assumes nothing.
-use Prim.Native.Nat.{_<_}
+use Prim.Native.Nat.{ℕ, _<_}
 use mathlib.Core.Path.{_≡_, sym, ap, _∙_}
 use native.Mathlib.Omega.{arith}
 use borrow.Author.Needs.{needs}
+use mathlib.Core.List.{List}
 use lib.ListN.{length}
+use Rattle.rulebook.specs.Ledger.{held}
+use Rattle.rulebook.specs.declared.Security.{Security}
 use Rattle.book.specs.Meaning.{bookLength, holdingsOf}
-use Rattle.figures.specs.Figures.{securityFigures}
+use Rattle.figures.specs.Figures.{securityWith, securityFigures}
 use Rattle.exports.proofs.Answers.{lengths-right, tells-at-wrong, tells-none, tells-at}
 use Rattle.exports.proofs.depository_security.Statement.{statement}
 use Rattle.exports.proofs.depository_security.Tie as tie
@@ -39,13 +42,20 @@ security-at-requires c κs = let passed = c .before .before in (start (passed .b
 put-security-requires : tie.Need-put-security-requires
 put-security-requires c κs = right (c .before .before .before .before) .1
 
+-- the count that was found is the sum
+told :
+    (book : List ℕ) (found is : Security) → found ≡ is → found.held.0 ≡ held found.code (holdingsOf book)
+    → securityWith found (found.held.0) ≡ securityFigures (holdingsOf book) is
+told book found is e f = ap (securityWith found) f ∙ ap (securityFigures (holdingsOf book)) e
+
 returns-3 : tie.Need-returns-3
 returns-3 c =
     let put = c .before .before in
     let found = put .before .before in
     let passed = found .before .before .before in
     tells-at _ _ _ _ _ _ _ (passed .before .lengths .ensures) (passed .if1 .left) _ (there (found .before))
-    (λ other. put .put-security .ensures ∙ ap securityFigures (found .security-at .ensures .0 other))
+    (λ other. put .put-security .ensures
+    ∙ told (start (passed .before) .args .book .now) _ _ (found .security-at .ensures .0 other) (found .security-at .ensures .1))
 
 pub depository-security-spec : {M : Type 1} → statement M
 depository-security-spec =
