@@ -1,5 +1,9 @@
 // Posting rows and notices, 16 bytes each, and the counts that are answered with them. The area that a function is lent starts at the next free
 // byte; the bytes after its rows are kept.
+mod reading;
+
+pub use reading::notice_in;
+pub use reading::posting_in;
 ghost use mathlib.Core.Path.{_≡_};
 ghost use mathlib.Core.List.{[], _∷_, _++_};
 ghost use Prim.Native.Nat.{_≤_};

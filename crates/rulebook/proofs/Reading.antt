@@ -1,4 +1,4 @@
--- Posting rows that are written are read back, and count for the places of their movements. Assumes nothing.
+-- Rows that are written are read back, and posting rows count for the places of their movements. Assumes nothing.
 use mathlib.Core.Path.{_≡_, refl, ap, ap₂, _∙_}
 use mathlib.Core.Bool.{false, _&&_, _||_}
 use mathlib.Core.List.{List, [], _∷_, _++_, append-assoc, append-nil}
@@ -15,16 +15,17 @@ use Rattle.bits.proofs.Numbers.{length-bytes}
 use Rattle.bits.proofs.Packing.{values-back}
 use Rattle.rulebook.specs.Ledger.{sameAccount}
 use Rattle.rulebook.specs.Movements.{Place, account, type91, type90, cashOf, member0, Movement}
-use Rattle.rulebook.specs.Rows.{postingWidths, postingBytes, postingIn, postingOf, postingRows, rowBytes, rowsBytes}
+use Rattle.rulebook.specs.Rows.{postingWidths, noticeWidths, postingBytes, noticeBytes, postingIn, noticeIn, postingOf, postingRows, rowBytes, rowsBytes}
 use Rattle.rulebook.specs.declared.Posting.{Posting}
+use Rattle.rulebook.specs.declared.Notice.{Notice}
 use Rattle.rulebook.specs.Calls.{firstRows, names}
 use Rattle.rulebook.proofs.Places.{isAt, brought, taken}
 
 -- a posting's fields, and that they fit a row
-abbrev columns : Posting → List ℕ
+abbrev pub columns : Posting → List ℕ
 columns p = p.credit ∷ p.cash ∷ p.what ∷ p.member ∷ p.typ ∷ p.shareholder ∷ p.number ∷ []
 
-abbrev RowFits : Posting → Type 0
+abbrev pub RowFits : Posting → Type 0
 RowFits p = Fit postingWidths (columns p)
 
 row-length : (p : Posting) → length (postingBytes p) ≡ 16
@@ -36,9 +37,21 @@ unfolding postingBytes postingWidths
 columns-back p f =
     rw (append-nil (postingBytes p)) at (values-back 16 postingWidths (columns p) [] (λ i. lit< tt) refl f)
 
-posting-back : (p : Posting) → RowFits p → postingIn (postingBytes p) ≡ p
+pub posting-back : (p : Posting) → RowFits p → postingIn (postingBytes p) ≡ p
 unfolding postingIn
 posting-back p f = rw (columns-back p f)
+
+-- and so is a notice
+abbrev pub noticed : Notice → List ℕ
+noticed n = n.kind ∷ n.deliverer ∷ n.receiver ∷ n.«deliver_reference» ∷ n.«receive_reference» ∷ 0 ∷ []
+
+notice-columns : (n : Notice) → Fit noticeWidths (noticed n) → cut (noticeBytes n) 0 noticeWidths ≡ noticed n
+unfolding noticeBytes noticeWidths
+notice-columns n f = rw (append-nil (noticeBytes n)) at (values-back 16 noticeWidths (noticed n) [] (λ i. lit< tt) refl f)
+
+pub notice-back : (n : Notice) → Fit noticeWidths (noticed n) → noticeIn (noticeBytes n) ≡ n
+unfolding noticeIn
+notice-back n f = rw (notice-columns n f)
 
 -- the row at an area's start
 first-row : (n : ℕ) (p : Posting) (rest : List ℕ) → RowFits p → firstRows (suc n) (postingBytes p ++ rest) ≡ p ∷ firstRows n rest
@@ -62,7 +75,7 @@ abbrev pub AllProper : List Movement → Type 0
 AllProper [] = Unit {0}
 AllProper (m ∷ rest) = Proper m.from × Proper m.to × (m.number < 2 ^ 64) × AllProper rest
 
-row-fits : (credit : ℕ) (q : Place) (n : ℕ) → credit < 2 → Proper q → n < 2 ^ 64 → RowFits (postingOf credit q n)
+pub row-fits : (credit : ℕ) (q : Place) (n : ℕ) → credit < 2 → Proper q → n < 2 ^ 64 → RowFits (postingOf credit q n)
 unfolding postingOf postingWidths
 row-fits credit (account a) n l f m = omega arith
 row-fits credit (type91 s) n l f m = omega arith

@@ -11,6 +11,7 @@ pub mod Matching
 pub mod Cycle
 pub mod Close
 pub mod Forms
+pub mod Names
 pub mod Record
 pub mod Refusals
 pub mod Call

@@ -53,6 +53,18 @@ noticeWidths = 4 ∷ 10 ∷ 10 ∷ 32 ∷ 32 ∷ 40 ∷ []
 unfoldable pub noticeBytes : Notice → List ℕ
 noticeBytes n = bytes 16 (pack 0 noticeWidths (n.kind ∷ n.deliverer ∷ n.receiver ∷ n.«deliver_reference» ∷ n.«receive_reference» ∷ 0 ∷ []))
 
+-- the notice that 16 bytes hold
+unfoldable pub noticeIn : List ℕ → Notice
+noticeIn row =
+    let fields = cut row 0 noticeWidths in
+    record {
+      kind = getD fields 0 0;
+      deliverer = getD fields 1 0;
+      receiver = getD fields 2 0;
+      «deliver_reference» = getD fields 3 0;
+      «receive_reference» = getD fields 4 0;
+    }
+
 -- RULES 11.10: the references that a notice tells
 unfoldable pub deliverReference : State → ℕ
 deliverReference (Single delivers reference) = if delivers then reference else 0
