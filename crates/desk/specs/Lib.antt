@@ -1,3 +1,2 @@
--- The input buffer, and what the program makes of what it reads.
-pub mod Input
+-- What the program makes of what it reads.
 pub mod Printed

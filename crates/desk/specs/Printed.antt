@@ -5,7 +5,7 @@ use mathlib.Core.List.{List}
 use mathlib.Core.Path.{_≡_}
 use lib.ListN.{take}
 use Rattle.rulebook.specs.Ledger.{Ledger}
-use Rattle.lines.specs.Text.{Put}
+use Rattle.text.specs.Text.{Put}
 use Rattle.printing.specs.Printed.{lent, BlockPut, FileCalled, custodyLines}
 
 -- bytes of the input buffer, 1,024 records, and of the output buffer

@@ -1,8 +1,5 @@
 // The printing program: calls the records of standard input one after the other on a fresh book, and prints a line for each, then a line for each
 // security. What it cannot do it tells in one line on standard error.
-mod input;
-mod output;
-
 ghost use mathlib.Core.Path.{_≡_};
 ghost use Prim.Native.Nat.{_+_, _^_, _≤_, _<_};
 ghost use lib.ListN.{length};
@@ -31,7 +28,7 @@ fn print_answers(
         ⌝ }
 {
     let end = printing::put_block(out, number, book, block, area);
-    output::print(&out[..end])
+    streams::print(&out[..end], b"desk: standard output cannot be written")
 }
 
 // Prints the custody lines of a book.
@@ -40,7 +37,7 @@ fn print_custody(out: &mut [u8], book: &[u64])
     ensures { λ r. ⌜ CustodyPrinted (ledgerOf (now (book .entry))) (now (out .entry)) (now (out .exit)) ⌝ }
 {
     let end = printing::put_custody(out, 0, book);
-    output::print(&out[..end]);
+    streams::print(&out[..end], b"desk: standard output cannot be written");
 }
 
 // Reads a block, calls its records and prints what they answer; true where more may follow. Where the input ends, the custody lines follow; after a
@@ -58,7 +55,7 @@ fn print_block(
         (now (area .exit))
         ⌝ }
 {
-    let filled = input::fill(input);
+    let filled = streams::fill_records(input, b"desk: standard input cannot be read");
     let size = filled.size;
     if !print_answers(out, number, book, &input[..size], area) {
         return false;
@@ -90,7 +87,7 @@ fn input_buffer() -> [u8; BLOCK]
 
 fn main() {
     if 1 < os::arg_count() {
-        output::tell(
+        streams::tell(
             b"desk: takes no words on its command line; records come from standard input\n",
         );
         return;

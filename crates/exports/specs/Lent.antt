@@ -6,23 +6,14 @@ use lib.ListN.{length}
 use Rattle.plain.specs.Lists.{if_then_else_, _is_}
 use Rattle.rulebook.specs.Ledger.{fresh}
 use Rattle.book.specs.Meaning.{bookLength, ledgerOf}
-use Rattle.book.specs.Stored.{Kept}
+use Rattle.telling.specs.Told.{wrongBook, Lent}
 
--- the numbers: a book, counts, fields, values that are not as long as they should be; a place behind the last
-abbrev pub wrongBook : ℕ
-wrongBook = 1001
-
+-- what is answered for counts and fields that are not as long as they should be
 abbrev pub wrongCounts : ℕ
 wrongCounts = 1002
 
 abbrev pub wrongFields : ℕ
 wrongFields = 1003
-
-abbrev pub wrongValues : ℕ
-wrongValues = 1004
-
-abbrev pub noSuchPlace : ℕ
-noSuchPlace = 1005
 
 -- how many words the counts and the fields have
 abbrev pub countWords : ℕ
@@ -30,10 +21,6 @@ countWords = 6
 
 abbrev pub fieldWords : ℕ
 fieldWords = 18
-
--- the one premise: a buffer of a book's length holds what `depository_fresh` and `depository_call` left there. Nothing is asked of another
-abbrev pub Lent : List ℕ → Type 0
-Lent book = length book ≡ bookLength → Kept book
 
 -- a fresh book
 unfoldable pub freshNumber : List ℕ → ℕ

@@ -10,7 +10,8 @@ use Rattle.rulebook.specs.declared.Answer.{Answer}
 use Rattle.rulebook.specs.declared.Read.{Read}
 use Rattle.book.specs.Meaning.{bookLength, ledgerOf}
 use Rattle.figures.specs.Figures.{countFigures}
-use Rattle.exports.specs.Lent.{wrongBook, wrongCounts, wrongFields, countWords, fieldWords, Lent}
+use Rattle.telling.specs.Told.{wrongBook, Lent}
+use Rattle.exports.specs.Lent.{wrongCounts, wrongFields, countWords, fieldWords}
 
 -- ---- a call
 

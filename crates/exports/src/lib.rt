@@ -5,10 +5,9 @@ ghost use lib.ListN.{length};
 ghost use Rattle.rulebook.specs.Ledger as Ledger;
 ghost use Rattle.book.specs.Meaning.{ledgerOf};
 ghost use Rattle.figures.specs.Figures.{dayFigures, sizeFigures, securityFigures, requestFigures, itemFigures};
-ghost use Rattle.exports.specs.Lent.{fieldWords, Lent, FreshIn};
+ghost use Rattle.exports.specs.Lent.{fieldWords, FreshIn};
 ghost use Rattle.exports.specs.Words.{fieldsRead, CalledWith, ReadInto, WrittenFrom};
-ghost use Rattle.exports.specs.Told.{lengthsNumber, Tells, TellsAt};
-use rulebook::Account;
+ghost use Rattle.telling.specs.Told.{Lent, Tells, TellsAt};
 use rulebook::Answer;
 use rulebook::Order;
 use rulebook::Read;
@@ -20,10 +19,6 @@ const WRONG_BOOK: u64 = 1001;
 const WRONG_COUNTS: u64 = 1002;
 
 const WRONG_FIELDS: u64 = 1003;
-
-const WRONG_VALUES: u64 = 1004;
-
-const NO_SUCH_PLACE: u64 = 1005;
 
 const COUNT_WORDS: usize = 6;
 
@@ -118,31 +113,13 @@ pub extern "C" fn depository_write(fields: &[u64], area: &mut [u8]) -> u64
 
 // ---- what a book says
 
-// 0 where the book and the values have their lengths; else the number of the first that has not.
-fn lengths(book: usize, values: usize, width: usize) -> u64
-    ensures { λ r. ⌜ r ≡ lengthsNumber book values width ⌝ }
-{
-    if book != ledger::BOOK_WORDS {
-        return WRONG_BOOK;
-    }
-    if values != width {
-        return WRONG_VALUES;
-    }
-    0
-}
-
 // The day: number, 1 where it is open, kind, cycles run, last minute.
 #[no_mangle]
 pub extern "C" fn depository_day(book: &[u64], values: &mut [u64]) -> u64
     requires { ⌜ Lent (now book) ⌝ }
     ensures { λ r. ⌜ Tells (now (book .entry)) (now (values .entry)) (dayFigures (ledgerOf (now (book .entry)) .day)) r (now (values .exit)) ⌝ }
 {
-    let wrong = lengths(book.len(), values.len(), 5);
-    if wrong != 0 {
-        return wrong;
-    }
-    figures::put_day(values, reading::day(book));
-    0
+    telling::day(book, values)
 }
 
 // The rate: hundredths of LBP for one USD.
@@ -151,13 +128,7 @@ pub extern "C" fn depository_rate(book: &[u64], values: &mut [u64]) -> u64
     requires { ⌜ Lent (now book) ⌝ }
     ensures { λ r. ⌜ Tells (now (book .entry)) (now (values .entry)) (ledgerOf (now (book .entry)) .rate ∷ []) r (now (values .exit)) ⌝ }
 {
-    let wrong = lengths(book.len(), values.len(), 1);
-    if wrong != 0 {
-        return wrong;
-    }
-    let rate = reading::rate(book);
-    values[0] = rate.0;
-    0
+    telling::rate(book, values)
 }
 
 // How many securities are admitted, how many accounts there are, how many items wait, how many requests for paper are open.
@@ -166,17 +137,7 @@ pub extern "C" fn depository_sizes(book: &[u64], values: &mut [u64]) -> u64
     requires { ⌜ Lent (now book) ⌝ }
     ensures { λ r. ⌜ Tells (now (book .entry)) (now (values .entry)) (sizeFigures (ledgerOf (now (book .entry)))) r (now (values .exit)) ⌝ }
 {
-    let wrong = lengths(book.len(), values.len(), 4);
-    if wrong != 0 {
-        return wrong;
-    }
-    let securities = reading::securities(book) as u64;
-    let accounts = reading::accounts(book);
-    let items = reading::items(book) as u64;
-    let requests = reading::requests(book);
-    let figures = [securities, accounts, items, requests];
-    words::write(values, 0, &figures);
-    0
+    telling::sizes(book, values)
 }
 
 // The security at a place, in order of admission: code, issued, held, outside, a custody line's four figures.
@@ -188,16 +149,7 @@ pub extern "C" fn depository_security(book: &[u64], place: usize, values: &mut [
         place (ledgerOf (now (book .entry)) .holdings .securities) r (now (values .exit))
         ⌝ }
 {
-    let wrong = lengths(book.len(), values.len(), 4);
-    if wrong != 0 {
-        return wrong;
-    }
-    if reading::securities(book) <= place {
-        return NO_SUCH_PLACE;
-    }
-    let security = reading::security_at(book, place);
-    figures::put_security(values, security);
-    0
+    telling::security(book, place, values)
 }
 
 // What a security's accounts hold.
@@ -209,13 +161,7 @@ pub extern "C" fn depository_held(book: &[u64], security: u64, values: &mut [u64
         r (now (values .exit))
         ⌝ }
 {
-    let wrong = lengths(book.len(), values.len(), 1);
-    if wrong != 0 {
-        return wrong;
-    }
-    let held = reading::held(book, security);
-    values[0] = held.0;
-    0
+    telling::held(book, security, values)
 }
 
 // An account's balance.
@@ -235,19 +181,7 @@ pub extern "C" fn depository_balance(
         r (now (values .exit))
         ⌝ }
 {
-    let wrong = lengths(book.len(), values.len(), 1);
-    if wrong != 0 {
-        return wrong;
-    }
-    let account = Account {
-        security: security,
-        member: member,
-        typ: typ,
-        shareholder: shareholder,
-    };
-    let balance = reading::balance(book, account);
-    values[0] = balance.0;
-    0
+    telling::balance(book, security, member, typ, shareholder, values)
 }
 
 // A member's cash in a currency.
@@ -264,13 +198,7 @@ pub extern "C" fn depository_cash(
         r (now (values .exit))
         ⌝ }
 {
-    let wrong = lengths(book.len(), values.len(), 1);
-    if wrong != 0 {
-        return wrong;
-    }
-    let cash = reading::cash(book, member, currency);
-    values[0] = cash.0;
-    0
+    telling::cash(book, member, currency, values)
 }
 
 // The waiting item at a place, in order of arrival.
@@ -282,15 +210,7 @@ pub extern "C" fn depository_item(book: &[u64], place: usize, values: &mut [u64]
         r (now (values .exit))
         ⌝ }
 {
-    let wrong = lengths(book.len(), values.len(), 17);
-    if wrong != 0 {
-        return wrong;
-    }
-    if reading::items(book) <= place {
-        return NO_SUCH_PLACE;
-    }
-    figures::put_item(values, reading::item_at(book, place));
-    0
+    telling::item(book, place, values)
 }
 
 // The request for paper that a member has open under a reference.
@@ -307,10 +227,5 @@ pub extern "C" fn depository_request(
         r (now (values .exit))
         ⌝ }
 {
-    let wrong = lengths(book.len(), values.len(), 5);
-    if wrong != 0 {
-        return wrong;
-    }
-    figures::put_request(values, reading::request(book, member, reference));
-    0
+    telling::request(book, member, reference, values)
 }

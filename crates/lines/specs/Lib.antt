@@ -1,3 +1,2 @@
--- Texts, and the lines of the printing program.
-pub mod Text
+-- The lines of the printing program.
 pub mod Lines

@@ -5,7 +5,7 @@ use mathlib.Core.List.{List, _++_}
 use Rattle.rulebook.specs.Call.{answerNumber, answerRows}
 use Rattle.rulebook.specs.declared.Answer.{Answer}
 use Rattle.rulebook.specs.declared.Security.{Security}
-use Rattle.lines.specs.Text.{text, decimal}
+use Rattle.text.specs.Text.{text, decimal}
 
 -- words, and a number behind them
 abbrev pub figure : String → ℕ → List ℕ

@@ -10,8 +10,8 @@ use Rattle.rulebook.specs.declared.Answer.{Answer}
 use Rattle.book.specs.Meaning.{ledgerOf}
 use Rattle.book.specs.Stored.{Kept}
 use Rattle.lines.specs.Lines.{answerLine}
-use Rattle.lines.specs.Text.{Put}
-use Rattle.lines.proofs.Putting.{put-none, put-then}
+use Rattle.text.specs.Text.{Put}
+use Rattle.text.proofs.Putting.{put-none, put-then}
 use Rattle.file.specs.Records.{recordsOf, nextAt, found}
 use Rattle.file.specs.declared.Cursor.{Cursor}
 use Rattle.file.specs.declared.Next.the-variants.{Record, End}

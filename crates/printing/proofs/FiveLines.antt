@@ -15,7 +15,7 @@ use Rattle.rulebook.specs.Refusals.{wrongDay, wrongCycle, goesBack, outsideWind
 use Rattle.rulebook.specs.Call.{answerNumber, answerRows, refused, putMinute, accepted, orderCall, readCall, callOf}
 use Rattle.rulebook.specs.Desk.{party, nobody, order, opens, admits, deposits, withdraws}
 use Rattle.file.specs.Records.{parts, recordsOf}
-use Rattle.lines.specs.Text.{digits, decimal}
+use Rattle.text.specs.Text.{digits, decimal}
 use Rattle.lines.specs.Lines.{answerLine, custodyLine}
 use Rattle.printing.specs.Printed.{answerLines, bookAfter, custodyFrom, custodyLines, printed}
 use Rattle.printing.specs.FiveLines.{example, FiveLines}

@@ -6,7 +6,7 @@ use lib.ListN.{replicate}
 use Rattle.rulebook.specs.Ledger.{fresh}
 use Rattle.rulebook.specs.Record.{recordOf}
 use Rattle.rulebook.specs.Desk.{opens, admits, deposits, withdraws}
-use Rattle.lines.specs.Text.{text}
+use Rattle.text.specs.Text.{text}
 use Rattle.printing.specs.Printed.{printed}
 
 -- a day of kind 1 opens at 470; 1,000 shares of security 101 are admitted at 500; member 7 deposits 400 at 540 and withdraws 401 at 541

@@ -10,7 +10,7 @@ use Rattle.book.specs.Meaning.{ledgerOf}
 use Rattle.book.specs.Stored.{Kept}
 use Rattle.file.specs.Records.{recordsOf}
 use Rattle.lines.specs.Lines.{answerLine, custodyLine}
-use Rattle.lines.specs.Text.{Put}
+use Rattle.text.specs.Text.{Put}
 
 -- each record is a call on the book and with the area that the one before it returned; its line has its number
 unfoldable pub answerLines : (number : ℕ) → Ledger → (area : List ℕ) → List (List ℕ) → List ℕ

@@ -5,7 +5,7 @@ ghost use Rattle.rulebook.specs.declared.Security.{Security};
 ghost use Rattle.book.specs.Meaning.{ledgerOf};
 ghost use Rattle.book.specs.Stored.{Kept};
 ghost use Rattle.lines.specs.Lines.{custodyLine};
-ghost use Rattle.lines.specs.Text.{Put};
+ghost use Rattle.text.specs.Text.{Put};
 ghost use Rattle.printing.specs.Printed.{custodyLines};
 
 // The line of the security at `i`.

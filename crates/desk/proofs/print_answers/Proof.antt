@@ -23,5 +23,5 @@ pub print-answers-spec : {M : Type 1} → statement M
 print-answers-spec =
     tie.close
     (tie.spec
-    put-block-requires (λ c. search needs) slice-aggregate-print (λ c κs. search needs)
+    put-block-requires (λ c. search needs) slice-aggregate-print (λ c. search needs) (λ c κs. search needs)
     (λ c. search needs) (λ c. search needs) (λ c. search needs) (λ c. search needs))

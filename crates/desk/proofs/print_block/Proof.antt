@@ -11,10 +11,10 @@ use Rattle.desk.proofs.print_block.Tie as tie
 
 -- ---- places
 
-abbrev lent : tie.After-fill → tie.Start
-lent c = c .before .before .before .before .before .before
+abbrev lent : tie.After-fill-records → tie.Start
+lent c = let behind = c .before .before .before .before .before .before in behind .before
 
-abbrev filled : tie.After-print-answers-arg4 → tie.After-fill
+abbrev filled : tie.After-print-answers-arg4 → tie.After-fill-records
 filled c = c .before .before .before .before .before .before
 
 abbrev printed : tie.After-slice-known8 → tie.After-print-answers
@@ -27,21 +27,26 @@ ended c = c .before .before .before .before .before .before
 
 slice-aggregate-print-answers : tie.Need-slice-aggregate-print-answers
 slice-aggregate-print-answers c =
-    let fill = filled c .fill in
-    sym (length-take-le _ _ (omega (arith, fill .ensures .inside, fill .kept .0)))
+    let fill = filled c .fill-records in
+    sym (length-take-le _ _ (omega (arith, fill .ensures .within .inside, fill .kept .0)))
 
 print-answers-requires : tie.Need-print-answers-requires
 print-answers-requires c κs =
-    let fill = filled (c .before) .fill in
+    let fill = filled (c .before) .fill-records in
     let start = lent (filled (c .before)) in
     (start .pre .0, start .pre .2, omega (arith, length-take (fill .result .size) (fill .last .0), fill .kept .0, start .pre .1), start .pre .3)
+
+print-custody-requires : tie.Need-print-custody-requires
+print-custody-requires c κs =
+    let called = printed (c .before .before .before .before) in
+    (called .print-answers .ensures .put .answered .kept, called .print-answers .kept .0 ∙ lent (filled (called .before .before)) .pre .2)
 
 -- whatever was printed, the bytes that were read are called
 returns : tie.Need-returns
 returns c =
     let called = printed (c .before) in
     record {
-      size = filled (called .before .before) .fill .result .size;
+      size = filled (called .before .before) .fill-records .result .size;
       called = block-called (called .print-answers .ensures .put);
       whole = λ e. absurd
           (false≢true e);
@@ -52,9 +57,9 @@ returns-2 c =
     let called = printed (ended c .before) in
     let fill = filled (called .before .before) in
     record {
-      size = fill .fill .result .size;
+      size = fill .fill-records .result .size;
       called = block-called (called .print-answers .ensures .put);
-      whole = λ e. fill .fill .ensures .full e ∙ lent fill .pre .1;
+      whole = λ e. fill .fill-records .ensures .within .full e ∙ lent fill .pre .1;
     }
 
 returns-3 : tie.Need-returns-3
@@ -62,17 +67,17 @@ returns-3 c =
     let called = printed (c .before .before) in
     let fill = filled (called .before .before) in
     record {
-      size = fill .fill .result .size;
+      size = fill .fill-records .result .size;
       called = block-called (called .print-answers .ensures .put);
-      whole = λ e. fill .fill .ensures .full e ∙ lent fill .pre .1;
+      whole = λ e. fill .fill-records .ensures .within .full e ∙ lent fill .pre .1;
     }
 
 pub print-block-spec : {M : Type 1} → statement M
 print-block-spec =
     tie.close
     (tie.spec
-    (λ c κs. search needs) (λ c. search needs) slice-aggregate-print-answers print-answers-requires
+    (λ c. search needs) (λ c κs. search needs) (λ c. search needs) slice-aggregate-print-answers print-answers-requires
     (λ c. search needs) (λ c. search needs) (λ c. search needs) (λ c. search needs) returns
-    (λ c κs. search needs)
+    print-custody-requires
     (λ c. search needs) (λ c. search needs) (λ c. search needs) (λ c. search needs) returns-2
     (λ c. search needs) (λ c. search needs) (λ c. search needs) (λ c. search needs) returns-3)

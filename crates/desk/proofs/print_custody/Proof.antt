@@ -14,4 +14,5 @@ slice-aggregate-print c =
 pub print-custody-spec : {M : Type 1} → statement M
 print-custody-spec =
     tie.close
-    (tie.spec (λ c κs. search needs) (λ c. search needs) slice-aggregate-print (λ c κs. search needs) (λ c. search needs) (λ c. search needs))
+    (tie.spec (λ c κs. search needs) (λ c. search needs) slice-aggregate-print (λ c. search needs) (λ c κs. search needs) (λ c. search needs)
+    (λ c. search needs))

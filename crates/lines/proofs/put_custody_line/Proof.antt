@@ -2,7 +2,7 @@
 use borrow.Author.Needs.{needs}
 use native.Mathlib.Omega.{arith}
 use Rattle.lines.specs.Lines.{custodyLine}
-use Rattle.lines.proofs.Putting.{put-then}
+use Rattle.text.proofs.Putting.{put-then}
 use Rattle.lines.proofs.put_custody_line.Statement.{statement}
 use Rattle.lines.proofs.put_custody_line.Tie as tie
 

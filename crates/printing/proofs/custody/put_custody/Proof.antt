@@ -7,8 +7,8 @@ use lib.ListN.{length, take}
 use lib.Seq.{take-all}
 use Rattle.rulebook.specs.declared.Security.{Security}
 use Rattle.book.specs.Meaning.{ledgerOf}
-use Rattle.lines.specs.Text.{Put}
-use Rattle.lines.proofs.Putting.{put-none, put-then}
+use Rattle.text.specs.Text.{Put}
+use Rattle.text.proofs.Putting.{put-none, put-then}
 use Rattle.printing.specs.Printed.{custodyFrom, custodyLines}
 use Rattle.printing.proofs.CustodyLines.{one-line-more}
 use Rattle.printing.proofs.custody.put_custody.Statement.{statement}

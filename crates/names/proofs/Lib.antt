@@ -1,0 +1,2 @@
+-- a table of names as one text
+pub mod Named

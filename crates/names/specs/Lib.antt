@@ -1,0 +1,2 @@
+-- A name's number.
+pub mod Numbers

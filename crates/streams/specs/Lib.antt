@@ -1,0 +1,2 @@
+-- How far a buffer was filled.
+pub mod Input

@@ -1,0 +1,2 @@
+-- lengths as a number, and what is told behind them
+mod Answers

@@ -1,0 +1,2 @@
+-- How a program is told what a book says.
+pub mod Told

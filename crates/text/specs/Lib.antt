@@ -1,0 +1,3 @@
+-- Texts as bytes: words and numbers, and a text cut at a mark.
+pub mod Text
+pub mod Parts

@@ -1,0 +1,2 @@
+-- a pattern, byte by byte
+mod Filling

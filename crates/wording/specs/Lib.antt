@@ -1,0 +1,2 @@
+-- Patterns of lines, and what they say of numbers.
+pub mod Fill
