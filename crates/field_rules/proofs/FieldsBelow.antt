@@ -1,18 +1,19 @@
 -- The first refusal over the fields below a place, which the loop over the places carries. Assumes nothing.
-use mathlib.Core.Path.{_≡_, refl, ap, ap₂, _∙_}
+use mathlib.Core.Path.{_≡_, refl, sym, ap, ap₂, _∙_}
 use mathlib.Core.Bool.{Bool, true, false, not, _&&_, _||_, and-false}
 use mathlib.Core.List.{List, [], _∷_, _++_, map}
-use Prim.Native.Nat.{ℕ, zero, suc, _+_, _<_}
+use Prim.Native.Nat.{ℕ, zero, suc, _+_, _≤_, _<_}
 use borrow.Author.Tests.{eqb-true, not-false}
 use native.Mathlib.Omega.{arith}
 use native.Mathlib.Numerals.{add-one}
-use lib.ListN.{length, getD}
+use lib.ListN.{length, getD, drop, drop-of-length-le}
+use lib.Seq.{drop-cons}
 use Rattle.plain.proofs.Tests.{both}
 use Rattle.plain.specs.Lists.{_is_, _isNot_, within, some, first}
 use Rattle.rulebook.specs.Field.{places, always, ruleIn}
 use Rattle.rulebook.specs.Forms.{Form, forms, rowOf, used, least, most}
 use Rattle.rulebook.proofs.ByCall.{by-test}
-use Rattle.field_rules.specs.Fields.{earlierOf, lastAreZero}
+use Rattle.field_rules.specs.Fields.{earlierOf, lastAreZero, firstPlace}
 use Rattle.rulebook.proofs.Below.{any, any-more, none-passes}
 
 -- 4 or 5, whichever applies first
@@ -96,3 +97,26 @@ pub at-place : (f : ℕ → ℕ) (place : ℕ) → place < length places → get
 unfolding misplaced places
 at-place f place l =
     getD-map f places place l ∙ ap f (eqb-true (getD places place 0) place (not-false _ (none-passes (length places) misplaced none-misplaced place l)))
+
+-- ---- the first place that passes a test
+
+here : (place : ℕ) → place < length places → drop place places ≡ place ∷ drop (place + 1) places
+unfolding misplaced
+here place l =
+    let e : getD places place 0 ≡ place =
+    eqb-true (getD places place 0) place (not-false _ (none-passes (length places) misplaced none-misplaced place l))
+    in
+    drop-cons places place 0 l ∙ rw (e, add-one place)
+
+module _ (test : ℕ → Bool) (place r : ℕ) (e : firstPlace test (drop place places) ≡ r) where
+  pub place-found : place < length places → test place ≡ true → place ≡ r
+  unfolding firstPlace
+  place-found l t = sym (ap (firstPlace test) (here place l) ∙ simp t) ∙ e
+
+  pub place-on : place < length places → test place ≡ false → firstPlace test (drop (place + 1) places) ≡ r
+  unfolding firstPlace
+  place-on l t = sym (ap (firstPlace test) (here place l) ∙ simp t) ∙ e
+
+  pub place-none : length places ≤ place → length places ≡ r
+  unfolding firstPlace
+  place-none l = sym (ap (firstPlace test) (drop-of-length-le places l)) ∙ e

@@ -5,11 +5,11 @@ ghost use mathlib.Core.List.{[], _∷_, map};
 ghost use Prim.Native.Nat.{_<_};
 ghost use lib.Bits.{bitOr};
 ghost use lib.ListN.{getD};
-ghost use Rattle.plain.specs.Lists.{_isNot_, within, first};
+ghost use Rattle.plain.specs.Lists.{_is_, _isNot_, within, first};
 ghost use Rattle.rulebook.specs.Field.{places};
 ghost use Rattle.rulebook.specs.Forms.{most};
 ghost use Rattle.rulebook.specs.Record.{unusedNotZero, usedOutOfRange};
-ghost use Rattle.field_rules.specs.Fields.{has, leastIn, Ruled, RuleOf, lastAreZero, earlierOf, fieldsRefusal};
+ghost use Rattle.field_rules.specs.Fields.{has, leastIn, Ruled, RuleOf, lastAreZero, earlierOf, fieldsRefusal, fieldRefusal, firstPlace, refusedPlace};
 use layout::places;
 
 // Sets of fields, a bit for each at its place.
@@ -240,4 +240,38 @@ pub fn refusal(fields: &[u64; 19]) -> u64
         return 0;
     }
     fields_refusal(form, rule, fields)
+}
+
+// The first place whose field has this refusal, or 19.
+fn place_with(form: u64, rule: Rule, number: u64, fields: &[u64; 19]) -> usize
+    requires { ⌜ Ruled form rule × (getD (now fields) 0 0 ≡ form) ⌝ }
+    ensures { λ r. ⌜ r ≡ firstPlace (λ place. fieldRefusal (now (fields .entry)) place is number) places ⌝ }
+{
+    let used = rule.used;
+    let optional = rule.optional;
+    let most = most_of(form);
+    for place in 0..19 {
+        let found = field_refusal(
+            is_in(used, place),
+            least_of(optional, place),
+            most[place],
+            fields[place],
+        );
+        if found == number {
+            return place;
+        }
+    }
+    19
+}
+
+// The first field to which the refusal of some fields applies.
+pub fn refused_place(fields: &[u64; 19]) -> usize
+    ensures { λ r. ⌜ r ≡ refusedPlace (now (fields .entry)) ⌝ }
+{
+    let form = fields[places::FORM];
+    let rule = rule_of(form);
+    if rule.used == 0 {
+        return places::FORM;
+    }
+    place_with(form, rule, fields_refusal(form, rule, fields), fields)
 }

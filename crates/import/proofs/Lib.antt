@@ -1,0 +1,2 @@
+-- lines in blocks, and the first line
+pub mod Laws

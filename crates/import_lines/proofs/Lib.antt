@@ -1,0 +1,2 @@
+-- bytes that are shown, and names in brackets
+pub mod Showing

@@ -1,0 +1,2 @@
+-- The line that is told of a refused table.
+pub mod Told

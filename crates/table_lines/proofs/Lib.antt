@@ -1,0 +1,2 @@
+-- the lines of records, in blocks too
+pub mod Lines

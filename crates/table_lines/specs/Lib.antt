@@ -1,0 +1,2 @@
+-- The table that records say.
+pub mod Exported
