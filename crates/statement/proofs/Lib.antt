@@ -1,0 +1,2 @@
+-- a walk over a file in parts, each printed before the next
+mod Parts

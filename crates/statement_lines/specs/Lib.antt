@@ -1,0 +1,2 @@
+-- The lines of a statement.
+pub mod Lines
