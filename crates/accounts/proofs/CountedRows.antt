@@ -16,9 +16,9 @@ use Rattle.rulebook.proofs.EveryCall.{fresh-premise}
 use Rattle.rulebook.specs.Ranges.{AccountInRange}
 use Rattle.words.specs.Tables.{rows, keyAt, sumOf, valueOf}
 use Rattle.words.proofs.Tables.{key-once}
-use Rattle.accounts.specs.Keys.{keyOf, inRange}
+use Rattle.accounts.specs.Keys.{keyOf, inRange, accountOf}
 use Rattle.accounts.specs.Map.{balanceAt, balanceOf, withAccounts, Kept}
-use Rattle.accounts.proofs.Keys.{range-true, range-holds, account-range, key-back, key-test, other-range, accountOf}
+use Rattle.accounts.proofs.Keys.{range-true, range-holds, account-range, key-back, key-test, other-range}
 use Rattle.accounts.proofs.Rows.{balance-some}
 
 -- how many accounts have a balance goes by the balances alone

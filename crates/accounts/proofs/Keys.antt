@@ -1,5 +1,5 @@
 -- Two accounts in range with one key are one account, and a key's security is the account's. Assumes nothing.
-use Prim.Native.Nat.{ℕ, _/_, _%_, _^_, _<_}
+use Prim.Native.Nat.{ℕ, _^_, _<_}
 use native.Mathlib.Omega.{arith}
 use mathlib.Core.Bool.{Bool, true, false, _&&_}
 use mathlib.Core.Path.{_≡_, refl, sym, ap, _∙_}
@@ -10,7 +10,7 @@ use Rattle.rulebook.specs.Ledger.{sameAccount}
 use Rattle.rulebook.specs.declared.Account.{Account}
 use Rattle.rulebook.proofs.Held.{same-self}
 use Rattle.rulebook.specs.Ranges.{AccountInRange}
-use Rattle.accounts.specs.Keys.{keyOf, inRange}
+use Rattle.accounts.specs.Keys.{keyOf, inRange, accountOf}
 
 pub range-true : (a : Account) → AccountInRange a → inRange a ≡ true
 unfolding inRange
@@ -37,10 +37,6 @@ key-once a b p q e =
     let t : a.typ ≡ b.typ = omega arith in
     let h : a.shareholder ≡ b.shareholder = omega arith in
     alike a b s m t h
-
--- the account of a key
-abbrev pub accountOf : ℕ → Account
-accountOf key = record { security = key / 2 ^ 48; member = key / 2 ^ 38 % 2 ^ 10; typ = key / 2 ^ 30 % 2 ^ 8; shareholder = key % 2 ^ 30 }
 
 pub account-range : (key : ℕ) → key < 2 ^ 62 → AccountInRange (accountOf key)
 account-range key l = record { security = omega arith; member = omega arith; typ = omega arith; shareholder = omega arith }

@@ -3,3 +3,4 @@ pub mod Keys
 pub mod Rows
 pub mod Map
 pub mod CountedRows
+pub mod Ordered

@@ -5,7 +5,8 @@ ghost use lib.ListN.{length};
 ghost use Rattle.rulebook.specs.Ledger.{Holdings};
 ghost use Rattle.rulebook.specs.Movements as movements;
 ghost use Rattle.rulebook.specs.Ranges.{AccountInRange};
-ghost use Rattle.accounts.specs.Keys.{inRange, keyOf};
+ghost use Rattle.accounts.specs.Keys.{inRange, keyOf, keyLimit, accountOf, hasBalance};
+ghost use Rattle.words.specs.Order.{Next};
 ghost use Rattle.words.specs.Tables.{rows, placeOf};
 ghost use Rattle.accounts.specs.Map.{balanceOf, withAccounts, Kept, CreditFits, opened, removed};
 use rulebook::Account;
@@ -13,6 +14,9 @@ use rulebook::Shares;
 use words::Found;
 
 const BALANCES: usize = 257;
+
+// Keys are below this.
+const KEY_LIMIT: u64 = 4611686018427387904;
 
 // The account as one number: security, member, type and shareholder, as in a posting row.
 pub fn key_of(account: Account) -> u64
@@ -33,6 +37,26 @@ pub fn is_named(account: Account) -> bool
         & (account.member < 1024)
         & (account.typ < 256)
         & (account.shareholder < 1073741824)
+}
+
+// The account of a key.
+pub fn account_of(key: u64) -> Account
+    ensures { λ r. ⌜ r ≡ accountOf key ⌝ }
+{
+    Account {
+        security: key >> 48,
+        member: (key >> 38) % 1024,
+        typ: (key >> 30) % 256,
+        shareholder: key % 1073741824,
+    }
+}
+
+// The key of the first account from a key on, in order of security, member, type and shareholder; the limit where there is none.
+pub fn next_account(accounts: &[u64], from: u64) -> u64
+    requires { ⌜ Kept (now accounts) × (from ≤ keyLimit) ⌝ }
+    ensures { λ r. ⌜ Next (hasBalance (balanceOf (now (accounts .entry)))) from keyLimit r ⌝ }
+{
+    words::next_key(accounts, from, KEY_LIMIT)
 }
 
 // Where the account stands.

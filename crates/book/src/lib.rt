@@ -11,7 +11,7 @@ ghost use Rattle.rulebook.specs.Premise.{CashFits};
 ghost use Rattle.rulebook.specs.Waiting.{sentBy};
 ghost use Rattle.rulebook.specs.Ranges.{AccountInRange};
 ghost use Rattle.words.specs.Places.{removeAt};
-ghost use Rattle.book.specs.Keys.{keyOf, CreditFits, ReferenceInRange, RequestInRange};
+ghost use Rattle.book.specs.Keys.{Next, keyOf, accountLimit, hasBalance, CreditFits, ReferenceInRange, RequestInRange, requestLimit, isOpen};
 ghost use Rattle.book.specs.Meaning.{dayIn, rateIn, ledgerOf, holdingsOf, waitingOf, requestsOf};
 ghost use Rattle.book.specs.Stored.{Stored, Becomes, HoldingsBecome, WaitingBecomes, RequestsBecome, withSecurity, entered, left};
 ghost use Rattle.book.specs.Fresh.{Freshened};
@@ -114,6 +114,14 @@ pub fn key_of(account: Account) -> u64
     ensures { λ r. ⌜ r ≡ keyOf account ⌝ }
 {
     accounts::key_of(account)
+}
+
+// The number of the first account from a number on that has a balance; the limit where there is none.
+pub fn next_account(book: &[u64], from: u64) -> u64
+    requires { ⌜ Stored (now book) × (from ≤ accountLimit) ⌝ }
+    ensures { λ r. ⌜ Next (hasBalance (holdingsOf (now (book .entry)) .balance)) from accountLimit r ⌝ }
+{
+    accounts::next_account(&book[ACCOUNTS..CASH], from)
 }
 
 // More in the account.
@@ -355,6 +363,14 @@ pub fn request(book: &[u64], member: u64, reference: u64) -> Request
     ensures { λ r. ⌜ r ≡ requestsOf (now (book .entry)) .asked member reference ⌝ }
 {
     requests::request(&book[REQUESTS..END], member, reference)
+}
+
+// The number of the first request from a number on that is open; the limit where there is none.
+pub fn next_request(book: &[u64], from: u64) -> u64
+    requires { ⌜ Stored (now book) × (from ≤ requestLimit) ⌝ }
+    ensures { λ r. ⌜ Next (isOpen (requestsOf (now (book .entry)) .asked)) from requestLimit r ⌝ }
+{
+    requests::next_request(&book[REQUESTS..END], from)
 }
 
 // The member has the request open under the reference.

@@ -1,8 +1,9 @@
 // What a book says, part by part, to a program that does not know its words.
 ghost use mathlib.Core.Path.{_≡_};
-ghost use Prim.Native.Nat.{_<_};
+ghost use Prim.Native.Nat.{_≤_, _<_};
 ghost use lib.ListN.{length, getD};
 ghost use Rattle.rulebook.specs.Ledger as Ledger;
+ghost use Rattle.book.specs.Keys.{Next, accountLimit, accountOf, hasBalance, requestLimit, isOpen};
 ghost use Rattle.book.specs.Meaning.{ledgerOf};
 ghost use Rattle.book.specs.Stored.{Kept};
 use rulebook::Account;
@@ -75,6 +76,21 @@ pub fn balance(book: &[u64], account: Account) -> Shares
     Shares(0)
 }
 
+// The account of a number. Ascending numbers are accounts in order of security, member, type and shareholder.
+pub fn account_of(number: u64) -> Account
+    ensures { λ r. ⌜ r ≡ accountOf number ⌝ }
+{
+    accounts::account_of(number)
+}
+
+// The number of the first account from a number on that has a balance; 2^62 where there is none.
+pub fn next_account(book: &[u64], from: u64) -> u64
+    requires { ⌜ Kept (now book) × (from ≤ accountLimit) ⌝ }
+    ensures { λ r. ⌜ Next (hasBalance (ledgerOf (now (book .entry)) .holdings .balance)) from accountLimit r ⌝ }
+{
+    book::next_account(book, from)
+}
+
 // A member's cash in a currency: 0 where the book keeps none.
 pub fn cash(book: &[u64], member: u64, currency: u64) -> Cents
     requires { ⌜ Kept (now book) ⌝ }
@@ -125,4 +141,13 @@ pub fn request(book: &[u64], member: u64, reference: u64) -> Request
         quantity: Shares(0),
         day: 0,
     }
+}
+
+// The number of the first request from a number on that is open; 2^42 where there is none. A number is member, then reference in 32 bits, so that
+// ascending numbers are requests in order of member and reference.
+pub fn next_request(book: &[u64], from: u64) -> u64
+    requires { ⌜ Kept (now book) × (from ≤ requestLimit) ⌝ }
+    ensures { λ r. ⌜ Next (isOpen (ledgerOf (now (book .entry)) .requests .asked)) from requestLimit r ⌝ }
+{
+    book::next_request(book, from)
 }

@@ -2,3 +2,4 @@
 pub mod Packed
 pub mod Map
 pub mod Changed
+pub mod Ordered

@@ -1,7 +1,7 @@
 -- A member and a reference as one number, and a request as two words.
 use Prim.Native.Nat.{ℕ, _+_, _*_, _/_, _%_, _^_, _≤_, _<_}
 use mathlib.Core.Bool.{Bool, _&&_}
-use Rattle.plain.specs.Lists.{_below_}
+use Rattle.plain.specs.Lists.{_isNot_, _below_}
 use Rattle.rulebook.specs.declared.Request.{Request}
 
 -- what a record's fields can name
@@ -15,6 +15,21 @@ inRange member reference = member below 2 ^ 10 && reference below 2 ^ 32
 
 abbrev pub keyOf : (member reference : ℕ) → ℕ
 keyOf member reference = member * 2 ^ 32 + reference
+
+-- keys are below this, and ascending keys are requests in order of member and reference
+abbrev pub keyLimit : ℕ
+keyLimit = 2 ^ 42
+
+-- the member and the reference of a key
+abbrev pub memberOf : ℕ → ℕ
+memberOf key = key / 2 ^ 32
+
+abbrev pub referenceOf : ℕ → ℕ
+referenceOf key = key % 2 ^ 32
+
+-- a request is open under the key
+abbrev pub isOpen : (asked : ℕ → ℕ → Request) → (key : ℕ) → Bool
+isOpen asked key = asked (memberOf key) (referenceOf key) .quantity .0 isNot 0
 
 -- what the two words of an open request can hold
 pub record RequestInRange (r : Request) : Type 0 where

@@ -4,7 +4,8 @@ ghost use Prim.Native.Nat.{_≤_, _<_};
 ghost use lib.ListN.{length};
 ghost use Rattle.rulebook.specs.Ledger.{noRequest, putRequest};
 ghost use Rattle.words.specs.Tables.{rows, placeOf};
-ghost use Rattle.requests.specs.Packed.{ReferenceInRange, inRange, keyOf, RequestInRange, sharesWord, quantityWord, requestIn};
+ghost use Rattle.words.specs.Order.{Next};
+ghost use Rattle.requests.specs.Packed.{ReferenceInRange, inRange, keyOf, keyLimit, isOpen, RequestInRange, sharesWord, quantityWord, requestIn};
 ghost use Rattle.requests.specs.Map.{requestsOf, Kept, removed};
 use rulebook::Request;
 use rulebook::Shares;
@@ -13,6 +14,9 @@ use words::Found;
 const SHARES: usize = 17;
 
 const QUANTITIES: usize = 33;
+
+// Keys are below this.
+const KEY_LIMIT: u64 = 4398046511104;
 
 // ---- a request as words
 
@@ -81,6 +85,14 @@ pub fn request(requests: &[u64], member: u64, reference: u64) -> Request
         Found::At(i) => request_in(requests[i + SHARES], requests[i + QUANTITIES]),
         Found::Nothing => request_in(0, 0),
     }
+}
+
+// The key of the first open request from a key on, in order of member and reference; the limit where there is none.
+pub fn next_request(requests: &[u64], from: u64) -> u64
+    requires { ⌜ Kept (now requests) × (from ≤ keyLimit) ⌝ }
+    ensures { λ r. ⌜ Next (isOpen (requestsOf (now (requests .entry)) .asked)) from keyLimit r ⌝ }
+{
+    words::next_key(requests, from, KEY_LIMIT)
 }
 
 // The request goes last.

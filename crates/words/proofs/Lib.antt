@@ -3,3 +3,4 @@ pub mod Places
 pub mod Tables
 pub mod OneRow
 pub mod Regions
+pub mod NextKeys

@@ -1,4 +1,7 @@
-// What the regions of a book of words need: a table's rows, a search by key, copies of words.
+// What the regions of a book of words need: a table's rows, a search by key, keys in ascending order, copies of words.
+mod order;
+
+pub use order::next_key;
 ghost use mathlib.Core.Path.{_≡_};
 ghost use Prim.Native.Nat.{_+_, _-_, _≤_, _<_};
 ghost use lib.ListN.{length, take, drop};

@@ -1,0 +1,6 @@
+-- The laws of lists in order.
+pub mod Below
+pub mod ByNumber
+pub mod Walking
+pub mod Complete
+pub mod HeldBack

@@ -1,0 +1,2 @@
+-- What the program makes of what it reads.
+pub mod HandedOver

@@ -1,0 +1,2 @@
+-- The laws of a sheet's lines.
+pub mod AsPrinted

@@ -1,0 +1,16 @@
+-- `sheet_lines::holding_lines::put_account` meets its contract. Assumes nothing.
+use borrow.Author.Needs.{needs}
+use Rattle.sheet_lines.specs.HoldingLines.{accountLine}
+use native.Mathlib.Omega.{arith}
+use Rattle.sheet_lines.proofs.holding_lines.put_account.Statement.{statement}
+use Rattle.sheet_lines.proofs.holding_lines.put_account.Tie as tie
+
+returns : tie.Need-returns
+unfolding accountLine
+returns c = let put = c .before .before .put-written .ensures in (put .0, omega (arith, put .1))
+
+pub put-account-spec : {M : Type 1} → statement M
+put-account-spec =
+    tie.close
+    (tie.spec
+    (λ c. search needs) (λ c. search needs) (λ c. search needs) (λ c κs. search needs) (λ c. search needs) returns)

@@ -1,0 +1,5 @@
+-- The laws of a sheet.
+pub mod SameSheet
+pub mod Walk
+pub mod Walks
+pub mod Nobody

@@ -1,0 +1,24 @@
+-- An item and a security to stand where a list has none. Assumes nothing.
+use Rattle.rulebook.specs.declared.Item.{Item}
+use Rattle.rulebook.specs.declared.Party.{Party}
+use Rattle.rulebook.specs.declared.Security.{Security}
+use Rattle.rulebook.specs.declared.State.the-variants.{Trade}
+
+nobody : Party
+nobody = record { member = 0; typ = 0; shareholder = 0 }
+
+pub noItem : Item
+noItem = record {
+  security = 0;
+  currency = 0;
+  debited = nobody;
+  credited = nobody;
+  quantity = record { 0 = 0 };
+  amount = record { 0 = 0 };
+  «trade_day» = 0;
+  «settlement_day» = 0;
+  state = Trade 0;
+}
+
+pub noSecurity : Security
+noSecurity = record { code = 0; issued = record { 0 = 0 }; outside = record { 0 = 0 }; held = record { 0 = 0 } }

@@ -1,0 +1,4 @@
+-- The handover sheet of a book.
+pub mod Page
+pub mod Rows
+pub mod Sheet

@@ -1,0 +1,39 @@
+-- The handover sheet of a book, as text or as a page (RULES 18).
+use Prim.Native.Nat.{ℕ}
+use mathlib.Core.Bool.{Bool}
+use mathlib.Core.List.{List, _++_}
+use mathlib.Core.Path.{_≡_}
+use Rattle.rulebook.specs.Ledger.{Ledger}
+use Rattle.book.specs.Meaning.{ledgerOf}
+use Rattle.sheet_lines.specs.Written.{inPage}
+use Rattle.sheet_lines.specs.DayLine.{heading, dayLine}
+use Rattle.sheets.specs.Page.{pageHead, pageFoot, dayHead, waitingHead, accountsHead, cashHead, requestsHead, custodyHead, tableFoot}
+use Rattle.sheets.specs.Rows.{waitingRows, accountRows, cashRows, requestRows, custodyRows}
+
+-- in a page, rows stand in a table
+unfoldable pub tableOf : (page : Bool) → (head rows : List ℕ) → List ℕ
+tableOf page head rows = inPage page head ++ rows ++ inPage page tableFoot
+
+-- the day and what waits
+unfoldable pub firstParts : (page : Bool) → Ledger → List ℕ
+firstParts page b =
+    inPage page pageHead ++ heading page b.day.number ++ tableOf page dayHead (dayLine page b.day b.rate)
+    ++ tableOf page waitingHead (waitingRows page b.waiting)
+
+-- what is held back, cash, requests, custody
+unfoldable pub otherParts : (page : Bool) → Ledger → List ℕ
+otherParts page b =
+    tableOf page accountsHead (accountRows page b.holdings) ++ tableOf page cashHead (cashRows page b.holdings)
+    ++ tableOf page requestsHead (requestRows page b.requests) ++ tableOf page custodyHead (custodyRows page b.holdings.securities)
+    ++ inPage page pageFoot
+
+unfoldable pub sheetOf : (page : Bool) → Ledger → List ℕ
+sheetOf page b = firstParts page b ++ otherParts page b
+
+-- how many bytes have room for every sheet
+abbrev pub sheetBytes : ℕ
+sheetBytes = 400_000
+
+-- two books that mean the same have the same sheet, whatever the order of their words
+unfoldable pub SameSheet : Type 0
+SameSheet = (page : Bool) (one other : List ℕ) → ledgerOf one ≡ ledgerOf other → sheetOf page (ledgerOf one) ≡ sheetOf page (ledgerOf other)
