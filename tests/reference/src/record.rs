@@ -57,6 +57,28 @@ pub const FIELDS: [Field; FIELD_COUNT] = [
 /// Bits of each field, in the record's order.
 pub const WIDTHS: [usize; FIELD_COUNT] = [5, 11, 14, 2, 10, 8, 10, 8, 30, 30, 40, 40, 16, 16, 32, 3, 32, 1];
 
+/// The name of each field as RULES 2.1 writes it, in the record's order.
+pub const NAMES: [&str; FIELD_COUNT] = [
+    "form",
+    "minute",
+    "security",
+    "currency",
+    "debited member",
+    "debited type",
+    "credited member",
+    "credited type",
+    "debited shareholder",
+    "credited shareholder",
+    "quantity",
+    "amount",
+    "trade day",
+    "settlement day",
+    "reference",
+    "operation",
+    "original",
+    "edition",
+];
+
 /// The fields of an order, in the record's order.
 pub type Fields = [u64; FIELD_COUNT];
 
