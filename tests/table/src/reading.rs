@@ -34,11 +34,15 @@ pub fn read(file: &[u8]) -> Result<Vec<Record>, Refusal> {
         return Err(Refusal { kind: 101, line: 1, column: None, name: None });
     };
     let columns = first.columns()?;
-    let end = others.iter().rposition(|line| !line.is_empty()).map_or(0, |place| place + 1);
+    let mut empty = None;
     let mut records = Vec::new();
-    for (place, line) in others.iter().enumerate() {
+    for line in others {
         line.fits()?;
-        if place < end {
+        if line.is_empty() {
+            empty = empty.or(Some(line));
+        } else if let Some(empty) = empty {
+            return Err(empty.whole(114));
+        } else {
             records.push(line.record(&columns)?);
         }
     }
@@ -105,9 +109,6 @@ impl Line<'_> {
 
     /// The record of any other line.
     fn record(&self, columns: &[Field]) -> Result<Record, Refusal> {
-        if self.is_empty() {
-            return Err(self.whole(114));
-        }
         let mut fields = [0; FIELDS.len()];
         for (place, field) in columns.iter().enumerate() {
             let value = self.cells.get(place).ok_or(107).and_then(|cell| value(*field, cell));
