@@ -1,6 +1,5 @@
 -- The laws of a book's parts.
 pub mod Parts
 pub mod Zeros
-pub mod Admission
 pub mod Keys
 pub mod Handled

@@ -26,8 +26,8 @@ pub fn shift(
         (now (area .exit)) r
         ⌝ }
 {
-    book::debit(book, from, quantity);
-    book::credit(book, to, quantity);
+    book_holdings::debit(book, from, quantity);
+    book_holdings::credit(book, to, quantity);
     rows::write_shares(area, from, to, quantity);
     rows::two_rows()
 }
@@ -41,8 +41,8 @@ pub fn leave(book: &mut [u64], area: &mut [u8], from: Account, quantity: Shares)
         ⌝ }
 {
     let outside = parties::outside_account(from.security);
-    book::leave_custody(book, from.security, quantity);
-    book::debit(book, from, quantity);
+    book_holdings::leave_custody(book, from.security, quantity);
+    book_holdings::debit(book, from, quantity);
     rows::write_shares(area, from, outside, quantity);
     rows::two_rows()
 }

@@ -33,15 +33,15 @@ fn close_items(book: &mut [u64], number: u64, area: &mut [u8]) -> Counts
     requires { ⌜ Kept (now book) × (4096 ≤ length (now area)) ⌝ }
     ensures { λ r. ⌜ Handled (itemsClosed number (ledgerOf (now (book .entry)))) (now (book .exit)) (now (area .entry)) (now (area .exit)) r ⌝ }
 {
-    let n = book::items(book);
+    let n = book_items::items(book);
     let mut counted = rows::no_counts();
     let mut j: usize = 0;
     let mut i: usize = 0;
     while i < n {
-        let item = book::item_at(book, i);
+        let item = book_items::item_at(book, i);
         let kind = item::close_kind(number, item);
         if kind == 0 {
-            book::put_item(book, j, item::unmark(item));
+            book_items::put_item(book, j, item::unmark(item));
             j += 1;
         } else {
             let state = item.state;
@@ -51,7 +51,7 @@ fn close_items(book: &mut [u64], number: u64, area: &mut [u8]) -> Counts
         }
         i += 1;
     }
-    book::keep_first(book, j);
+    book_items::keep_first(book, j);
     counted
 }
 

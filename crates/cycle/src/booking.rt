@@ -17,8 +17,8 @@ fn credit_trade(book: &mut [u64], trade: Item)
     requires { ⌜ Stored (now book) × CanCredit trade (holdingsOf (now book)) ⌝ }
     ensures { λ u. ⌜ HoldingsBecome (credits (legs (trade ∷ []))) (now (book .entry)) (now (book .exit)) ⌝ }
 {
-    book::credit(book, parties::buyer_of(trade), trade.quantity);
-    book::credit_cash(book, trade.debited.member, trade.currency, trade.amount);
+    book_holdings::credit(book, parties::buyer_of(trade), trade.quantity);
+    book_holdings::credit_cash(book, trade.debited.member, trade.currency, trade.amount);
 }
 
 // What a trade takes: shares from the seller's account, cash from the buyer.
@@ -26,8 +26,8 @@ fn debit_trade(book: &mut [u64], trade: Item)
     requires { ⌜ Stored (now book) × CanDebit trade (holdingsOf (now book)) ⌝ }
     ensures { λ u. ⌜ HoldingsBecome (debits (legs (trade ∷ []))) (now (book .entry)) (now (book .exit)) ⌝ }
 {
-    book::debit(book, parties::seller_of(trade), trade.quantity);
-    book::debit_cash(book, trade.credited.member, trade.currency, trade.amount);
+    book_holdings::debit(book, parties::seller_of(trade), trade.quantity);
+    book_holdings::debit_cash(book, trade.credited.member, trade.currency, trade.amount);
 }
 
 // What the marked trades bring.
@@ -35,11 +35,11 @@ fn credit_marked(book: &mut [u64], marks: Marks)
     requires { ⌜ Stored (now book) × Ready (ledgerOf (now book)) ⌝ }
     ensures { λ u. ⌜ HoldingsBecome (credits (legs (withMark (markedOf marks (waitingOf (now (book .entry))))))) (now (book .entry)) (now (book .exit)) ⌝ }
 {
-    let n = book::items(book);
+    let n = book_items::items(book);
     let mut i: usize = 0;
     while i < n {
         if marks::is_on(marks, i) {
-            let trade = book::item_at(book, i);
+            let trade = book_items::item_at(book, i);
             credit_trade(book, trade);
         }
         i += 1;
@@ -51,11 +51,11 @@ fn debit_marked(book: &mut [u64], marks: Marks)
     requires { ⌜ Stored (now book) × Covered (ledgerOf (now book)) (markedOf marks (waitingOf (now book))) ⌝ }
     ensures { λ u. ⌜ HoldingsBecome (debits (legs (withMark (markedOf marks (waitingOf (now (book .entry))))))) (now (book .entry)) (now (book .exit)) ⌝ }
 {
-    let n = book::items(book);
+    let n = book_items::items(book);
     let mut i: usize = 0;
     while i < n {
         if marks::is_on(marks, i) {
-            let trade = book::item_at(book, i);
+            let trade = book_items::item_at(book, i);
             debit_trade(book, trade);
         }
         i += 1;

@@ -12,16 +12,16 @@ pub fn leave_marked(book: &mut [u64], marks: Marks)
     requires { ⌜ Stored (now book) × (length (waitingOf (now book)) ≤ 64) ⌝ }
     ensures { λ u. ⌜ WaitingBecomes (λ items. withoutMark (markedOf marks items)) (now (book .entry)) (now (book .exit)) ⌝ }
 {
-    let n = book::items(book);
+    let n = book_items::items(book);
     let mut j: usize = 0;
     let mut i: usize = 0;
     while i < n {
         if !marks::is_on(marks, i) {
-            let item = book::item_at(book, i);
-            book::put_item(book, j, item);
+            let item = book_items::item_at(book, i);
+            book_items::put_item(book, j, item);
             j += 1;
         }
         i += 1;
     }
-    book::keep_first(book, j);
+    book_items::keep_first(book, j);
 }

@@ -46,7 +46,7 @@ pub fn run(book: &mut [u64], area: &mut [u8]) -> Counts
     requires { ⌜ Kept (now book) × (4096 ≤ length (now area)) ⌝ }
     ensures { λ r. ⌜ ((order : Order) → Handled (cycle (ledgerOf (now (book .entry))) order) (now (book .exit)) (now (area .entry)) (now (area .exit)) r) ⌝ }
 {
-    let n = book::items(book);
+    let n = book_items::items(book);
     let selection = netting::select(book);
     let settled = selection.settled;
     postings::write_marked(area, book, settled);

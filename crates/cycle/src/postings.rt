@@ -13,12 +13,12 @@ pub fn write_marked(area: &mut [u8], book: &[u64], marks: Marks)
     requires { ⌜ (4096 ≤ length (now area)) × Stored (now book) × Ready (ledgerOf (now book)) ⌝ }
     ensures { λ u. ⌜ now (area .exit) ≡ withRows (markedOf marks (waitingOf (now (book .entry)))) (now (area .entry)) ⌝ }
 {
-    let n = book::items(book);
+    let n = book_items::items(book);
     let mut at: usize = 0;
     let mut i: usize = 0;
     while i < n {
         if marks::is_on(marks, i) {
-            let trade = book::item_at(book, i);
+            let trade = book_items::item_at(book, i);
             rows::write_trade(&mut area[at..], trade);
             at += 64;
         }

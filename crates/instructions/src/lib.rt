@@ -39,13 +39,13 @@ pub fn instruct(book: &mut [u64], order: Order) -> Counts
     let found = search::first_partner(book, arriving);
     match found {
         Found::At(i) => {
-            let waits = book::item_at(book, i);
-            book::remove(book, i);
-            book::push(book, pair_of(arriving, waits));
+            let waits = book_items::item_at(book, i);
+            book_items::remove(book, i);
+            book_items::push(book, pair_of(arriving, waits));
             rows::no_counts()
         }
         Found::Nothing => {
-            book::push(book, arriving);
+            book_items::push(book, arriving);
             rows::no_counts()
         }
     }
@@ -60,7 +60,7 @@ pub fn trade(book: &mut [u64], order: Order) -> Counts
 {
     let reference = order.reference;
     let state = State::Trade { reference };
-    book::push(book, item::item_of(state, order));
+    book_items::push(book, item::item_of(state, order));
     rows::no_counts()
 }
 
@@ -77,17 +77,17 @@ pub fn cancel(book: &mut [u64], order: Order, area: &mut [u8]) -> Counts
     let Found::At(i) = found else {
         return rows::no_counts();
     };
-    let item = item::mark(sender, book::item_at(book, i));
+    let item = item::mark(sender, book_items::item_at(book, i));
     let state = item.state;
     if item::both_marked(state) {
-        book::remove(book, i);
+        book_items::remove(book, i);
         rows::write_notice(area, 4, item);
         let mut counts = rows::no_counts();
         counts.rows = 1;
         counts.cancelled = 2;
         return counts;
     }
-    book::put_item(book, i, item);
+    book_items::put_item(book, i, item);
     rows::no_counts()
 }
 

@@ -33,7 +33,7 @@ fn wrong_cancel(book: &[u64], order: Order) -> bool
     let Found::At(i) = found else {
         return false;
     };
-    let item = book::item_at(book, i);
+    let item = book_items::item_at(book, i);
     item::not_cancellable(sender, item)
 }
 

@@ -1,3 +1,2 @@
 pub mod Calls
-pub mod ByForm
 pub mod Demand3

@@ -46,15 +46,15 @@ pub fn fill_shares(legs: &mut [u64], figures: &mut [u64], book: &[u64])
     ensures { λ u. ⌜ ShareLegs (ledgerOf (now (book .entry)) .waiting) (now (legs .exit)) ⌝ }
     ensures { λ u. ⌜ ShareStart (ledgerOf (now (book .entry))) (now (figures .exit)) ⌝ }
 {
-    let n = book::items(book);
+    let n = book_items::items(book);
     let mut i: usize = 0;
     while i < n {
-        let trade = book::item_at(book, i);
+        let trade = book_items::item_at(book, i);
         let seller = parties::seller_of(trade);
-        let from = book::key_of(seller);
-        let to = book::key_of(parties::buyer_of(trade));
+        let from = book_holdings::key_of(seller);
+        let to = book_holdings::key_of(parties::buyer_of(trade));
         put_share_leg(legs, i, from, to, trade.quantity);
-        figures::start_shares(figures, i, book::balance(book, seller));
+        figures::start_shares(figures, i, book_holdings::balance(book, seller));
         i += 1;
     }
 }
@@ -73,15 +73,15 @@ pub fn fill_cash(legs: &mut [u64], figures: &mut [u64], book: &[u64])
     ensures { λ u. ⌜ CashLegs (ledgerOf (now (book .entry)) .waiting) (now (legs .exit)) ⌝ }
     ensures { λ u. ⌜ CashStart (ledgerOf (now (book .entry))) (now (figures .exit)) ⌝ }
 {
-    let n = book::items(book);
+    let n = book_items::items(book);
     let mut i: usize = 0;
     while i < n {
-        let trade = book::item_at(book, i);
+        let trade = book_items::item_at(book, i);
         let payer = trade.credited.member;
         let from = cash_key(payer, trade.currency);
         let to = cash_key(trade.debited.member, trade.currency);
         put_cash_leg(legs, i, from, to, trade.amount);
-        figures::start_cash(figures, i, book::cash(book, payer, trade.currency));
+        figures::start_cash(figures, i, book_holdings::cash(book, payer, trade.currency));
         i += 1;
     }
 }

@@ -17,7 +17,7 @@ use Rattle.book.specs.Stored.{Means, HoldingsBecome, withSecurity, entered}
 use Rattle.book.specs.Handled.{Handled}
 use Rattle.booking.proofs.Moved.{Wrote, moved, stepwise}
 use Rattle.book.proofs.Handled.{means-so}
-use Rattle.book.proofs.Admission.{admitted-outside}
+use Rattle.movements.proofs.Admission.{admitted-outside}
 
 -- 2: the security is new, and its count outside becomes the issue
 pub did-admit :

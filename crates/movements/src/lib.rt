@@ -13,7 +13,7 @@ pub fn admit(book: &mut [u64], order: Order, area: &mut [u8]) -> Counts
     requires { ⌜ Accepted (now book) order (now area) × (order .form ≡ 2) ⌝ }
     ensures { λ r. ⌜ Handled (admit (ledgerOf (now (book .entry))) order) (now (book .exit)) (now (area .entry)) (now (area .exit)) r ⌝ }
 {
-    book::admit(book, order.security, order.quantity);
+    book_holdings::admit(book, order.security, order.quantity);
     let issued = parties::issued_account(order.security);
     let outside = parties::outside_account(order.security);
     rows::write_shares(area, issued, outside, order.quantity);
@@ -27,8 +27,8 @@ pub fn deposit(book: &mut [u64], order: Order, area: &mut [u8]) -> Counts
 {
     let outside = parties::outside_account(order.security);
     let to = parties::account_of(order.security, order.credited);
-    book::credit(book, to, order.quantity);
-    book::enter_custody(book, order.security, order.quantity);
+    book_holdings::credit(book, to, order.quantity);
+    book_holdings::enter_custody(book, order.security, order.quantity);
     rows::write_shares(area, outside, to, order.quantity);
     rows::two_rows()
 }
@@ -58,7 +58,7 @@ pub fn pay_in(book: &mut [u64], order: Order, area: &mut [u8]) -> Counts
     ensures { λ r. ⌜ Handled (payIn (ledgerOf (now (book .entry))) order) (now (book .exit)) (now (area .entry)) (now (area .exit)) r ⌝ }
 {
     let member = order.credited.member;
-    book::credit_cash(book, member, order.currency, order.amount);
+    book_holdings::credit_cash(book, member, order.currency, order.amount);
     rows::write_cash(area, order.currency, 0, member, order.amount);
     rows::two_rows()
 }
@@ -69,7 +69,7 @@ pub fn pay_out(book: &mut [u64], order: Order, area: &mut [u8]) -> Counts
     ensures { λ r. ⌜ Handled (payOut (ledgerOf (now (book .entry))) order) (now (book .exit)) (now (area .entry)) (now (area .exit)) r ⌝ }
 {
     let member = order.debited.member;
-    book::debit_cash(book, member, order.currency, order.amount);
+    book_holdings::debit_cash(book, member, order.currency, order.amount);
     rows::write_cash(area, order.currency, member, 0, order.amount);
     rows::two_rows()
 }

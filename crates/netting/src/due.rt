@@ -28,11 +28,11 @@ pub fn due_marks(book: &[u64]) -> Marks
     ensures { λ r. ⌜ Taken (ledgerOf (now (book .entry))) r ⌝ }
 {
     let day = book::day(book);
-    let n = book::items(book);
+    let n = book_items::items(book);
     let mut marks: Marks = 0;
     let mut i: usize = 0;
     while i < n {
-        if is_due(book::item_at(book, i), day.number) {
+        if is_due(book_items::item_at(book, i), day.number) {
             marks = marks::flip(marks, i);
         }
         i += 1;

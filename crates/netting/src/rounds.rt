@@ -30,7 +30,7 @@ pub fn settling_marks(book: &[u64], due: Marks) -> Marks
     requires { ⌜ Stored (now book) × Ready (ledgerOf (now book)) ⌝ }
     ensures { λ r. ⌜ Netted (ledgerOf (now (book .entry))) due r ⌝ }
 {
-    let n = book::items(book);
+    let n = book_items::items(book);
     let mut shares = [0u64; 192];
     let mut held = [0u64; 128];
     legs::fill_shares(&mut shares, &mut held, book);

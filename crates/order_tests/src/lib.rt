@@ -14,7 +14,7 @@ fn wrong_security(book: &[u64], order: Order) -> bool
     ensures { λ r. ⌜ r ≡ wrongSecurity (ledgerOf (now (book .entry)) .holdings) order ⌝ }
 {
     let form = order.form;
-    let admitted = book::admitted(book, order.security);
+    let admitted = book_holdings::admitted(book, order.security);
     let asked = checking::is_within(3, 9, form) | checking::is_within(12, 14, form) | (form == 19);
     (asked & !admitted) | ((form == 2) & admitted)
 }

@@ -36,7 +36,7 @@ pub fn securities(book: &[u64]) -> usize
     requires { ⌜ Kept (now book) ⌝ }
     ensures { λ r. ⌜ r ≡ length (ledgerOf (now (book .entry)) .holdings .securities) ⌝ }
 {
-    book::securities(book)
+    book_holdings::securities(book)
 }
 
 // The security at `i`, in order of admission; its held count is what its accounts hold.
@@ -45,7 +45,7 @@ pub fn security_at(book: &[u64], i: usize) -> Security
     ensures { λ r. ⌜ ((d : Security) → r ≡ getD (ledgerOf (now (book .entry)) .holdings .securities) i d) ⌝ }
     ensures { λ r. ⌜ r .held .0 ≡ Ledger.held (r .code) (ledgerOf (now (book .entry)) .holdings) ⌝ }
 {
-    book::security_at(book, i)
+    book_holdings::security_at(book, i)
 }
 
 // The security's held count, which is what its accounts hold.
@@ -54,7 +54,7 @@ pub fn held(book: &[u64], security: u64) -> Shares
     ensures { λ r. ⌜ r .0 ≡ Ledger.heldOf security (ledgerOf (now (book .entry)) .holdings) ⌝ }
     ensures { λ r. ⌜ r .0 ≡ Ledger.held security (ledgerOf (now (book .entry)) .holdings) ⌝ }
 {
-    book::held(book, security)
+    book_holdings::held(book, security)
 }
 
 // How many accounts there are.
@@ -62,7 +62,7 @@ pub fn accounts(book: &[u64]) -> u64
     requires { ⌜ Kept (now book) ⌝ }
     ensures { λ r. ⌜ r ≡ ledgerOf (now (book .entry)) .holdings .accounts ⌝ }
 {
-    book::accounts(book)
+    book_holdings::accounts(book)
 }
 
 // An account's balance: 0 where there is no such account, also where no record can name it.
@@ -71,7 +71,7 @@ pub fn balance(book: &[u64], account: Account) -> Shares
     ensures { λ r. ⌜ r .0 ≡ ledgerOf (now (book .entry)) .holdings .balance account ⌝ }
 {
     if accounts::is_named(account) {
-        return book::balance(book, account);
+        return book_holdings::balance(book, account);
     }
     Shares(0)
 }
@@ -88,7 +88,7 @@ pub fn next_account(book: &[u64], from: u64) -> u64
     requires { ⌜ Kept (now book) × (from ≤ accountLimit) ⌝ }
     ensures { λ r. ⌜ Next (hasBalance (ledgerOf (now (book .entry)) .holdings .balance)) from accountLimit r ⌝ }
 {
-    book::next_account(book, from)
+    book_holdings::next_account(book, from)
 }
 
 // A member's cash in a currency: 0 where the book keeps none.
@@ -97,7 +97,7 @@ pub fn cash(book: &[u64], member: u64, currency: u64) -> Cents
     ensures { λ r. ⌜ r .0 ≡ ledgerOf (now (book .entry)) .holdings .cash member currency ⌝ }
 {
     if cash::is_kept(member, currency) {
-        return book::cash(book, member, currency);
+        return book_holdings::cash(book, member, currency);
     }
     Cents(0)
 }
@@ -107,7 +107,7 @@ pub fn items(book: &[u64]) -> usize
     requires { ⌜ Kept (now book) ⌝ }
     ensures { λ r. ⌜ r ≡ length (ledgerOf (now (book .entry)) .waiting) ⌝ }
 {
-    book::items(book)
+    book_items::items(book)
 }
 
 // The item at `i`, in order of arrival.
@@ -115,7 +115,7 @@ pub fn item_at(book: &[u64], i: usize) -> Item
     requires { ⌜ Kept (now book) × (i < length (ledgerOf (now book) .waiting)) ⌝ }
     ensures { λ r. ⌜ ((d : Item) → r ≡ getD (ledgerOf (now (book .entry)) .waiting) i d) ⌝ }
 {
-    book::item_at(book, i)
+    book_items::item_at(book, i)
 }
 
 // How many requests for paper are open.
@@ -123,7 +123,7 @@ pub fn requests(book: &[u64]) -> u64
     requires { ⌜ Kept (now book) ⌝ }
     ensures { λ r. ⌜ r ≡ ledgerOf (now (book .entry)) .requests .number ⌝ }
 {
-    book::requests(book)
+    book_requests::requests(book)
 }
 
 // What a member has open under a reference: all 0 where there is none, also where no record can name them.
@@ -132,7 +132,7 @@ pub fn request(book: &[u64], member: u64, reference: u64) -> Request
     ensures { λ r. ⌜ r ≡ ledgerOf (now (book .entry)) .requests .asked member reference ⌝ }
 {
     if requests::is_named(member, reference) {
-        return book::request(book, member, reference);
+        return book_requests::request(book, member, reference);
     }
     Request {
         security: 0,
@@ -149,5 +149,5 @@ pub fn next_request(book: &[u64], from: u64) -> u64
     requires { ⌜ Kept (now book) × (from ≤ requestLimit) ⌝ }
     ensures { λ r. ⌜ Next (isOpen (ledgerOf (now (book .entry)) .requests .asked)) from requestLimit r ⌝ }
 {
-    book::next_request(book, from)
+    book_requests::next_request(book, from)
 }

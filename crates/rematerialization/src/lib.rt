@@ -32,7 +32,7 @@ pub fn request_paper(book: &mut [u64], order: Order, area: &mut [u8]) -> Counts
     let request = new_request(today.number, order);
     let from = parties::account_of(order.security, order.debited);
     let to = parties::requested_account(order);
-    book::open_request(book, member, order.reference, request);
+    book_requests::open_request(book, member, order.reference, request);
     booking::shift(book, area, from, to, order.quantity)
 }
 
@@ -42,9 +42,9 @@ pub fn end_request(book: &mut [u64], order: Order, area: &mut [u8]) -> Counts
     ensures { λ r. ⌜ Handled (endRequest (ledgerOf (now (book .entry))) order) (now (book .exit)) (now (area .entry)) (now (area .exit)) r ⌝ }
 {
     let member = order.debited.member;
-    let request = book::request(book, member, order.reference);
+    let request = book_requests::request(book, member, order.reference);
     let from = parties::awaiting_account(member, request);
-    book::end_request(book, member, order.reference);
+    book_requests::end_request(book, member, order.reference);
     if types::is_outside(order.credited.typ) {
         return booking::leave(book, area, from, request.quantity);
     }

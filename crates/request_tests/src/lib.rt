@@ -31,7 +31,7 @@ fn too_many_requests(book: &[u64], order: Order) -> bool
     requires { ⌜ Stored (now book) ⌝ }
     ensures { λ r. ⌜ r ≡ tooManyRequests (ledgerOf (now (book .entry)) .requests) order ⌝ }
 {
-    (order.form == 19) & (15 < book::requests(book))
+    (order.form == 19) & (15 < book_requests::requests(book))
 }
 
 // The first refusal of the requests' stage; 0 where none applies.
@@ -42,7 +42,7 @@ pub fn refusal(book: &[u64], today: u64, order: Order) -> u64
     if (order.form != 19) & (order.form != 20) {
         return 0;
     }
-    let request = book::request(book, order.debited.member, order.reference);
+    let request = book_requests::request(book, order.debited.member, order.reference);
     let wrong = wrong_request(order, request);
     let too_soon = ends_too_soon(today, order, request);
     let too_many = too_many_requests(book, order);

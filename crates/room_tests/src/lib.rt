@@ -18,15 +18,18 @@ fn too_little(book: &[u64], order: Order) -> bool
 {
     let form = order.form;
     if form == 3 {
-        let outside = book::outside(book, order.security);
+        let outside = book_holdings::outside(book, order.security);
         return outside.0 < order.quantity.0;
     }
     if checking::is_within(4, 9, form) | (form == 19) {
-        let balance = book::balance(book, parties::account_of(order.security, order.debited));
+        let balance = book_holdings::balance(
+            book,
+            parties::account_of(order.security, order.debited),
+        );
         return balance.0 < order.quantity.0;
     }
     if form == 11 {
-        let cash = book::cash(book, order.debited.member, order.currency);
+        let cash = book_holdings::cash(book, order.debited.member, order.currency);
         return cash.0 < order.amount.0;
     }
     false
@@ -40,7 +43,7 @@ fn over_ceiling(book: &[u64], order: Order) -> bool
     if order.form != 10 {
         return false;
     }
-    let total = book::cash_total(book, order.currency);
+    let total = book_holdings::cash_total(book, order.currency);
     1_000_000_000_000_000 < total.0 + order.amount.0
 }
 
@@ -49,7 +52,7 @@ fn is_full(book: &[u64]) -> bool
     requires { ⌜ Kept (now book) ⌝ }
     ensures { λ r. ⌜ r ≡ isFull (ledgerOf (now (book .entry))) ⌝ }
 {
-    255 < book::accounts(book) + book::items(book) as u64
+    255 < book_holdings::accounts(book) + book_items::items(book) as u64
 }
 
 // The waiting list, or accounts plus items, leave no room for one more item.
@@ -57,7 +60,7 @@ fn is_list_full(book: &[u64]) -> bool
     requires { ⌜ Kept (now book) ⌝ }
     ensures { λ r. ⌜ r ≡ isListFull (ledgerOf (now (book .entry))) ⌝ }
 {
-    (63 < book::items(book)) | is_full(book)
+    (63 < book_items::items(book)) | is_full(book)
 }
 
 // Whether a waiting single pairs with the arriving one of an order.
@@ -73,8 +76,8 @@ fn no_room_between(book: &[u64], from: Account, to: Account, quantity: Shares) -
     requires { ⌜ Kept (now book) × AccountInRange from × AccountInRange to ⌝ }
     ensures { λ r. ⌜ r ≡ noRoomBetween (ledgerOf (now (book .entry))) from to (quantity .0) ⌝ }
 {
-    let to_has = book::balance(book, to);
-    let from_has = book::balance(book, from);
+    let to_has = book_holdings::balance(book, to);
+    let from_has = book_holdings::balance(book, from);
     (to_has.0 == 0) & (from_has.0 != quantity.0) & is_full(book)
 }
 
@@ -88,7 +91,7 @@ fn no_room_for_paper(book: &[u64], order: Order) -> bool
     if types::is_outside(credited) {
         return false;
     }
-    let request = book::request(book, member, order.reference);
+    let request = book_requests::request(book, member, order.reference);
     let from = parties::awaiting_account(member, request);
     let to = parties::request_account(credited, member, request);
     no_room_between(book, from, to, request.quantity)
@@ -101,7 +104,7 @@ fn no_space(book: &[u64], order: Order) -> bool
 {
     let form = order.form;
     if form == 2 {
-        return 31 < book::securities(book);
+        return 31 < book_holdings::securities(book);
     }
     if !is_list_full(book) {
         return false;
@@ -109,7 +112,7 @@ fn no_space(book: &[u64], order: Order) -> bool
     let debited = parties::account_of(order.security, order.debited);
     let credited = parties::account_of(order.security, order.credited);
     if form == 3 {
-        let to = book::balance(book, credited);
+        let to = book_holdings::balance(book, credited);
         return (to.0 == 0) & is_full(book);
     }
     if checking::is_within(5, 9, form) {

@@ -17,10 +17,10 @@ fn is_sent(book: &[u64], i: usize, sender: u64, reference: u64) -> bool
     requires { ⌜ Stored (now book) × (i < length (ledgerOf (now book) .waiting)) ⌝ }
     ensures { λ r. ⌜ ((d : Item) → r ≡ sentBy sender reference (getD (ledgerOf (now (book .entry)) .waiting) i d)) ⌝ }
 {
-    if !book::may_bear(book, i, reference) {
+    if !book_items::may_bear(book, i, reference) {
         return false;
     }
-    item::sent_by(sender, reference, book::item_at(book, i))
+    item::sent_by(sender, reference, book_items::item_at(book, i))
 }
 
 // Whether the item at `i` pairs with an arriving one; it is read whole only where it is a single of the quantity.
@@ -28,10 +28,10 @@ fn is_pairing(book: &[u64], i: usize, limit: Cents, arriving: Item) -> bool
     requires { ⌜ Stored (now book) × (i < length (ledgerOf (now book) .waiting)) ⌝ }
     ensures { λ r. ⌜ ((d : Item) → r ≡ pairsWith (limit .0) arriving (getD (ledgerOf (now (book .entry)) .waiting) i d)) ⌝ }
 {
-    if !book::may_pair(book, i, arriving.quantity) {
+    if !book_items::may_pair(book, i, arriving.quantity) {
         return false;
     }
-    matching::pairs_with(limit, arriving, book::item_at(book, i))
+    matching::pairs_with(limit, arriving, book_items::item_at(book, i))
 }
 
 // The item that waits under that sender's reference.
@@ -39,7 +39,7 @@ pub fn first_sent(book: &[u64], sender: u64, reference: u64) -> Found
     requires { ⌜ Stored (now book) ⌝ }
     ensures { λ r. ⌜ r ≡ placeIn (sentBy sender reference) (ledgerOf (now (book .entry)) .waiting) ⌝ }
 {
-    let n = book::items(book);
+    let n = book_items::items(book);
     let mut i: usize = 0;
     while i < n {
         if is_sent(book, i, sender, reference) {
@@ -55,7 +55,7 @@ fn first_pairing(book: &[u64], limit: Cents, arriving: Item) -> Found
     requires { ⌜ Stored (now book) ⌝ }
     ensures { λ r. ⌜ r ≡ placeIn (pairsWith (limit .0) arriving) (ledgerOf (now (book .entry)) .waiting) ⌝ }
 {
-    let n = book::items(book);
+    let n = book_items::items(book);
     let mut i: usize = 0;
     while i < n {
         if is_pairing(book, i, limit, arriving) {

@@ -1,0 +1,2 @@
+-- The table of forms, for the handlers.
+pub mod ByForm
