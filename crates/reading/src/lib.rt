@@ -1,43 +1,31 @@
 // What a book says, part by part, to a program that does not know its words.
 ghost use mathlib.Core.Path.{_≡_};
-ghost use Prim.Native.Nat.{_≤_, _<_};
+ghost use Prim.Native.Nat.{_<_};
 ghost use lib.ListN.{length, getD};
 ghost use Rattle.rulebook.specs.Ledger as Ledger;
-ghost use Rattle.book.specs.Keys.{Next, accountLimit, accountOf, hasBalance, requestLimit, isOpen};
 ghost use Rattle.book.specs.Meaning.{ledgerOf};
 ghost use Rattle.book.specs.Stored.{Kept};
 use rulebook::Account;
 use rulebook::Cents;
-use rulebook::Day;
-use rulebook::Item;
-use rulebook::Rate;
 use rulebook::Request;
 use rulebook::Security;
 use rulebook::Shares;
 
-// The day.
-pub fn day(book: &[u64]) -> Day
-    requires { ⌜ Kept (now book) ⌝ }
-    ensures { λ r. ⌜ r ≡ ledgerOf (now (book .entry)) .day ⌝ }
-{
-    book::day(book)
-}
+// The day and the rate.
+pub use book::day;
+pub use book::rate;
 
-// The rate.
-pub fn rate(book: &[u64]) -> Rate
-    requires { ⌜ Kept (now book) ⌝ }
-    ensures { λ r. ⌜ r .0 ≡ ledgerOf (now (book .entry)) .rate ⌝ }
-{
-    book::rate(book)
-}
+// How many securities, accounts, items and open requests there are.
+pub use book_holdings::accounts;
+pub use book_holdings::securities;
+pub use book_items::items;
+pub use book_requests::requests;
 
-// How many securities are admitted.
-pub fn securities(book: &[u64]) -> usize
-    requires { ⌜ Kept (now book) ⌝ }
-    ensures { λ r. ⌜ r ≡ length (ledgerOf (now (book .entry)) .holdings .securities) ⌝ }
-{
-    book_holdings::securities(book)
-}
+// An item by its place; accounts and requests in order of their numbers.
+pub use accounts::account_of;
+pub use book_holdings::next_account;
+pub use book_items::item_at;
+pub use book_requests::next_request;
 
 // The security at `i`, in order of admission; its held count is what its accounts hold.
 pub fn security_at(book: &[u64], i: usize) -> Security
@@ -57,14 +45,6 @@ pub fn held(book: &[u64], security: u64) -> Shares
     book_holdings::held(book, security)
 }
 
-// How many accounts there are.
-pub fn accounts(book: &[u64]) -> u64
-    requires { ⌜ Kept (now book) ⌝ }
-    ensures { λ r. ⌜ r ≡ ledgerOf (now (book .entry)) .holdings .accounts ⌝ }
-{
-    book_holdings::accounts(book)
-}
-
 // An account's balance: 0 where there is no such account, also where no record can name it.
 pub fn balance(book: &[u64], account: Account) -> Shares
     requires { ⌜ Kept (now book) ⌝ }
@@ -76,21 +56,6 @@ pub fn balance(book: &[u64], account: Account) -> Shares
     Shares(0)
 }
 
-// The account of a number. Ascending numbers are accounts in order of security, member, type and shareholder.
-pub fn account_of(number: u64) -> Account
-    ensures { λ r. ⌜ r ≡ accountOf number ⌝ }
-{
-    accounts::account_of(number)
-}
-
-// The number of the first account from a number on that has a balance; 2^62 where there is none.
-pub fn next_account(book: &[u64], from: u64) -> u64
-    requires { ⌜ Kept (now book) × (from ≤ accountLimit) ⌝ }
-    ensures { λ r. ⌜ Next (hasBalance (ledgerOf (now (book .entry)) .holdings .balance)) from accountLimit r ⌝ }
-{
-    book_holdings::next_account(book, from)
-}
-
 // A member's cash in a currency: 0 where the book keeps none.
 pub fn cash(book: &[u64], member: u64, currency: u64) -> Cents
     requires { ⌜ Kept (now book) ⌝ }
@@ -100,30 +65,6 @@ pub fn cash(book: &[u64], member: u64, currency: u64) -> Cents
         return book_holdings::cash(book, member, currency);
     }
     Cents(0)
-}
-
-// How many items wait.
-pub fn items(book: &[u64]) -> usize
-    requires { ⌜ Kept (now book) ⌝ }
-    ensures { λ r. ⌜ r ≡ length (ledgerOf (now (book .entry)) .waiting) ⌝ }
-{
-    book_items::items(book)
-}
-
-// The item at `i`, in order of arrival.
-pub fn item_at(book: &[u64], i: usize) -> Item
-    requires { ⌜ Kept (now book) × (i < length (ledgerOf (now book) .waiting)) ⌝ }
-    ensures { λ r. ⌜ ((d : Item) → r ≡ getD (ledgerOf (now (book .entry)) .waiting) i d) ⌝ }
-{
-    book_items::item_at(book, i)
-}
-
-// How many requests for paper are open.
-pub fn requests(book: &[u64]) -> u64
-    requires { ⌜ Kept (now book) ⌝ }
-    ensures { λ r. ⌜ r ≡ ledgerOf (now (book .entry)) .requests .number ⌝ }
-{
-    book_requests::requests(book)
 }
 
 // What a member has open under a reference: all 0 where there is none, also where no record can name them.
@@ -141,13 +82,4 @@ pub fn request(book: &[u64], member: u64, reference: u64) -> Request
         quantity: Shares(0),
         day: 0,
     }
-}
-
-// The number of the first request from a number on that is open; 2^42 where there is none. A number is member, then reference in 32 bits, so that
-// ascending numbers are requests in order of member and reference.
-pub fn next_request(book: &[u64], from: u64) -> u64
-    requires { ⌜ Kept (now book) × (from ≤ requestLimit) ⌝ }
-    ensures { λ r. ⌜ Next (isOpen (ledgerOf (now (book .entry)) .requests .asked)) from requestLimit r ⌝ }
-{
-    book_requests::next_request(book, from)
 }

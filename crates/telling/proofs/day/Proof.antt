@@ -18,7 +18,7 @@ returns : tie.Need-returns
 returns c = tells-wrong _ _ _ _ (c .before .lengths .ensures) (c .if1 .taken)
 
 day-requires : tie.Need-day-requires
-day-requires c κs = start (c .before .before) .pre (right (c .before) .0)
+day-requires c κs = start (c .before .before) .pre (right (c .before) .0) .stored
 
 put-day-requires : tie.Need-put-day-requires
 put-day-requires c κs = right (c .before .before) .1

@@ -20,7 +20,7 @@ returns : tie.Need-returns
 returns c = tells-at-wrong _ _ _ _ _ _ _ (c .before .lengths .ensures) (c .if1 .taken)
 
 items-requires : tie.Need-items-requires
-items-requires c κs = start (c .before) .pre (right c .0)
+items-requires c κs = start (c .before) .pre (right c .0) .stored
 
 returns-2 : tie.Need-returns-2
 returns-2 c =
@@ -32,7 +32,7 @@ there : (c : tie.Else2) → start (c .before .before .before) .args .place < len
 there c = omega (arith, c .before .items .ensures, c .if2 .left)
 
 item-at-requires : tie.Need-item-at-requires
-item-at-requires c κs = let passed = c .before .before .before in (start (passed .before) .pre (right passed .0), there (c .before))
+item-at-requires c κs = let passed = c .before .before .before in (start (passed .before) .pre (right passed .0) .stored, there (c .before))
 
 put-item-requires : tie.Need-put-item-requires
 put-item-requires c κs = right (c .before .before .before .before) .1

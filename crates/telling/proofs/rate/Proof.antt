@@ -18,7 +18,7 @@ returns : tie.Need-returns
 returns c = tells-wrong _ _ _ _ (c .before .lengths .ensures) (c .if1 .taken)
 
 rate-requires : tie.Need-rate-requires
-rate-requires c κs = start (c .before) .pre (right c .0)
+rate-requires c κs = start (c .before) .pre (right c .0) .stored
 
 slice-write-values : tie.Need-slice-write-values
 slice-write-values c = omega (arith, right (c .before) .1)

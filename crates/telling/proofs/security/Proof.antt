@@ -23,7 +23,7 @@ returns : tie.Need-returns
 returns c = tells-at-wrong _ _ _ _ _ _ _ (c .before .lengths .ensures) (c .if1 .taken)
 
 securities-requires : tie.Need-securities-requires
-securities-requires c κs = start (c .before) .pre (right c .0)
+securities-requires c κs = start (c .before) .pre (right c .0) .stored
 
 returns-2 : tie.Need-returns-2
 returns-2 c =

@@ -20,16 +20,16 @@ returns : tie.Need-returns
 returns c = tells-wrong _ _ _ _ (c .before .lengths .ensures) (c .if1 .taken)
 
 securities-requires : tie.Need-securities-requires
-securities-requires c κs = start (c .before) .pre (right c .0)
+securities-requires c κs = start (c .before) .pre (right c .0) .stored
 
 accounts-requires : tie.Need-accounts-requires
-accounts-requires c κs = let passed = c .before in start (passed .before) .pre (right passed .0)
+accounts-requires c κs = let passed = c .before in start (passed .before) .pre (right passed .0) .stored
 
 items-requires : tie.Need-items-requires
-items-requires c κs = let passed = c .before .before in start (passed .before) .pre (right passed .0)
+items-requires c κs = let passed = c .before .before in start (passed .before) .pre (right passed .0) .stored
 
 requests-requires : tie.Need-requests-requires
-requests-requires c κs = let passed = c .before .before .before in start (passed .before) .pre (right passed .0)
+requests-requires c κs = let passed = c .before .before .before in start (passed .before) .pre (right passed .0) .stored
 
 write-requires : tie.Need-write-requires
 write-requires c κs = omega (arith, right (c .before .before .before .before .before .before) .1)
