@@ -1,3 +1,2 @@
 -- The netted cycle on a book of words.
-pub mod Booking
 pub mod Counting

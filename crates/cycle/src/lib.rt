@@ -1,8 +1,4 @@
 // Form 16, the netted cycle, on a book of words.
-mod booking;
-mod leaving;
-mod postings;
-
 ghost use mathlib.Core.Path.{_≡_};
 ghost use Prim.Native.Nat.{_^_, _≤_, _<_};
 ghost use lib.ListN.{length};
@@ -49,9 +45,9 @@ pub fn run(book: &mut [u64], area: &mut [u8]) -> Counts
     let n = book_items::items(book);
     let selection = netting::select(book);
     let settled = selection.settled;
-    postings::write_marked(area, book, settled);
-    booking::book_marked(book, settled);
-    leaving::leave_marked(book, settled);
+    settlement::write_marked(area, book, settled);
+    settlement::book_marked(book, settled);
+    settlement::leave_marked(book, settled);
     count_cycle(book);
     counts_of(selection, n)
 }

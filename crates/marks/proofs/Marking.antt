@@ -1,5 +1,5 @@
 -- The waiting list with its marks, by places: sums over it, and how many are marked. Assumes nothing.
-use Prim.Native.Nat.{ℕ, zero, suc, _+_, _≤_, _<_}
+use Prim.Native.Nat.{ℕ, zero, suc, _+_, _*_, _^_, _≤_, _<_}
 use native.Mathlib.Omega.{arith}
 use mathlib.Core.Bool.{Bool, true, false}
 use mathlib.Core.List.{List, [], _∷_}
@@ -14,6 +14,16 @@ use Rattle.rulebook.specs.declared.Item.{Item}
 use Rattle.words.specs.Places.{listFrom}
 use Rattle.words.proofs.Places.{from-same, from-total, from-get, length-from}
 use Rattle.marks.specs.Marks.{noItem, itemIn, countOn}
+
+-- a sum of numbers below 2^40
+pub sum-most : (n : ℕ) (f : ℕ → ℕ) → ((k : ℕ) → k < n → f k < 2 ^ 40) → sumBelow n f ≤ n * 1_099_511_627_776
+unfolding sumBelow
+sum-most zero f e = omega arith
+sum-most (suc n) f e = omega (arith, e n (omega arith), sum-most n f (λ k l. e k (omega arith)))
+
+pub if-below : (b : Bool) (n : ℕ) → n < 2 ^ 40 → (if b then n else 0) < 2 ^ 40
+if-below true n l = l
+if-below false n l = omega arith
 
 -- n items with their marks
 abbrev pub marking : (ℕ → Bool) → (ℕ → Item) → ℕ → List Marked

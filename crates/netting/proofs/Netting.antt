@@ -10,17 +10,7 @@ use Rattle.plain.proofs.Sums.{sum-same, sum-least}
 use Rattle.rulebook.specs.Cycle.{over}
 use Rattle.rulebook.specs.declared.Item.{Item}
 use Rattle.legs.specs.Figures.{hasAt, owesAt, brings, takes, bringsAll, takesAll, Figures, Cover, RoomAll}
-use Rattle.marks.proofs.Marking.{marking, over-sum, over-more}
-
--- a sum of numbers below 2^40
-pub sum-most : (n : ℕ) (f : ℕ → ℕ) → ((k : ℕ) → k < n → f k < 2 ^ 40) → sumBelow n f ≤ n * 1_099_511_627_776
-unfolding sumBelow
-sum-most zero f e = omega arith
-sum-most (suc n) f e = omega (arith, e n (omega arith), sum-most n f (λ k l. e k (omega arith)))
-
-pub if-below : (b : Bool) (n : ℕ) → n < 2 ^ 40 → (if b then n else 0) < 2 ^ 40
-if-below true n l = l
-if-below false n l = omega arith
+use Rattle.marks.proofs.Marking.{sum-most, if-below, marking, over-sum, over-more}
 
 -- into k is what an item brings to what leg k debits, and out k what it takes from it
 module _ (item : ℕ → Item) (n : ℕ) (into out : ℕ → Item → ℕ) (legs : List ℕ) where

@@ -28,8 +28,8 @@ use Rattle.legs.specs.Slots.{Slots, viewed}
 use Rattle.legs.specs.Ready.{Ready}
 use Rattle.legs.proofs.Searches.{Last, last-at, last-none, last-same}
 use Rattle.legs.proofs.Slotted.{has-viewed, owes-viewed, viewed-long, slot-leg, slot-own}
-use Rattle.marks.proofs.Marking.{marking, count-most}
-use Rattle.netting.proofs.Netting.{if-below, Are, Small, Lined, lined-room, lined-start, lined-cover, lined-less}
+use Rattle.marks.proofs.Marking.{if-below, marking, count-most}
+use Rattle.netting.proofs.Netting.{Are, Small, Lined, lined-room, lined-start, lined-cover, lined-less}
 use Rattle.netting.proofs.Drops.{noMark, at, none-at, some-at, drop-at, rounds-stop, rounds-step}
 
 -- ---- keys tell members' cash apart

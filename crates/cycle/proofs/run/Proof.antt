@@ -12,7 +12,7 @@ use Rattle.book.specs.Meaning.{ledgerOf}
 use Rattle.marks.specs.Marks.{isOn, countOn}
 use Rattle.legs.specs.Ready.{Ready}
 use Rattle.cycle.proofs.Premises.{premise-ready, premise-cycles}
-use Rattle.cycle.proofs.Walking.{waiting-now}
+use Rattle.settlement.proofs.Walking.{waiting-now}
 use Rattle.cycle.proofs.Whole.{none-short, same-day, handled}
 use Rattle.cycle.proofs.run.Statement.{statement}
 use Rattle.cycle.proofs.run.Tie as tie

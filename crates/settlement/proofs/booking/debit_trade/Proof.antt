@@ -1,4 +1,4 @@
--- `cycle::booking::debit_trade` meets its contract. Assumes nothing.
+-- `settlement::booking::debit_trade` meets its contract. Assumes nothing.
 use mathlib.Core.Path.{sym, ap, subst}
 use Prim.Native.Nat.{_≤_}
 use native.Mathlib.Omega.{arith}
@@ -9,9 +9,9 @@ use Rattle.rulebook.specs.Cycle.{seller, legs}
 use Rattle.rulebook.specs.declared.Account.{Account}
 use Rattle.book.specs.Meaning.{ledgerOf}
 use Rattle.book.specs.Stored.{HoldingsBecome}
-use Rattle.cycle.proofs.Walking.{holdings-now, then-holdings}
-use Rattle.cycle.proofs.booking.debit_trade.Statement.{statement}
-use Rattle.cycle.proofs.booking.debit_trade.Tie as tie
+use Rattle.settlement.proofs.Walking.{holdings-now, then-holdings}
+use Rattle.settlement.proofs.booking.debit_trade.Statement.{statement}
+use Rattle.settlement.proofs.booking.debit_trade.Tie as tie
 
 -- ---- places
 

@@ -1,4 +1,4 @@
--- `cycle::booking::book_marked` meets its contract. Assumes nothing.
+-- `settlement::booking::book_marked` meets its contract. Assumes nothing.
 use mathlib.Core.Path.{sym, ap, subst}
 use borrow.Author.Needs.{needs}
 use Rattle.rulebook.specs.Ledger.{Ledger, Holdings, putHoldings}
@@ -9,10 +9,10 @@ use Rattle.book.specs.Meaning.{ledgerOf}
 use Rattle.book.proofs.Parts.{next}
 use Rattle.book.proofs.Handled.{means-so}
 use Rattle.marks.specs.Marks.{markedOf}
-use Rattle.cycle.specs.Booking.{Covered}
-use Rattle.cycle.proofs.Walking.{covered}
-use Rattle.cycle.proofs.booking.book_marked.Statement.{statement}
-use Rattle.cycle.proofs.booking.book_marked.Tie as tie
+use Rattle.settlement.specs.Booking.{Covered}
+use Rattle.settlement.proofs.Walking.{covered}
+use Rattle.settlement.proofs.booking.book_marked.Statement.{statement}
+use Rattle.settlement.proofs.booking.book_marked.Tie as tie
 
 -- ---- places
 

@@ -1,4 +1,4 @@
--- `cycle::booking::credit_trade` meets its contract. Assumes nothing.
+-- `settlement::booking::credit_trade` meets its contract. Assumes nothing.
 use mathlib.Core.Path.{sym, ap, subst}
 use native.Mathlib.Omega.{arith}
 use borrow.Author.Needs.{needs}
@@ -9,9 +9,9 @@ use Rattle.rulebook.specs.declared.Account.{Account}
 use Rattle.book.specs.Keys.{CreditFits}
 use Rattle.book.specs.Meaning.{ledgerOf}
 use Rattle.book.specs.Stored.{HoldingsBecome}
-use Rattle.cycle.proofs.Walking.{holdings-now, then-holdings}
-use Rattle.cycle.proofs.booking.credit_trade.Statement.{statement}
-use Rattle.cycle.proofs.booking.credit_trade.Tie as tie
+use Rattle.settlement.proofs.Walking.{holdings-now, then-holdings}
+use Rattle.settlement.proofs.booking.credit_trade.Statement.{statement}
+use Rattle.settlement.proofs.booking.credit_trade.Tie as tie
 
 -- ---- places
 

@@ -1,4 +1,4 @@
--- `cycle::booking::credit_marked` meets its contract. The invariant: the book has what the marked ones of the first i items bring. Assumes nothing.
+-- `settlement::booking::debit_marked` meets its contract. The invariant: the book is without what the marked ones of the first i items take. Assumes nothing.
 use mathlib.Core.List.{List}
 use mathlib.Core.Logic.{⊎-elim}
 use mathlib.Core.Path.{sym, subst, _∙_}
@@ -10,12 +10,12 @@ use Rattle.rulebook.specs.Ledger.{Ledger}
 use Rattle.rulebook.specs.declared.Item.{Item}
 use Rattle.book.specs.Meaning.{ledgerOf}
 use Rattle.marks.specs.Marks.{noItem}
-use Rattle.cycle.proofs.Walking.{Credited, waiting-now, credit-fits, credit-start, credit-off, credit-on, credit-done}
-use Rattle.cycle.proofs.booking.credit_marked.Statement.{statement}
-use Rattle.cycle.proofs.booking.credit_marked.Tie as tie
+use Rattle.settlement.proofs.Walking.{Debited, waiting-now, debit-fits, debit-start, debit-off, debit-on, debit-done}
+use Rattle.settlement.proofs.booking.debit_marked.Statement.{statement}
+use Rattle.settlement.proofs.booking.debit_marked.Tie as tie
 
 abbrev Inv-loop : tie.InvT-loop
-Inv-loop book₀ marks n i₀ book i = (i ≤ n) × Credited (ledgerOf book₀) marks i book
+Inv-loop book₀ marks n i₀ book i = (i ≤ n) × Debited (ledgerOf book₀) marks i book
 
 abbrev μ-loop : tie.MeasureT-loop
 μ-loop book₀ marks n i₀ book i = n - i
@@ -40,8 +40,8 @@ there-now t =
     let l = t .before .loop in
     subst (λ (w : List Item). l .i < length w) (sym (waiting-now (ledger (t .before)) (l .book) _ (l .inv .1))) (there t)
 
-credit-trade-requires : tie.Need-credit-trade-requires Inv-loop μ-loop
-credit-trade-requires c κs =
+debit-trade-requires : tie.Need-debit-trade-requires Inv-loop μ-loop
+debit-trade-requires c κs =
     let read = c .before in
     let a = asked (read .before) in
     let t = a .before in
@@ -49,7 +49,7 @@ credit-trade-requires c κs =
     let s = entry (t .before) in
     let marked = sym (a .is-on .ensures) ∙ read .before .before .if1 .taken in
     let item = read .item-at .ensures noItem in
-    (l .inv .1 .stored, credit-fits (ledger (t .before)) (s .args .marks) (l .i) (l .book) marked _ item (l .inv .1) (there t) (s .pre .1))
+    (l .inv .1 .stored, debit-fits (ledger (t .before)) (s .args .marks) (l .i) (l .book) marked _ item (l .inv .1) (there t) (s .pre .1))
 
 loop-again : tie.Need-loop-again Inv-loop μ-loop
 loop-again c =
@@ -61,23 +61,23 @@ loop-again c =
     ⊎-elim
     (λ w. (
       omega arith,
-      subst (Credited b marks (l .i + 1)) (sym (w .7))
-          (credit-on b marks (l .i) (l .book) (test ∙ w .0 .taken) _ (w .2 .ensures noItem) (l .inv .1) _ (w .4 .ensures)),
+      subst (Debited b marks (l .i + 1)) (sym (w .7))
+          (debit-on b marks (l .i) (l .book) (test ∙ w .0 .taken) _ (w .2 .ensures noItem) (l .inv .1) _ (w .4 .ensures)),
     ))
-    (λ w. (omega arith, subst (Credited b marks (l .i + 1)) (sym (w .1)) (credit-off b marks (l .i) (l .book) (l .inv .1) (test ∙ w .0 .left))))
+    (λ w. (omega arith, subst (Debited b marks (l .i + 1)) (sym (w .1)) (debit-off b marks (l .i) (l .book) (l .inv .1) (test ∙ w .0 .left))))
     (c .if1 .came)
 
 returns : tie.Need-returns Inv-loop μ-loop
 returns c =
     let h = c .before in
     let l = h .loop in
-    credit-done (ledger h) (entry h .args .marks) (l .i) (l .book) (omega (arith, c .loop-test .left, h .before .items .ensures)) (l .inv .1)
+    debit-done (ledger h) (entry h .args .marks) (l .i) (l .book) (omega (arith, c .loop-test .left, h .before .items .ensures)) (l .inv .1)
 
-pub credit-marked-spec : {M : Type 1} → statement M
-credit-marked-spec =
+pub debit-marked-spec : {M : Type 1} → statement M
+debit-marked-spec =
     tie.close
     (tie.spec Inv-loop μ-loop (λ c κs. search needs)
-    (λ c. let s = c .before .before .before in (omega arith, credit-start (s .args .marks) (s .args .book .now) (s .pre .0)))
+    (λ c. let s = c .before .before .before in (omega arith, debit-start (s .args .marks) (s .args .book .now) (s .pre .0)))
     (λ c κs. omega (arith, there c, entry (c .before) .pre .1 .size)) (λ c κs. let t = asked c .before in (t .before .loop .inv .1 .stored, there-now t))
-    credit-trade-requires (λ c. omega arith) (λ c. omega arith) loop-again
+    debit-trade-requires (λ c. omega arith) (λ c. omega arith) loop-again
     (λ c. c .before .loop .inv .1 .stored .long ∙ sym (entry (c .before) .pre .0 .long)) returns)

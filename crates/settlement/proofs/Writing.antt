@@ -21,7 +21,7 @@ use Rattle.rows.proofs.Area.{behind, movement-rows, trade-rows}
 use Rattle.marks.specs.Marks.{itemIn, isOn, markedOf, countOn, rowsOf}
 use Rattle.legs.specs.Ready.{Bookable}
 use Rattle.marks.proofs.Marking.{count-marked, count-most}
-use Rattle.cycle.proofs.Posting.{first, ifMarked, first-next, legs-append}
+use Rattle.settlement.proofs.Posting.{first, ifMarked, first-next, legs-append}
 
 -- a trade that can be booked has rows that can be written
 pub trade-fits : (t : Item) → Bookable t → TradeInRange t

@@ -1,4 +1,4 @@
--- `cycle::postings::write_marked` meets its contract. The invariant: the rows of the marked ones of the first i items stand before the next free byte.
+-- `settlement::postings::write_marked` meets its contract. The invariant: the rows of the marked ones of the first i items stand before the next free byte.
 -- Assumes nothing.
 use mathlib.Core.List.{List}
 use mathlib.Core.Logic.{⊎-elim}
@@ -12,9 +12,9 @@ use Rattle.rulebook.specs.Ledger.{Ledger}
 use Rattle.rows.specs.Widths.{TradeInRange}
 use Rattle.book.specs.Meaning.{ledgerOf}
 use Rattle.marks.specs.Marks.{noItem}
-use Rattle.cycle.proofs.Writing.{trade-fits, Written, written-none, written-fits, written-long, written-off, written-on, written-done}
-use Rattle.cycle.proofs.postings.write_marked.Statement.{statement}
-use Rattle.cycle.proofs.postings.write_marked.Tie as tie
+use Rattle.settlement.proofs.Writing.{trade-fits, Written, written-none, written-fits, written-long, written-off, written-on, written-done}
+use Rattle.settlement.proofs.postings.write_marked.Statement.{statement}
+use Rattle.settlement.proofs.postings.write_marked.Tie as tie
 
 abbrev Inv-loop : tie.InvT-loop
 Inv-loop area₀ book marks n at₀ i₀ area at i = (i ≤ n) × Written (ledgerOf book) marks area₀ area at i

@@ -1,4 +1,4 @@
--- `cycle::leaving::leave_marked` meets its contract. The invariant: the first j items are those of the first i without a mark. Assumes nothing.
+-- `settlement::leaving::leave_marked` meets its contract. The invariant: the first j items are those of the first i without a mark. Assumes nothing.
 use mathlib.Core.Logic.{⊎-elim}
 use mathlib.Core.Path.{sym, _∙_}
 use Prim.Native.Nat.{_-_, _≤_, _<_}
@@ -9,9 +9,9 @@ use lib.ListN.{length}
 use Rattle.rulebook.specs.Ledger.{Ledger}
 use Rattle.book.specs.Meaning.{ledgerOf}
 use Rattle.marks.specs.Marks.{noItem}
-use Rattle.cycle.proofs.Staying.{Staying, staying-none, staying-off, staying-on, staying-done}
-use Rattle.cycle.proofs.leaving.leave_marked.Statement.{statement}
-use Rattle.cycle.proofs.leaving.leave_marked.Tie as tie
+use Rattle.settlement.proofs.Staying.{Staying, staying-none, staying-off, staying-on, staying-done}
+use Rattle.settlement.proofs.leaving.leave_marked.Statement.{statement}
+use Rattle.settlement.proofs.leaving.leave_marked.Tie as tie
 
 abbrev Inv-loop : tie.InvT-loop
 Inv-loop book₀ marks n j₀ i₀ book j i = (i ≤ n) × Staying (ledgerOf book₀) marks book j i

@@ -8,7 +8,7 @@ ghost use Rattle.book.specs.Meaning.{ledgerOf, holdingsOf, waitingOf};
 ghost use Rattle.book.specs.Stored.{Stored, HoldingsBecome};
 ghost use Rattle.marks.specs.Marks.{markedOf};
 ghost use Rattle.legs.specs.Ready.{Ready};
-ghost use Rattle.cycle.specs.Booking.{CanCredit, CanDebit, Covered};
+ghost use Rattle.settlement.specs.Booking.{CanCredit, CanDebit, Covered};
 use marks::Marks;
 use rulebook::Item;
 

@@ -20,11 +20,10 @@ use Rattle.book.specs.Stored.{Stored, Means, HoldingsBecome}
 use Rattle.book.proofs.Parts.{next}
 use Rattle.marks.specs.Marks.{itemIn, isOn, markedOf}
 use Rattle.legs.specs.Ready.{Bookable, Ready}
-use Rattle.cycle.specs.Booking.{CanCredit, CanDebit, Covered}
-use Rattle.marks.proofs.Marking.{marking, over-sum, count-marked, count-most}
-use Rattle.netting.proofs.Netting.{sum-most, if-below}
-use Rattle.cycle.proofs.Posting.{first, ifMarked, credits-none, credits-next, debits-none, debits-next}
-use Rattle.cycle.proofs.Posting.{own-taken, own-pays, credited-balance, credited-cash, debited-balance, debited-cash}
+use Rattle.settlement.specs.Booking.{CanCredit, CanDebit, Covered}
+use Rattle.marks.proofs.Marking.{sum-most, if-below, marking, over-sum, count-marked, count-most}
+use Rattle.settlement.proofs.Posting.{first, ifMarked, credits-none, credits-next, debits-none, debits-next}
+use Rattle.settlement.proofs.Posting.{own-taken, own-pays, credited-balance, credited-cash, debited-balance, debited-cash}
 
 -- ---- a book with other holdings
 

@@ -16,7 +16,7 @@ use Rattle.book.specs.Stored.{Stored, Means}
 use Rattle.book.proofs.Parts.{next}
 use Rattle.marks.specs.Marks.{noItem, itemIn, isOn, markedOf}
 use Rattle.marks.proofs.Marking.{marking}
-use Rattle.cycle.proofs.Posting.{ifMarked, without-next}
+use Rattle.settlement.proofs.Posting.{ifMarked, without-next}
 
 module _ (b : Ledger) (marks : ℕ) where
   abbrev item : ℕ → Item

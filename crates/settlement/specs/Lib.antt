@@ -1,0 +1,2 @@
+-- What the settlement of marked trades needs.
+pub mod Booking
