@@ -14,7 +14,8 @@ use Rattle.rulebook.specs.declared.Notice.{Notice}
 use Rattle.rulebook.specs.declared.Posting.{Posting}
 use Rattle.rulebook.proofs.Reading.{RowFits, noticed, posting-back, notice-back}
 use Rattle.rows.proofs.Area.{posting-length}
-use Rattle.statement_lines.specs.Lines.{postingLine, noticeLine, rowLine, rowLines, linesOf}
+use Rattle.statement_lines.specs.Lines.{rowLine, rowLines, linesOf}
+use Rattle.row_lines.specs.Rows.{postingLine, noticeLine}
 
 -- the lines of one row more
 rows-snoc :

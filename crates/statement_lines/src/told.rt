@@ -12,9 +12,9 @@ fn put_row(out: &mut [u8], at: usize, posts: bool, row: &[u8]) -> usize
     ensures { λ r. ⌜ r ≤ at + 512 ⌝ }
 {
     if posts {
-        return crate::put_posting(out, at, rows::posting_in(row));
+        return row_lines::put_posting(out, at, rows::posting_in(row));
     }
-    crate::put_notice(out, at, rows::notice_in(row))
+    row_lines::put_notice(out, at, rows::notice_in(row))
 }
 
 // The lines of the first rows of an area.

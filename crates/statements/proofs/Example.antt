@@ -19,7 +19,8 @@ use Rattle.file.specs.Records.{parts, recordsOf}
 use Rattle.text.specs.Text.{digits, decimal}
 use Rattle.wording.specs.Fill.{isSign, said, part, left, fill}
 use Rattle.printing.specs.FiveLines.{example}
-use Rattle.statement_lines.specs.Lines.{sideWord, cashPart, sharesPart, postingLine, rowLine, rowLines, refusedLine, answerLine}
+use Rattle.statement_lines.specs.Lines.{rowLine, rowLines, refusedLine, answerLine}
+use Rattle.row_lines.specs.Rows.{sideWord, cashPart, sharesPart, postingLine}
 use Rattle.statements.specs.Stated.{formIn, callLines, statementLines, statement}
 use Rattle.statements.specs.Example.{EightLines}
 

@@ -1,10 +1,10 @@
--- `statement_lines::put_cash` meets its contract, by whose cash it is. Assumes nothing.
+-- `row_lines::put_cash` meets its contract, by whose cash it is. Assumes nothing.
 use borrow.Author.Needs.{needs}
 use borrow.Author.Tests.{eq-eqb, ne-eqb}
 use native.Mathlib.Omega.{arith}
-use Rattle.statement_lines.specs.Lines.{cashPart}
-use Rattle.statement_lines.proofs.put_cash.Statement.{statement}
-use Rattle.statement_lines.proofs.put_cash.Tie as tie
+use Rattle.row_lines.specs.Rows.{cashPart}
+use Rattle.row_lines.proofs.put_cash.Statement.{statement}
+use Rattle.row_lines.proofs.put_cash.Tie as tie
 
 returns : tie.Need-returns
 unfolding cashPart

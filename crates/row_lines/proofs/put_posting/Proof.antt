@@ -1,11 +1,11 @@
--- `statement_lines::put_posting` meets its contract: the side, and behind it what was posted. Assumes nothing.
+-- `row_lines::put_posting` meets its contract: the side, and behind it what was posted. Assumes nothing.
 use borrow.Author.Needs.{needs}
 use borrow.Author.Tests.{eq-eqb, ne-eqb}
 use native.Mathlib.Omega.{arith}
 use Rattle.text.proofs.Putting.{put-then}
-use Rattle.statement_lines.specs.Lines.{postingLine}
-use Rattle.statement_lines.proofs.put_posting.Statement.{statement}
-use Rattle.statement_lines.proofs.put_posting.Tie as tie
+use Rattle.row_lines.specs.Rows.{postingLine}
+use Rattle.row_lines.proofs.put_posting.Statement.{statement}
+use Rattle.row_lines.proofs.put_posting.Tie as tie
 
 returns : tie.Need-returns
 unfolding postingLine

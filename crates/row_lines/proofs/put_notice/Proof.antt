@@ -1,9 +1,9 @@
--- `statement_lines::put_notice` meets its contract: the pattern is filled. Assumes nothing.
+-- `row_lines::put_notice` meets its contract: the pattern is filled. Assumes nothing.
 use borrow.Author.Needs.{needs}
 use native.Mathlib.Omega.{arith}
-use Rattle.statement_lines.specs.Lines.{noticeLine}
-use Rattle.statement_lines.proofs.put_notice.Statement.{statement}
-use Rattle.statement_lines.proofs.put_notice.Tie as tie
+use Rattle.row_lines.specs.Rows.{noticeLine}
+use Rattle.row_lines.proofs.put_notice.Statement.{statement}
+use Rattle.row_lines.proofs.put_notice.Tie as tie
 
 returns : tie.Need-returns
 unfolding noticeLine

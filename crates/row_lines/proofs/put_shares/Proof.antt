@@ -1,10 +1,10 @@
--- `statement_lines::put_shares` meets its contract, by the type. Assumes nothing.
+-- `row_lines::put_shares` meets its contract, by the type. Assumes nothing.
 use borrow.Author.Needs.{needs}
 use borrow.Author.Tests.{eq-eqb, ne-eqb}
 use native.Mathlib.Omega.{arith}
-use Rattle.statement_lines.specs.Lines.{sharesPart}
-use Rattle.statement_lines.proofs.put_shares.Statement.{statement}
-use Rattle.statement_lines.proofs.put_shares.Tie as tie
+use Rattle.row_lines.specs.Rows.{sharesPart}
+use Rattle.row_lines.proofs.put_shares.Statement.{statement}
+use Rattle.row_lines.proofs.put_shares.Tie as tie
 
 returns : tie.Need-returns
 unfolding sharesPart

@@ -1,10 +1,10 @@
--- `statement_lines::put_side` meets its contract, by the side. Assumes nothing.
+-- `row_lines::put_side` meets its contract, by the side. Assumes nothing.
 use borrow.Author.Needs.{needs}
 use borrow.Author.Tests.{eq-eqb, ne-eqb}
 use native.Mathlib.Omega.{arith}
-use Rattle.statement_lines.specs.Lines.{sideWord}
-use Rattle.statement_lines.proofs.put_side.Statement.{statement}
-use Rattle.statement_lines.proofs.put_side.Tie as tie
+use Rattle.row_lines.specs.Rows.{sideWord}
+use Rattle.row_lines.proofs.put_side.Statement.{statement}
+use Rattle.row_lines.proofs.put_side.Tie as tie
 
 returns : tie.Need-returns
 unfolding sideWord

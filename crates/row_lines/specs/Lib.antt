@@ -1,0 +1,2 @@
+-- The lines of posting rows and notices.
+pub mod Rows
