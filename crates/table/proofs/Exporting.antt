@@ -37,8 +37,7 @@ use Rattle.table.specs.Import.{mark, unmarked, withColumns, importLines,
 use Rattle.table.specs.Export.{nameCells, orderCells, orderLines, tableOf, Writable}
 use Rattle.table.specs.Theorems.{ExportImports, ImportExports}
 use Rattle.table.specs.declared.Row.{Row}
-use Rattle.table.proofs.Meaning.{not-there, there-not, snoc-not, accepted, gone}
-use Rattle.table.proofs.Naming.{some-cell}
+use Rattle.table.proofs.Meaning.{not-there, there-not, snoc-not, accepted, gone, some-cell}
 use Rattle.table.proofs.Theorems.{full-later}
 
 -- ---- bytes that do not stand in a text

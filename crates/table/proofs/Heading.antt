@@ -68,54 +68,19 @@ all-needed before f m = simp (f, m)
 -- ---- one column
 
 module _ (before : List ℕ) (cell : List ℕ) (others : List (List ℕ)) where
-  many : 18 ≤ length before → headerFrom before (cell ∷ others) ≡ refused tooManyColumns (length before + 1) noPlace
+  pub many : 18 ≤ length before → headerFrom before (cell ∷ others) ≡ refused tooManyColumns (length before + 1) noPlace
   unfolding headerFrom
   many h = simp (le-leb 18 (length before) h)
 
   module _ (few : length before < 18) (place : ℕ) (e : place ≡ fieldPlace (trim cell)) where
-    strange : place ≡ 18 → headerFrom before (cell ∷ others) ≡ refused (nameKind (trim cell)) (length before + 1) noPlace
+    pub strange : place ≡ 18 → headerFrom before (cell ∷ others) ≡ refused (nameKind (trim cell)) (length before + 1) noPlace
     unfolding headerFrom
     strange u = simp (lt-leb 18 (length before) few, eq-eqb (fieldPlace (trim cell)) 18 (sym e ∙ u))
 
-    twice : (place ≡ 18 → ⊥) → place oneOf before ≡ true → headerFrom before (cell ∷ others) ≡ refused repeatedName (length before + 1) noPlace
+    pub twice : (place ≡ 18 → ⊥) → place oneOf before ≡ true → headerFrom before (cell ∷ others) ≡ refused repeatedName (length before + 1) noPlace
     unfolding headerFrom
     twice n s = simp (lt-leb 18 (length before) few, ← e, ne-eqb place 18 n, s)
 
     pub taken : (place ≡ 18 → ⊥) → place oneOf before ≡ false → headerFrom before (cell ∷ others) ≡ headerFrom (before ++ (place ∷ [])) others
     unfolding headerFrom
     taken n s = simp (lt-leb 18 (length before) few, ← e, ne-eqb place 18 n, s)
-
--- ---- the walk
-
-module _ (places : List ℕ) (count : ℕ) (line : List ℕ) (at : ℕ) (r : Parsed)
-    (e : headerFrom (take count places) (partsFrom comma line at) ≡ r) (room : count < length places) where
-  counted : length (take count places) ≡ count
-  counted = length-take-le count places (omega arith)
-
-  pub line-done : length line < at → headerFrom (take count places) [] ≡ r
-  line-done h = sym (ap (headerFrom (take count places)) (parts-none comma line at h)) ∙ e
-
-  module _ (h : at ≤ length line) where
-    pub column-many : 18 ≤ count → refused tooManyColumns (count + 1) noPlace ≡ r
-    column-many k =
-        sym (ap (headerFrom (take count places)) (one-part comma line at _ refl h) ∙ many _ _ _ (rw counted k)
-        ∙ ap (λ (n : ℕ). refused tooManyColumns (n + 1) noPlace) counted) ∙ e
-
-    module _ (end place : ℕ) (ends : end ≡ at + upTo comma (drop at line)) (few : count < 18)
-        (named : place ≡ fieldPlace (trim (take (end - at) (drop at line)))) where
-      step : headerFrom (take count places) (take (end - at) (drop at line) ∷ partsFrom comma line (end + 1)) ≡ r
-      step = sym (ap (headerFrom (take count places)) (one-part comma line at end ends h)) ∙ e
-
-      small : length (take count places) < 18
-      small = rw counted few
-
-      pub column-strange : place ≡ 18 → refused (nameKind (trim (take (end - at) (drop at line)))) (count + 1) noPlace ≡ r
-      column-strange u = sym (strange _ _ _ small place named u
-          ∙ ap (λ (n : ℕ). refused (nameKind (trim (take (end - at) (drop at line)))) (n + 1) noPlace) counted) ∙ step
-
-      pub column-twice : (place ≡ 18 → ⊥) → place oneOf (take count places) ≡ true → refused repeatedName (count + 1) noPlace ≡ r
-      column-twice n s = sym (twice _ _ _ small place named n s ∙ ap (λ (m : ℕ). refused repeatedName (m + 1) noPlace) counted) ∙ step
-
-      pub column-taken : (place ≡ 18 → ⊥) → place oneOf (take count places) ≡ false
-          → headerFrom (take (count + 1) (set places count place)) (partsFrom comma line (end + 1)) ≡ r
-      column-taken n s = rw (add-one count, take-suc-set places count place room) (sym (taken _ _ _ small place named n s) ∙ step)

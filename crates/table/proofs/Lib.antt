@@ -1,11 +1,5 @@
--- names and places
-pub mod Naming
 -- the columns of the first line, one after the other
 pub mod Heading
--- the numbers of a line, one after the other
-pub mod Numbers
--- a line's order, and its record
-pub mod Writing
 -- the lines of a block, one after the other, and their records
 pub mod Walking
 -- what the columns of an accepted first line are, and what an accepted line puts into the fields

@@ -15,10 +15,10 @@ use Rattle.rulebook.specs.declared.Order.{Order}
 use Rattle.cells.specs.Kinds.{tooManyColumns, repeatedName, formMissing, minuteMissing, emptyLine}
 use Rattle.field_rules.specs.Fields.{refusedPlace}
 use Rattle.names.specs.Numbers.{fieldPlace}
-use Rattle.cells.specs.Cells.{cells, trim, isEmpty}
+use Rattle.cells.specs.Cells.{cells, trim, isEmpty, numberIn}
 use Rattle.table.specs.Header.{noPlace, Parsed, nameKind, headerFrom, headerOf, Known}
 use Rattle.table.specs.Header.Parsed.{refused, parsed}
-use Rattle.table.specs.Lines.{fieldNumber, columnFrom, withNumber, fieldsFrom, lineFields, ordered, rowOf, Imported, more, withRow}
+use Rattle.table.specs.Lines.{optionalIn, fieldNumber, columnFrom, withNumber, fieldsFrom, lineFields, ordered, rowOf, Imported, more, withRow}
 use Rattle.table.specs.Lines.Imported.{refusedAt, orders}
 use Rattle.cells.specs.declared.Number.{Number}
 use Rattle.table.specs.declared.Row.{Row}
@@ -239,3 +239,10 @@ unfolding withRow more
 gone (Row.Refused kind column place) line later all e = absurd (let z : _≡_ {A = ℕ} 0 1 = cc in omega arith)
 gone (Row.Order order) line (refusedAt kind at column place) all e = absurd (let z : _≡_ {A = ℕ} 0 1 = cc in omega arith)
 gone (Row.Order order) line (orders rest) all e = record { order = order; rest = rest; row-is = refl; later-is = refl; all-is = cc }
+
+-- ---- a cell that may be empty
+
+pub some-cell : (l : List ℕ) → (length l ≡ 0 → ⊥) → numberIn l ≡ optionalIn l
+unfolding optionalIn
+some-cell [] n = absurd (n refl)
+some-cell (b ∷ l) n = refl
