@@ -1,7 +1,6 @@
 -- A walk over the bytes of a cell, one place after the other: over blanks, over digits. Assumes nothing.
 use Prim.Native.Nat.{ℕ, zero, suc, _+_, _-_, _*_, _^_, _≤_, _<_}
 use native.Mathlib.Omega.{arith}
-use native.Mathlib.Numerals.{add-one}
 use mathlib.Core.Bool.{Bool, true, false}
 use mathlib.Core.List.{List, [], _∷_, _++_}
 use mathlib.Core.Path.{_≡_, refl, sym, ap, _∙_}
@@ -11,7 +10,7 @@ use lib.Dec.{eqb, ltb}
 use lib.ListN.{length, getD, take, drop, length-drop, drop-of-length-le}
 use Rattle.plain.specs.Lists.{_oneOf_}
 use Rattle.text.specs.Parts.{upTo}
-use lib.Seq.{drop-cons, take-suc, take-all}
+use lib.Seq.{take-suc, take-all}
 use Rattle.cells.specs.Kinds.{emptyCell, notANumber, tooLarge, quoted}
 use Rattle.text.proofs.Cutting.{here}
 use Rattle.cells.specs.Cells.{quote, blank, front, before, back, isEmpty, strange, readOn, numberIn}

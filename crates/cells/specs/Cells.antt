@@ -1,6 +1,6 @@
 -- Bytes to lines, a line to cells, a cell to a number.
-use Prim.Native.Nat.{ℕ, suc, _+_, _-_, _*_, _^_}
-use mathlib.Core.Bool.{Bool, true, false, not, _||_}
+use Prim.Native.Nat.{ℕ, _+_, _-_, _*_, _^_}
+use mathlib.Core.Bool.{Bool, not, _||_}
 use mathlib.Core.List.{List, [], _∷_}
 use lib.ListN.{length}
 use Rattle.plain.specs.Lists.{if_then_else_, _is_, _below_, _oneOf_, within}

@@ -12,7 +12,7 @@ use Rattle.text.specs.Parts.{lineFeed, upTo}
 use Rattle.cells.specs.Cells.{wholeLines, tailOf}
 use Rattle.cells.proofs.Splits.{one-line, same-tail, no-line, all-tail, lines-none}
 use Rattle.table.specs.Lines.{recordsOf, filled}
-use Rattle.table.specs.Blocks.{Walked, having, walk, metIn, usedOf, checkedAs, stepOf, stepWritten}
+use Rattle.table.specs.Blocks.{having, walk, metIn, usedOf, checkedAs, stepOf, stepWritten}
 use Rattle.table.specs.Blocks.Walked.{stopped, reached}
 use Rattle.table.specs.declared.Checked.{Checked}
 use Rattle.table.specs.declared.Step.{Step}

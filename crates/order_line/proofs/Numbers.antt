@@ -1,6 +1,6 @@
 -- The numbers of a line, one after the other. Assumes nothing.
 use Prim.Native.Nat.{ℕ, _+_, _-_, _≤_, _<_}
-use mathlib.Core.List.{List, [], _∷_}
+use mathlib.Core.List.{List}
 use mathlib.Core.Path.{_≡_, refl, sym, _∙_}
 use lib.ListN.{length, getD, take, drop, set, drop-of-length-le}
 use Rattle.text.specs.Parts.{upTo}

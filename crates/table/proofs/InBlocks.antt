@@ -7,7 +7,7 @@ use mathlib.Core.Path.{_≡_, refl, sym, ap, _∙_}
 use borrow.Author.Tests.{ne-eqb, ltb-true, ltb-false, lt-ltb, le-ltb}
 use lib.Dec.{eqb, ltb}
 use lib.ListN.{length, length-append}
-use Rattle.plain.specs.Lists.{if_then_else_, _is_}
+use Rattle.plain.specs.Lists.{if_then_else_}
 use Rattle.rulebook.specs.declared.Order.{Order}
 use Rattle.text.specs.Parts.{lineFeed, upTo, joined}
 use Rattle.cells.specs.Kinds.{emptyLine}
@@ -17,12 +17,12 @@ use Rattle.table.specs.Header.{noPlace}
 use Rattle.table.specs.Lines.{Imported, more, withRow, rowsFrom, rowOf, lineFields, ordered}
 use Rattle.table.specs.Lines.Imported.{refusedAt, orders}
 use Rattle.table.specs.Import.{andThen}
-use Rattle.table.specs.Blocks.{Walked, having, walkRow, firstEmpty, walk, onward, outcome, metIn, stepOf}
+use Rattle.table.specs.Blocks.{Walked, having, walkRow, walk, onward, outcome, metIn, stepOf}
 use Rattle.table.specs.Blocks.Walked.{stopped, reached}
 use Rattle.table.specs.Theorems.{InBlocks, LastLine, RowsInBlocks, WalkInBlocks, WalkIsImport, AllConverted, RoomEnough}
 use Rattle.table.specs.declared.Row.{Row}
 use Rattle.table.specs.declared.Step.{Step}
-use Rattle.table.proofs.Walking.{having-none, having-both, Added, Goes, goes}
+use Rattle.table.proofs.Walking.{having-none, having-both, Goes, goes}
 
 -- ---- blocks
 

@@ -1,29 +1,23 @@
 -- The lines of a block, one after the other, and their records, one behind the other in a buffer. Assumes nothing.
-use Prim.Native.Nat.{ℕ, _+_, _-_, _*_, _≤_, _<_}
+use Prim.Native.Nat.{ℕ, _+_, _*_, _≤_, _<_}
 use native.Mathlib.Omega.{arith}
 use mathlib.Core.Bool.{Bool, true, false, true≢false}
 use mathlib.Core.List.{List, [], _∷_, _++_, append-assoc, append-nil}
 use mathlib.Core.Path.{_≡_, refl, sym, ap, _∙_}
-use borrow.Rule.Slice.PartMut.{midOf, putMid, put-same}
 use lib.Dec.{eqb}
-use lib.ListN.{length, take, drop, length-append, length-drop, drop-of-length-le}
-use lib.Seq.{length-take-le}
+use lib.ListN.{length, drop, length-append}
 use Rattle.bits.specs.Layout.{pack}
 use Rattle.bits.proofs.Numbers.{length-bytes}
-use Rattle.bits.proofs.Parts.{part-next}
 use Rattle.plain.specs.Lists.{if_then_else_, _is_}
 use Rattle.rulebook.specs.Field.{widths}
 use Rattle.rulebook.specs.Record.{fieldsOf, recordOf}
 use Rattle.rulebook.specs.declared.Order.{Order}
-use Rattle.text.specs.Parts.{lineFeed, upTo}
 use Rattle.cells.specs.Kinds.{emptyLine}
-use Rattle.cells.specs.Cells.{isEmpty, front, wholeLines, tailOf}
-use Rattle.cells.proofs.Splits.{one-line, same-tail, no-line, all-tail, lines-none}
+use Rattle.cells.specs.Cells.{isEmpty, front}
 use Rattle.table.specs.Header.{noPlace}
-use Rattle.table.specs.Lines.{rowOf, rowWritten, recordsOf, filled}
-use Rattle.table.specs.Blocks.{Walked, having, walkRow, firstEmpty, walk, metIn, usedOf, checkedAs, stepRow, stepOf, stepWritten}
+use Rattle.table.specs.Lines.{rowOf, rowWritten, recordsOf}
+use Rattle.table.specs.Blocks.{Walked, having, walkRow, firstEmpty, walk, stepRow, stepOf, stepWritten}
 use Rattle.table.specs.Blocks.Walked.{stopped, reached}
-use Rattle.table.specs.declared.Checked.{Checked}
 use Rattle.table.specs.declared.Row.{Row}
 use Rattle.table.specs.declared.Step.{Step}
 

@@ -11,8 +11,8 @@ use Rattle.names.specs.Numbers.{fieldPlace}
 use Rattle.cells.specs.Cells.{comma, cells}
 use Rattle.table.specs.Header.{noPlace, nameKind, headerFrom, Known}
 use Rattle.table.specs.Header.Parsed.{refused}
-use Rattle.table.proofs.Heading.{place-most, known-more}
-use Rattle.first_line.proofs.Heading.{line-done, column-many, column-strange, column-twice, column-taken}
+use Rattle.table.proofs.Meaning.{place-most}
+use Rattle.first_line.proofs.Heading.{known-more, line-done, column-many, column-strange, column-twice, column-taken}
 use Rattle.first_line.proofs.columns.Statement.{statement}
 use Rattle.first_line.proofs.columns.Tie as tie
 

@@ -5,7 +5,7 @@ use mathlib.Core.Path.{sym, _∙_}
 use borrow.Author.Tests.{not-true, not-false}
 use lib.Seq.{length-take-le}
 use Rattle.table.specs.Header.{columnsOf}
-use Rattle.table.proofs.Heading.{no-form, no-minute, all-needed}
+use Rattle.first_line.proofs.Heading.{no-form, no-minute, all-needed}
 use Rattle.first_line.proofs.with_needed.Statement.{statement}
 use Rattle.first_line.proofs.with_needed.Tie as tie
 

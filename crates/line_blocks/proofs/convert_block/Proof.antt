@@ -2,7 +2,7 @@
 use borrow.Author.Needs.{needs}
 use borrow.Rule.Slice.PartMut.{mid-len}
 use native.Mathlib.Omega.{arith}
-use Prim.Native.Nat.{_+_, _-_, _*_, _≤_, _<_}
+use Prim.Native.Nat.{_+_, _-_, _≤_, _<_}
 use lib.ListN.{length}
 use Rattle.line_blocks.proofs.Walking.{Walking, walking-none, walking-long, walking-done, walking-tail, walking-refused, refused-long, wrote-short, walking-on}
 use Rattle.line_blocks.proofs.convert_block.Statement.{statement}
