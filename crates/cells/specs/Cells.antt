@@ -94,5 +94,4 @@ readOn kind n (b ∷ rest) =
 
 -- the number in a text: plain decimal digits, at least one
 unfoldable pub numberIn : List ℕ → Number
-numberIn [] = Refused emptyCell
-numberIn (b ∷ rest) = readOn (strange notANumber (b ∷ rest)) 0 (b ∷ rest)
+numberIn text = let number = readOn (strange notANumber text) 0 text in if length text is 0 then Refused emptyCell else number

@@ -13,10 +13,10 @@ use Rattle.plain.specs.Lists.{_oneOf_}
 use Rattle.text.specs.Parts.{upTo}
 use Rattle.text.proofs.Cutting.{partsFrom, parts-none, one-part}
 use Rattle.names.specs.Numbers.{fieldPlace}
-use Rattle.cells.specs.Kinds.{tooManyColumns, repeatedName, formMissing, minuteMissing}
+use Rattle.cells.specs.Kinds.{tooManyColumns, repeatedName}
 use Rattle.cells.specs.Cells.{comma, trim}
 use Rattle.table.specs.Header.{noPlace, Parsed, nameKind, headerFrom, Known}
-use Rattle.table.specs.Header.Parsed.{refused, parsed}
+use Rattle.table.specs.Header.Parsed.{refused}
 
 -- ---- places
 
@@ -36,40 +36,6 @@ pub known-more : (places : List ℕ) (count place : ℕ) → count < length plac
     → Known (take (count + 1) (set places count place))
 known-more places count place h small k = rw (add-one count, take-suc-set places count place h) (known-snoc (take count places) place k small)
 
--- ---- the end of the first line
-
-pub no-form : (before : List ℕ) → 0 oneOf before ≡ false → refused formMissing 0 noPlace ≡ headerFrom before []
-unfolding headerFrom
-no-form before f = simp f
-
-pub no-minute : (before : List ℕ) → 0 oneOf before ≡ true → 1 oneOf before ≡ false → refused minuteMissing 0 noPlace ≡ headerFrom before []
-unfolding headerFrom
-no-minute before f m = simp (f, m)
-
-pub all-needed : (before : List ℕ) → 0 oneOf before ≡ true → 1 oneOf before ≡ true → parsed before ≡ headerFrom before []
-unfolding headerFrom
-all-needed before f m = simp (f, m)
-
--- ---- one column
-
-module _ (before : List ℕ) (cell : List ℕ) (others : List (List ℕ)) where
-  pub many : 18 ≤ length before → headerFrom before (cell ∷ others) ≡ refused tooManyColumns (length before + 1) noPlace
-  unfolding headerFrom
-  many h = simp (le-leb 18 (length before) h)
-
-  module _ (few : length before < 18) (place : ℕ) (e : place ≡ fieldPlace (trim cell)) where
-    pub strange : place ≡ 18 → headerFrom before (cell ∷ others) ≡ refused (nameKind (trim cell)) (length before + 1) noPlace
-    unfolding headerFrom
-    strange u = simp (lt-leb 18 (length before) few, eq-eqb (fieldPlace (trim cell)) 18 (sym e ∙ u))
-
-    pub twice : (place ≡ 18 → ⊥) → place oneOf before ≡ true → headerFrom before (cell ∷ others) ≡ refused repeatedName (length before + 1) noPlace
-    unfolding headerFrom
-    twice n s = simp (lt-leb 18 (length before) few, ← e, ne-eqb place 18 n, s)
-
-    pub taken : (place ≡ 18 → ⊥) → place oneOf before ≡ false → headerFrom before (cell ∷ others) ≡ headerFrom (before ++ (place ∷ [])) others
-    unfolding headerFrom
-    taken n s = simp (lt-leb 18 (length before) few, ← e, ne-eqb place 18 n, s)
-
 -- ---- the walk
 
 module _ (places : List ℕ) (count : ℕ) (line : List ℕ) (at : ℕ) (r : Parsed)
@@ -82,25 +48,26 @@ module _ (places : List ℕ) (count : ℕ) (line : List ℕ) (at : ℕ) (r : Par
 
   module _ (h : at ≤ length line) where
     pub column-many : 18 ≤ count → refused tooManyColumns (count + 1) noPlace ≡ r
-    column-many k =
-        sym (ap (headerFrom (take count places)) (one-part comma line at _ refl h) ∙ many _ _ _ (rw counted k)
-        ∙ ap (λ (n : ℕ). refused tooManyColumns (n + 1) noPlace) counted) ∙ e
+    unfolding headerFrom
+    column-many k = sym (rw (one-part comma line at _ refl h) (simp (counted, le-leb 18 count k))) ∙ e
 
     module _ (end place : ℕ) (ends : end ≡ at + upTo comma (drop at line)) (few : count < 18)
         (named : place ≡ fieldPlace (trim (take (end - at) (drop at line)))) where
       step : headerFrom (take count places) (take (end - at) (drop at line) ∷ partsFrom comma line (end + 1)) ≡ r
       step = sym (ap (headerFrom (take count places)) (one-part comma line at end ends h)) ∙ e
 
-      small : length (take count places) < 18
-      small = rw counted few
-
       pub column-strange : place ≡ 18 → refused (nameKind (trim (take (end - at) (drop at line)))) (count + 1) noPlace ≡ r
-      column-strange u = sym (strange _ _ _ small place named u
-          ∙ ap (λ (n : ℕ). refused (nameKind (trim (take (end - at) (drop at line)))) (n + 1) noPlace) counted) ∙ step
+      unfolding headerFrom
+      column-strange u = sym (simp (counted, lt-leb 18 count few, eq-eqb _ 18 (sym named ∙ u))) ∙ step
 
-      pub column-twice : (place ≡ 18 → ⊥) → place oneOf (take count places) ≡ true → refused repeatedName (count + 1) noPlace ≡ r
-      column-twice n s = sym (twice _ _ _ small place named n s ∙ ap (λ (m : ℕ). refused repeatedName (m + 1) noPlace) counted) ∙ step
+      module _ (n : place ≡ 18 → ⊥) where
+        pub column-twice : place oneOf (take count places) ≡ true → refused repeatedName (count + 1) noPlace ≡ r
+        unfolding headerFrom
+        column-twice s = sym (simp (counted, lt-leb 18 count few, ← named, ne-eqb place 18 n, s)) ∙ step
 
-      pub column-taken : (place ≡ 18 → ⊥) → place oneOf (take count places) ≡ false
-          → headerFrom (take (count + 1) (set places count place)) (partsFrom comma line (end + 1)) ≡ r
-      column-taken n s = rw (add-one count, take-suc-set places count place room) (sym (taken _ _ _ small place named n s) ∙ step)
+        pub column-taken : place oneOf (take count places) ≡ false
+            → headerFrom (take (count + 1) (set places count place)) (partsFrom comma line (end + 1)) ≡ r
+        unfolding headerFrom
+        column-taken s =
+            rw (add-one count, take-suc-set places count place room)
+            (sym (simp (counted, lt-leb 18 count few, ← named, ne-eqb place 18 n, s)) ∙ step)

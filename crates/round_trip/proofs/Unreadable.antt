@@ -22,7 +22,7 @@ use Rattle.file.specs.Records as File
 use Rattle.cells.specs.Kinds.{unknownForm}
 use Rattle.cells.specs.Cells.{comma, linesOf, front, back, before, trim, isEmpty, strange, fullLines}
 use Rattle.wording.specs.Fill.{isSign, said, part, left, fill, line}
-use Rattle.table.specs.Lines.{named, formIn, fieldNumber, withNumber, fieldsFrom, lineFields, ordered, rowOf}
+use Rattle.table.specs.Lines.{formIn, fieldNumber, withNumber, fieldsFrom, lineFields, ordered, rowOf}
 use Rattle.table.specs.Lines.Imported.{orders}
 use Rattle.table.specs.Import.{importOf, importLines, mark, unmarked}
 use Rattle.table.specs.Export.{nameCells, orderCells}
@@ -77,7 +77,7 @@ module _ (octets : List ℕ) (number : ℕ) (e : readOf octets ≡ Read.Refused 
 
   is-no-form : rowOf every (words number) ≡ Row.Refused unknownForm 1 0
   unfolding fill part left isSign said refusalNames nameFrom1 decimal digits rowOf ordered lineFields isEmpty front split joined fieldsFrom
-      withNumber fieldNumber formIn named trim back before formNumber placeIn sameText forms strange
+      withNumber fieldNumber formIn trim back before formNumber placeIn sameText forms strange
   is-no-form = by-refusal (λ n. rowOf every (words n)) (λ n. Row.Refused unknownForm 1 0) refl
 
   no-order : {order : Order} → Taken every (words number) order → ⊥

@@ -26,18 +26,18 @@ use Rattle.text.specs.Text.{text, decimal, digit}
 use Rattle.text.specs.Parts.{lineFeed, joined, split, join, sameText, placeIn}
 use Rattle.text.proofs.Digits.{of-decimal, read, decimal-read}
 use Rattle.names.specs.Numbers.{fieldPlace, formNumber}
-use Rattle.cells.specs.Cells.{comma, linesOf, cells, blank, front, before, back, trim, isEmpty, fullLines, readOn, numberIn}
+use Rattle.cells.specs.Kinds.{notANumber}
+use Rattle.cells.specs.Cells.{strange, comma, linesOf, cells, blank, front, before, back, trim, isEmpty, fullLines, readOn, numberIn}
 use Rattle.cells.specs.declared.Number.{Number}
-use Rattle.cells.proofs.Bytes.{some-digits}
 use Rattle.table.specs.Header.{headerFrom, headerOf}
 use Rattle.table.specs.Header.Parsed.{parsed}
-use Rattle.table.specs.Lines.{named, formIn, fieldNumber}
+use Rattle.table.specs.Lines.{formIn, optionalIn, fieldNumber}
 use Rattle.table.specs.Lines.Imported.{orders}
 use Rattle.table.specs.Import.{mark, unmarked, importLines, importOf}
 use Rattle.table.specs.Export.{nameCells, orderCells, orderLines, tableOf, Writable}
 use Rattle.table.specs.Theorems.{Along, ExportImports, ImportExports}
 use Rattle.table.specs.Theorems.Along.{none, one}
-use Rattle.table.proofs.Meaning.{Fills, no-more, one-more, Taken, imported, imported-so, some-cell, none-such}
+use Rattle.table.proofs.Meaning.{Fills, no-more, one-more, Taken, imported, imported-so, none-such}
 use Rattle.table.proofs.AnyOrder.{empty-alone}
 use Rattle.table.proofs.Theorems.{full-later}
 
@@ -123,16 +123,16 @@ read-digits kind n (b ∷ l) e h =
 
 -- a cell of digits says its number in any column but that of the form
 cell-decimal : (p n : ℕ) → eqb p 0 ≡ false → n < 2 ^ 64 → fieldNumber p (decimal n) ≡ Number.Value n
-unfolding fieldNumber
-cell-decimal p n z h = rw (trim-digits (decimal n) (digits-only n), ← some-cell (decimal n) (decimal-some n)) (simp z (go (p is 1)))
+unfolding fieldNumber optionalIn numberIn
+cell-decimal p n z h =
+    rw (trim-digits (decimal n) (digits-only n)) (simp (z, ne-eqb (length (decimal n)) 0 (decimal-some n), value (strange notANumber (decimal n))) (go (p is 1)))
   where
-    value : numberIn (decimal n) ≡ Number.Value n
-    value = some-digits (decimal n) (decimal-some n)
-        ∙ read-digits _ 0 (decimal n) (digits-only n) (rw (decimal-read n) h) ∙ ap Number.Value (decimal-read n)
+    value : (kind : ℕ) → readOn kind 0 (decimal n) ≡ Number.Value n
+    value kind = read-digits kind 0 (decimal n) (digits-only n) (rw (decimal-read n) h) ∙ ap Number.Value (decimal-read n)
 
-    go : (t : Bool) → (if t then numberIn (decimal n) else numberIn (decimal n)) ≡ Number.Value n
-    go true = value
-    go false = value
+    go : (t : Bool) → (if t then Number.Value n else Number.Value n) ≡ Number.Value n
+    go true = refl
+    go false = refl
 
 -- ---- the line of an order
 
@@ -205,7 +205,7 @@ module _ (order : Order) (t : first (fieldTests (fieldsOf order)) ≡ 0) where
   order-full = empty-alone (join comma (orderCells order)) ∙ rw order-cells (unfold orderCells fieldsOf in refl)
 
   form-cell : fieldNumber 0 (text (formName (order .form))) ≡ Number.Value (order .form)
-  unfolding fieldNumber formIn named trim front back before formNumber placeIn sameText formRow forms
+  unfolding fieldNumber formIn trim front back before formNumber placeIn sameText formRow forms
   form-cell = by-number (λ f. fieldNumber 0 (text (formName f))) Number.Value refl
 
   order-read : Fills every (replicate 19 0) (orderCells order) (fieldsOf order)

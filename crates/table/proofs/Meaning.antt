@@ -18,11 +18,11 @@ use Rattle.rulebook.proofs.Below.{same-below}
 use Rattle.text.specs.Text.{text}
 use Rattle.text.specs.Parts.{sameText, placeIn}
 use Rattle.names.specs.Numbers.{fieldPlace}
-use Rattle.cells.specs.Cells.{cells, trim, isEmpty, fullLines, numberIn}
+use Rattle.cells.specs.Cells.{cells, trim, isEmpty, fullLines}
 use Rattle.cells.specs.declared.Number.{Number}
 use Rattle.table.specs.Header.{Parsed, headerFrom, headerOf}
 use Rattle.table.specs.Header.Parsed.{refused, parsed}
-use Rattle.table.specs.Lines.{optionalIn, fieldNumber, withNumber, fieldsFrom, lineFields, ordered, rowOf, Imported, more, withRow, rowsFrom}
+use Rattle.table.specs.Lines.{fieldNumber, withNumber, fieldsFrom, lineFields, ordered, rowOf, Imported, more, withRow, rowsFrom}
 use Rattle.table.specs.Lines.Imported.{refusedAt, orders}
 use Rattle.table.specs.Import.{withColumns, importLines, isRefused}
 use Rattle.table.specs.Theorems.{Along}
@@ -273,10 +273,3 @@ imported header lines all e = go (headerOf header) refl e
 pub imported-so : {header : List ℕ} {lines : List (List ℕ)} {all : List Order} → Table header lines all → importLines (header ∷ lines) ≡ orders all
 unfolding importLines withColumns
 imported-so t = rw (t .columns) (rows-so (t .taken-in) 2)
-
--- ---- a cell that may be empty
-
-pub some-cell : (l : List ℕ) → (length l ≡ 0 → ⊥) → numberIn l ≡ optionalIn l
-unfolding optionalIn
-some-cell [] n = absurd (n refl)
-some-cell (b ∷ l) n = refl

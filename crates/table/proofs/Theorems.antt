@@ -105,13 +105,14 @@ unfolding EmptyEnd importLines
 empty-end header lines line e = rw (full-end lines line e)
 
 -- a line that is not empty is left, and those before it are
+pub leading-full : (line : List ℕ) (lines : List (List ℕ)) → isEmpty line ≡ false → leading line lines ≡ line ∷ lines
+unfolding leading
+leading-full line [] e = simp e
+leading-full line (next ∷ lines) e = refl
+
 pub full-later : (later : List ℕ) (others : List (List ℕ)) → isEmpty later ≡ false → fullLines (later ∷ others) ≡ later ∷ fullLines others
-unfolding fullLines leading
-full-later later others e = go (fullLines others)
-  where
-    go : (l : List (List ℕ)) → leading later l ≡ later ∷ l
-    go [] = simp e
-    go (next ∷ l) = refl
+unfolding fullLines
+full-later later others e = leading-full later (fullLines others) e
 
 full-before : (lines : List (List ℕ)) (later : List ℕ) (others : List (List ℕ)) → isEmpty later ≡ false
     → fullLines (lines ++ (later ∷ others)) ≡ lines ++ (later ∷ fullLines others)

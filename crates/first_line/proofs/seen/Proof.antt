@@ -14,35 +14,15 @@ Inv-loop places place i₀ i = (i ≤ length places) × (place oneOf (drop i pla
 abbrev μ-loop : tie.MeasureT-loop
 μ-loop places place i₀ i = length places - i
 
-loop-holds : tie.Need-loop-holds Inv-loop μ-loop
-loop-holds c = (search needs, refl)
-
 returns : tie.Need-returns Inv-loop μ-loop
-returns c =
-    let at-loop = c .before .before .before in
-    let start = at-loop .before in
-    found (start .args .place) (start .args .places .now) (at-loop .loop .i) _ (at-loop .loop .inv .1) (search needs) (c .if1 .taken)
+returns c = let here = c .before .before .before in found _ _ (here .loop .i) _ (here .loop .inv .1) (search needs) (c .if1 .taken)
 
 loop-again : tie.Need-loop-again Inv-loop μ-loop
-loop-again c =
-    let at-loop = c .before .before .before in
-    let start = at-loop .before in
-    (search needs, not-yet (start .args .place) (start .args .places .now) (at-loop .loop .i) _ (at-loop .loop .inv .1) (search needs) (c .if1 .left))
-
-returns-2 : tie.Need-returns-2 Inv-loop μ-loop
-returns-2 c = nowhere (c .before .before .args .place) (c .before .before .args .places .now) (c .before .loop .i) _ (c .before .loop .inv .1) (search needs)
+loop-again c = let here = c .before .before .before in (search needs, not-yet _ _ (here .loop .i) _ (here .loop .inv .1) (search needs) (c .if1 .left))
 
 pub seen-spec : {M : Type 1} → statement M
 seen-spec =
     tie.close
     (tie.spec
-    Inv-loop
-    μ-loop
-    loop-holds
-    (λ c. search needs)
-    (λ c. search needs)
-    returns
-    (λ c. search needs)
-    (λ c. search needs)
-    loop-again
-    returns-2)
+    Inv-loop μ-loop (λ c. (search needs, refl)) (λ c. search needs) (λ c. search needs) returns (λ c. search needs) (λ c. search needs) loop-again
+    (λ c. nowhere _ _ (c .before .loop .i) _ (c .before .loop .inv .1) (search needs)))

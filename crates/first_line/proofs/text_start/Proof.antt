@@ -7,27 +7,11 @@ use Rattle.first_line.proofs.Naming.{no-mark, a-mark, too-short}
 use Rattle.first_line.proofs.text_start.Statement.{statement}
 use Rattle.first_line.proofs.text_start.Tie as tie
 
-returns : tie.Need-returns
-returns c = (search needs, too-short (c .before .before .args .file .now) (c .if1 .taken))
-
-slice-aggregate-same : tie.Need-slice-aggregate-same
-slice-aggregate-same c = sym (length-take-le 3 (c .before .before .before .args .file .now) (search needs))
-
-returns-2 : tie.Need-returns-2
-unfolding mark
-returns-2 c = (search needs, a-mark (c .before .before .before .before .before .before .args .file .now) (sym (c .before .same .ensures) ∙ c .if2 .taken))
-
-returns-3 : tie.Need-returns-3
-unfolding mark
-returns-3 c = (search needs, no-mark (c .before .before .before .before .before .before .args .file .now) (sym (c .before .same .ensures) ∙ c .if2 .left))
-
 pub text-start-spec : {M : Type 1} → statement M
+unfolding mark
 text-start-spec =
     tie.close
     (tie.spec
-    returns
-    slice-aggregate-same
-    (λ c. search needs)
-    (λ c κs. search needs)
-    returns-2
-    returns-3)
+    (λ c. (search needs, too-short _ (c .if1 .taken))) (λ c. sym (length-take-le 3 (c .before .before .before .args .file .now) (search needs))) (λ c. search needs) (λ c κs. search needs)
+    (λ c. (search needs, a-mark _ (sym (c .before .same .ensures) ∙ c .if2 .taken)))
+    (λ c. (search needs, no-mark _ (sym (c .before .same .ensures) ∙ c .if2 .left))))

@@ -15,21 +15,14 @@ abbrev μ-loop : tie.MeasureT-loop
 μ-loop places place i₀ i = length places - i
 
 returns : tie.Need-returns Inv-loop μ-loop
-returns c =
-    let turn = c .before .before .before in
-    column-found _ (turn .loop .i) _ _ (turn .loop .inv .1) (search needs) (c .if1 .taken)
+returns c = let turn = c .before .before .before in column-found _ (turn .loop .i) _ _ (turn .loop .inv .1) (search needs) (c .if1 .taken)
 
 loop-again : tie.Need-loop-again Inv-loop μ-loop
-loop-again c =
-    let turn = c .before .before .before in
-    (search needs, column-on _ (turn .loop .i) _ _ (turn .loop .inv .1) (search needs) (c .if1 .left))
-
-returns-2 : tie.Need-returns-2 Inv-loop μ-loop
-returns-2 c = column-none _ (c .before .loop .i) _ _ (c .before .loop .inv .1) (search needs)
+loop-again c = let turn = c .before .before .before in (search needs, column-on _ (turn .loop .i) _ _ (turn .loop .inv .1) (search needs) (c .if1 .left))
 
 pub column-of-spec : {M : Type 1} → statement M
 column-of-spec =
     tie.close
     (tie.spec
     Inv-loop μ-loop (λ c. (search needs, refl)) (λ c. search needs) (λ c. search needs) (λ c. search needs) returns (λ c. search needs) (λ c. search needs)
-    loop-again returns-2)
+    loop-again (λ c. column-none _ (c .before .loop .i) _ _ (c .before .loop .inv .1) (search needs)))
