@@ -1,6 +1,6 @@
 -- Bytes to lines, a line to cells, a cell to a number.
-use Prim.Native.Nat.{ℕ, suc, _+_, _-_, _*_, _^_}
-use mathlib.Core.Bool.{Bool, true, false, not, _||_}
+use Prim.Native.Nat.{ℕ, _+_, _-_, _*_, _^_}
+use mathlib.Core.Bool.{Bool, not, _||_}
 use mathlib.Core.List.{List, [], _∷_}
 use lib.ListN.{length}
 use Rattle.plain.specs.Lists.{if_then_else_, _is_, _below_, _oneOf_, within}
@@ -94,5 +94,4 @@ readOn kind n (b ∷ rest) =
 
 -- the number in a text: plain decimal digits, at least one
 unfoldable pub numberIn : List ℕ → Number
-numberIn [] = Refused emptyCell
-numberIn (b ∷ rest) = readOn (strange notANumber (b ∷ rest)) 0 (b ∷ rest)
+numberIn text = let number = readOn (strange notANumber text) 0 text in if length text is 0 then Refused emptyCell else number

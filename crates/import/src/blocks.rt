@@ -50,7 +50,7 @@ pub fn convert(
         now (out .exit) ≡ filled (metIn (walk (now (places .entry)) line empty (wholeLines (now (block .entry))))) (now (out .entry))
         ⌝ }
 {
-    let checked = table::blocks::convert_block(block, places, line, empty, out);
+    let checked = line_blocks::convert_block(block, places, line, empty, out);
     match checked {
         Checked::Refused {
             kind,

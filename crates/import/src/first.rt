@@ -16,12 +16,12 @@ fn short(file: &[u8], input: &mut [u8], out: &mut [u8], size: usize, print: bool
     requires { ⌜ (length (now file) ≤ 4096) × (length (now input) ≡ INPUT) × (length (now out) ≡ OUT) × (size ≤ BLOCK) ⌝ }
     ensures { λ r. ⌜ Says (importOf (take size (now (input .entry)))) r ⌝ }
 {
-    let start = table::header::text_start(&input[..size]);
+    let start = first_line::text_start(&input[..size]);
     if start == size {
         return telling::refused(file, b"", kinds::NO_HEADER, 1, 0, 18);
     }
     let end = text::end_of(&input[..size], start, 10);
-    let columns = table::header::header(&input[start..end]);
+    let columns = first_line::header(&input[start..end]);
     if !columns.good {
         return telling::refused(
             file,
@@ -49,12 +49,12 @@ fn long(
     requires { ⌜ (length (now file) ≤ 4096) × (length (now input) ≡ INPUT) × (length (now carry) ≡ INPUT) × (length (now out) ≡ OUT) ⌝ }
     ensures { λ r. ⌜ FileRead r ⌝ }
 {
-    let start = table::header::text_start(&input[..16383]);
+    let start = first_line::text_start(&input[..16383]);
     let end = text::end_of(&input[..16383], start, 10);
     if end == 16383 {
         return telling::refused(file, b"", kinds::LONG_LINE, 1, 0, 18);
     }
-    let columns = table::header::header(&input[start..end]);
+    let columns = first_line::header(&input[start..end]);
     if !columns.good {
         return telling::refused(
             file,

@@ -2,11 +2,11 @@
 use Prim.Native.Nat.{ℕ, zero, suc, _+_, _<_}
 use native.Mathlib.Omega.{arith}
 use mathlib.Core.List.{List, [], _∷_, _++_, map}
-use mathlib.Core.Path.{_≡_, refl, sym, ap, _∙_, subst}
+use mathlib.Core.Path.{_≡_, refl, ap, _∙_}
 use lib.ListN.{length, replicate, take, drop, length-append, take-append-drop}
 use lib.Dec.{lit<, lit≤}
 use lib.Seq.{take-at, drop-append-add, getD-drop}
-use Rattle.bits.specs.Bits.{Octets, bytes}
+use Rattle.bits.specs.Bits.{Octets}
 use Rattle.bits.specs.Layout.{pack}
 use Rattle.bits.proofs.Numbers.{length-bytes}
 use Rattle.rulebook.specs.Field.{widths}

@@ -1,6 +1,6 @@
 -- The theorems of specs/RoundTrips. Assumes nothing.
 use Rattle.table.proofs.Exporting.{export-imports, import-exports}
-use mathlib.Core.Path.{_≡_, ap, _∙_}
+use mathlib.Core.Path.{ap, _∙_}
 use Rattle.table.specs.Theorems.{ExportImports, ImportExports}
 use Rattle.table.specs.Import.{importOf}
 use Rattle.table.specs.Lines.{recordsOf}

@@ -1,9 +1,9 @@
 -- The lines that export writes of records that read are the canonical table of their orders. Assumes nothing.
 use Prim.Native.Nat.{ℕ}
 use mathlib.Core.List.{List, [], _∷_, _++_, append-assoc}
-use mathlib.Core.Path.{_≡_, refl, sym, ap, _∙_}
+use mathlib.Core.Path.{_≡_, refl}
 use Rattle.rulebook.specs.Names.{fieldNames}
-use Rattle.rulebook.specs.Record.{fieldsOf, readOf}
+use Rattle.rulebook.specs.Record.{fieldsOf}
 use Rattle.rulebook.specs.declared.Order.{Order}
 use Rattle.text.specs.Parts.{lineFeed, join}
 use Rattle.cells.specs.Cells.{comma}

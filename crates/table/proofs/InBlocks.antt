@@ -7,7 +7,7 @@ use mathlib.Core.Path.{_≡_, refl, sym, ap, _∙_}
 use borrow.Author.Tests.{ne-eqb, ltb-true, ltb-false, lt-ltb, le-ltb}
 use lib.Dec.{eqb, ltb}
 use lib.ListN.{length, length-append}
-use Rattle.plain.specs.Lists.{if_then_else_, _is_}
+use Rattle.plain.specs.Lists.{if_then_else_}
 use Rattle.rulebook.specs.declared.Order.{Order}
 use Rattle.text.specs.Parts.{lineFeed, upTo, joined}
 use Rattle.cells.specs.Kinds.{emptyLine}
@@ -17,59 +17,45 @@ use Rattle.table.specs.Header.{noPlace}
 use Rattle.table.specs.Lines.{Imported, more, withRow, rowsFrom, rowOf, lineFields, ordered}
 use Rattle.table.specs.Lines.Imported.{refusedAt, orders}
 use Rattle.table.specs.Import.{andThen}
-use Rattle.table.specs.Blocks.{Walked, having, walkRow, firstEmpty, walk, onward, outcome, metIn, stepOf}
+use Rattle.table.specs.Blocks.{Walked, having, walkRow, walk, onward, outcome, metIn, stepOf}
 use Rattle.table.specs.Blocks.Walked.{stopped, reached}
 use Rattle.table.specs.Theorems.{InBlocks, LastLine, RowsInBlocks, WalkInBlocks, WalkIsImport, AllConverted, RoomEnough}
 use Rattle.table.specs.declared.Row.{Row}
 use Rattle.table.specs.declared.Step.{Step}
-use Rattle.table.proofs.Walking.{having-none, having-both, Added, Goes, goes}
+use Rattle.table.proofs.Theorems.{leading-full}
+use Rattle.table.proofs.Walking.{having-none, having-both, Goes, goes}
 
 -- ---- blocks
 
-module _ (next : List ℕ) where
-  -- a byte before a block of which it is known
-  one-more : (b : ℕ) (l : List ℕ) (t u : Bool) → eqb b lineFeed ≡ t → ltb (upTo lineFeed l) (length l) ≡ u
-      → linesOf (l ++ next) ≡ wholeLines l ++ linesOf (tailOf l ++ next) → linesOf (b ∷ l ++ next) ≡ wholeLines (b ∷ l) ++ linesOf (tailOf (b ∷ l) ++ next)
-  unfolding linesOf wholeLines tailOf upTo onto joined
-  one-more b l true u e f more =
-      let some : ltb 0 (suc (length l)) ≡ true = lt-ltb 0 (suc (length l)) (omega arith) in
-      simp (e, some) (ap (λ (ls : List (List ℕ)). [] ∷ ls) more)
-  one-more b l false true e f more =
-      let less : upTo lineFeed l < length l = ltb-true (upTo lineFeed l) (length l) f in
-      let some : ltb (suc (upTo lineFeed l)) (suc (length l)) ≡ true = lt-ltb (suc (upTo lineFeed l)) (suc (length l)) (omega arith) in
-      let whole = whole-more l less in
-      simp (e, some)
-      (ap (joined b) (more ∙ ap (λ (ls : List (List ℕ)). ls ++ linesOf (tailOf l ++ next)) whole)
-      ∙ ap (λ (ls : List (List ℕ)). onto b ls ++ linesOf (tailOf l ++ next)) (sym whole))
-  one-more b l false false e f more =
-      let full : length l ≤ upTo lineFeed l = ltb-false (upTo lineFeed l) (length l) f in
-      let none : ltb (suc (upTo lineFeed l)) (suc (length l)) ≡ false = le-ltb (suc (upTo lineFeed l)) (suc (length l)) (omega arith) in
-      simp (e, none, whole-last l full)
-
-  blocks-of : (l : List ℕ) → linesOf (l ++ next) ≡ wholeLines l ++ linesOf (tailOf l ++ next)
-  unfolding wholeLines tailOf
-  blocks-of [] = refl
-  blocks-of (b ∷ l) = one-more b l (eqb b lineFeed) (ltb (upTo lineFeed l) (length l)) refl refl (blocks-of l)
+blocks-of : (l next : List ℕ) → linesOf (l ++ next) ≡ wholeLines l ++ linesOf (tailOf l ++ next)
+unfolding linesOf wholeLines tailOf upTo
+blocks-of [] next = refl
+blocks-of (b ∷ l) next = go (eqb b lineFeed) refl (ltb (upTo lineFeed l) (length l)) refl (blocks-of l next)
+  where
+    go : (t : Bool) → eqb b lineFeed ≡ t → (u : Bool) → ltb (upTo lineFeed l) (length l) ≡ u → linesOf (l ++ next) ≡ wholeLines l ++ linesOf (tailOf l ++ next)
+        → linesOf (b ∷ l ++ next) ≡ wholeLines (b ∷ l) ++ linesOf (tailOf (b ∷ l) ++ next)
+    go true e u f more = simp (e, lt-ltb 0 (suc (length l)) (omega arith), more)
+    go false e true f more =
+        let less : upTo lineFeed l < length l = ltb-true _ _ f in
+        simp (e, lt-ltb (suc (upTo lineFeed l)) (suc (length l)) (omega arith), more, whole-more l less) (unfold joined onto in refl)
+    go false e false f more =
+        let full : length l ≤ upTo lineFeed l = ltb-false _ _ f in
+        simp (e, le-ltb (suc (upTo lineFeed l)) (suc (length l)) (omega arith), whole-last l full) (unfold onto in refl)
 
 pub in-blocks : InBlocks
 unfolding InBlocks
-in-blocks block next = blocks-of next block
+in-blocks = blocks-of
 
 pub lines-tail : (l : List ℕ) → 0 < length l → length l ≤ upTo lineFeed l → linesOf l ≡ l ∷ []
 unfolding linesOf upTo joined
 lines-tail [] p h = absurd (omega arith)
-lines-tail (b ∷ []) p h = go (eqb b lineFeed) h
+lines-tail (b ∷ l) p h = go (eqb b lineFeed) l (lines-tail l) h
   where
-    go : (t : Bool) → 1 ≤ (if t then 0 else 1) → (if t then [] ∷ [] else (b ∷ []) ∷ []) ≡ (b ∷ []) ∷ []
-    go true h = absurd (omega arith)
-    go false h = refl
-lines-tail (b ∷ c ∷ l) p h = go (eqb b lineFeed) (lines-tail (c ∷ l)) h
-  where
-    go : (t : Bool) → (0 < length (c ∷ l) → length (c ∷ l) ≤ upTo lineFeed (c ∷ l) → linesOf (c ∷ l) ≡ (c ∷ l) ∷ [])
-        → suc (length (c ∷ l)) ≤ (if t then 0 else suc (upTo lineFeed (c ∷ l)))
-        → (if t then [] ∷ linesOf (c ∷ l) else joined b (linesOf (c ∷ l))) ≡ (b ∷ c ∷ l) ∷ []
-    go true more h = absurd (omega arith)
-    go false more h = ap (joined b) (more (omega arith) (omega arith))
+    go : (t : Bool) (l : List ℕ) → (0 < length l → length l ≤ upTo lineFeed l → linesOf l ≡ l ∷ []) → suc (length l) ≤ (if t then 0 else suc (upTo lineFeed l))
+        → (if t then [] ∷ linesOf l else joined b (linesOf l)) ≡ (b ∷ l) ∷ []
+    go true l more h = absurd (omega arith)
+    go false [] more h = refl
+    go false (c ∷ l) more h = ap (joined b) (more (omega arith) (omega arith))
 
 whole-tail : (l : List ℕ) → length l ≤ upTo lineFeed l → wholeLines (l ++ (lineFeed ∷ [])) ≡ l ∷ []
 unfolding wholeLines upTo onto
@@ -113,29 +99,20 @@ unfolding having onward
 having-on met (stopped kind line column place others) next = refl
 having-on met (reached line empty others) next = having-both met others (next line empty)
 
--- one line more before the walk, refused or passed
-module _ (places : List ℕ) (line empty : ℕ) (text : List ℕ) (next : List (List ℕ)) where
-  abbrev Further : List (List ℕ) → Type 0
-  Further block = walk places line empty (text ∷ block ++ next) ≡ onward (walk places line empty (text ∷ block))
-      (λ reached passed. walk places reached passed next)
-
-  further :
-      (block : List (List ℕ))
-      → ((empty′ : ℕ) → walk places (line + 1) empty′ (block ++ next)
-      ≡ onward (walk places (line + 1) empty′ block) (λ reached passed. walk places reached passed next))
-      → (step : Step) → Goes places line empty text step → Further block
-  unfolding onward
-  further block more (Step.Refused kind at column place) g = g .0 (block ++ next) ∙ sym (rw (g .0 block))
-  further block more (Step.Passed empty′ wrote) g =
-      g .walked (block ++ next) ∙ ap (having (g .new)) (more empty′)
-      ∙ sym (ap (λ (w : Walked). onward w (λ reached passed. walk places reached passed next)) (g .walked block) ∙ having-on (g .new) _ _)
-
 pub walk-in-blocks : WalkInBlocks
 unfolding WalkInBlocks
 walk-in-blocks places line empty [] next = unfold walk onward in sym (having-none (walk places line empty next))
 walk-in-blocks places line empty (text ∷ block) next =
-    further places line empty text next block (λ empty′. walk-in-blocks places (line + 1) empty′ block next) (stepOf places line empty text)
-    (goes places line empty text)
+    go (stepOf places line empty text) (goes places line empty text) (λ empty′. walk-in-blocks places (line + 1) empty′ block next)
+  where
+    on : (line empty : ℕ) → Walked
+    on number passed = walk places number passed next
+
+    go : (step : Step) → Goes places line empty text step
+        → ((empty′ : ℕ) → walk places (line + 1) empty′ (block ++ next) ≡ onward (walk places (line + 1) empty′ block) on)
+        → walk places line empty (text ∷ block ++ next) ≡ onward (walk places line empty (text ∷ block)) on
+    go (Step.Refused kind at column place) g more = g .0 (block ++ next) ∙ sym (rw (g .0 block) (unfold onward in refl))
+    go (Step.Passed empty′ wrote) g more = rw (g .walked (block ++ next), g .walked block, more empty′) (sym (having-on (g .new) _ on))
 
 -- what is left of lines behind empty ones: nothing, or the first of the empty lines is refused
 abbrev behind : ℕ → List (List ℕ) → Imported
@@ -147,21 +124,11 @@ unfolding leading
 behind-leading empty line [] e = simp e
 behind-leading empty line (next ∷ lines) e = refl
 
-behind-full : (empty : ℕ) (line : List ℕ) (lines : List (List ℕ)) → isEmpty line ≡ false
-    → behind empty (leading line lines) ≡ refusedAt emptyLine empty 0 noPlace
-unfolding leading
-behind-full empty line [] e = simp e
-behind-full empty line (next ∷ lines) e = refl
-
-outcome-more : (order : Order) (w : Walked) → outcome (having (order ∷ []) w) ≡ more order (outcome w)
-unfolding outcome having more
-outcome-more order (stopped kind line column place met) = refl
-outcome-more order (reached line empty met) = refl
-
 outcome-row : (row : Row) (line : ℕ) (w : Walked) → outcome (walkRow row line w) ≡ withRow row line (outcome w)
-unfolding walkRow withRow
-outcome-row (Row.Order order) line w = outcome-more order w
-outcome-row (Row.Refused kind column place) line w = unfold outcome in refl
+unfolding walkRow withRow outcome having more
+outcome-row (Row.Order order) line (stopped kind at column place met) = refl
+outcome-row (Row.Order order) line (reached at empty met) = refl
+outcome-row (Row.Refused kind column place) line w = refl
 
 -- empty lines stand before these, the first of them with this number
 after-empty : (places : List ℕ) (line empty : ℕ) (lines : List (List ℕ)) → eqb empty 0 ≡ false
@@ -173,38 +140,30 @@ after-empty places line empty (text ∷ lines) z = go (isEmpty text) refl (after
     go : (t : Bool) → isEmpty text ≡ t → outcome (walk places (line + 1) empty lines) ≡ behind empty (fullLines lines)
         → outcome (walk places line empty (text ∷ lines)) ≡ behind empty (leading text (fullLines lines))
     go true e more = simp (e, z) more ∙ sym (behind-leading empty text (fullLines lines) e)
-    go false e more = simp (e, z) (sym (behind-full empty text (fullLines lines) e))
+    go false e more = rw (leading-full text (fullLines lines) e) (simp (e, z))
 
 empty-row : (places : List ℕ) (line : ℕ) (text : List ℕ) (lines : List (List ℕ)) → isEmpty text ≡ true
     → behind line lines ≡ rowsFrom places line (leading text lines)
-unfolding leading rowsFrom withRow
+unfolding leading rowsFrom withRow rowOf lineFields ordered
 empty-row places line text [] e = simp e
-empty-row places line text (next ∷ lines) e =
-    let refuses : rowOf places text ≡ Row.Refused emptyLine 0 noPlace = unfold rowOf lineFields ordered in simp e in
-    sym (rw refuses)
-
-full-row : (places : List ℕ) (line : ℕ) (text : List ℕ) (lines : List (List ℕ)) → isEmpty text ≡ false
-    → withRow (rowOf places text) line (rowsFrom places (line + 1) lines) ≡ rowsFrom places line (leading text lines)
-unfolding leading rowsFrom
-full-row places line text [] e = simp e
-full-row places line text (next ∷ lines) e = refl
+empty-row places line text (next ∷ lines) e = sym (simp e)
 
 -- lines are numbered from 1 on
 walked-is : (places : List ℕ) (line : ℕ) (lines : List (List ℕ)) → 0 < line → outcome (walk places line 0 lines) ≡ rowsFrom places line (fullLines lines)
-unfolding walk fullLines
-walked-is places line [] p = unfold outcome rowsFrom in refl
+unfolding walk rowsFrom fullLines
+walked-is places line [] p = unfold outcome in refl
 walked-is places line (text ∷ lines) p = go (isEmpty text) refl (walked-is places (line + 1) lines (omega arith))
   where
     go : (t : Bool) → isEmpty text ≡ t → outcome (walk places (line + 1) 0 lines) ≡ rowsFrom places (line + 1) (fullLines lines)
         → outcome (walk places line 0 (text ∷ lines)) ≡ rowsFrom places line (leading text (fullLines lines))
-    go true e more = simp e (after-empty places (line + 1) line lines (ne-eqb line 0 (λ z. omega arith))) ∙ empty-row places line text (fullLines lines) e
-    go false e more =
-        simp e (outcome-row (rowOf places text) line (walk places (line + 1) 0 lines))
-        ∙ ap (withRow (rowOf places text) line) more ∙ full-row places line text (fullLines lines) e
+    go true e more =
+        simp e (after-empty places (line + 1) line lines (ne-eqb line 0 (λ z. omega arith)))
+        ∙ empty-row places line text (fullLines lines) e
+    go false e more = rw (leading-full text (fullLines lines) e) (simp e (outcome-row (rowOf places text) line _ ∙ ap (withRow (rowOf places text) line) more))
 
 pub walk-is-import : WalkIsImport
 unfolding WalkIsImport
-walk-is-import places line lines p = walked-is places line lines p
+walk-is-import = walked-is
 
 pub all-converted : AllConverted
 unfolding AllConverted outcome metIn

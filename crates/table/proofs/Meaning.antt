@@ -1,173 +1,208 @@
 -- What the columns of an accepted first line are, and what an accepted line puts into the fields. Assumes nothing.
-use Prim.Native.Nat.{ℕ, zero, suc, _+_, _<_}
+use Prim.Native.Nat.{ℕ, zero, suc, _+_, _≤_, _<_}
 use native.Mathlib.Omega.{arith}
-use mathlib.Core.Bool.{Bool, true, false, not, _||_}
+use mathlib.Core.Bool.{Bool, true, false, not}
 use mathlib.Core.List.{List, [], _∷_, _++_, map, append-assoc, append-nil}
-use mathlib.Core.Path.{_≡_, refl, sym, ap, _∙_}
-use borrow.Author.Tests.{ne-eqb, eqb-false, eqb-true, leb-false}
-use lib.Dec.{eqb, leb}
-use lib.ListN.{length, getD, set, replicate, length-set, getD-replicate}
+use mathlib.Core.Path.{_≡_, refl, sym, ap, _∙_, subst}
+use borrow.Author.Tests.{ne-eqb, eqb-false, eqb-true, leb-false, lt-leb, ltb-true, ltb-false, lt-ltb, le-ltb, not-false}
+use lib.Dec.{eqb}
+use lib.ListN.{length, getD, set, replicate, length-append, length-set}
 use lib.Seq.{getD-set-same, getD-set-other}
-use Rattle.plain.specs.Lists.{if_then_else_, _is_, _oneOf_, _atMost_, first}
+use Rattle.plain.specs.Lists.{if_then_else_, _is_, _oneOf_, _atMost_, first, Each}
+use Rattle.plain.proofs.Lists.{total-append}
 use Rattle.rulebook.specs.Field.{form, minute}
+use Rattle.rulebook.specs.Names.{fieldNames}
 use Rattle.rulebook.specs.Record.{fieldsOf, orderOf, fieldTests}
 use Rattle.rulebook.specs.declared.Order.{Order}
-use Rattle.cells.specs.Kinds.{tooManyColumns, repeatedName, formMissing, minuteMissing, emptyLine}
-use Rattle.field_rules.specs.Fields.{refusedPlace}
-use Rattle.names.specs.Numbers.{fieldPlace}
-use Rattle.cells.specs.Cells.{cells, trim, isEmpty}
-use Rattle.table.specs.Header.{noPlace, Parsed, nameKind, headerFrom, headerOf, Known}
-use Rattle.table.specs.Header.Parsed.{refused, parsed}
-use Rattle.table.specs.Lines.{fieldNumber, columnFrom, withNumber, fieldsFrom, lineFields, ordered, rowOf, Imported, more, withRow}
-use Rattle.table.specs.Lines.Imported.{refusedAt, orders}
-use Rattle.cells.specs.declared.Number.{Number}
-use Rattle.table.specs.declared.Row.{Row}
 use Rattle.rulebook.proofs.Below.{same-below}
-use Rattle.table.proofs.Heading.{place-most, known-snoc}
+use Rattle.text.specs.Text.{text}
+use Rattle.text.specs.Parts.{sameText, placeIn}
+use Rattle.names.specs.Numbers.{fieldPlace}
+use Rattle.cells.specs.Cells.{cells, trim, isEmpty, fullLines}
+use Rattle.cells.specs.declared.Number.{Number}
+use Rattle.table.specs.Header.{Parsed, headerFrom, headerOf}
+use Rattle.table.specs.Header.Parsed.{refused, parsed}
+use Rattle.table.specs.Lines.{fieldNumber, withNumber, fieldsFrom, lineFields, ordered, rowOf, Imported, more, withRow, rowsFrom}
+use Rattle.table.specs.Lines.Imported.{refusedAt, orders}
+use Rattle.table.specs.Import.{withColumns, importLines, isRefused}
+use Rattle.table.specs.Theorems.{Along}
+use Rattle.table.specs.Theorems.Along.{none, one}
+use Rattle.table.specs.declared.Row.{Row}
+use Rattle.table.proofs.Places.{times, one-of-times, apart, first-more}
 
--- ---- one of some places
+-- ---- refused and accepted are two things
 
-pub or-false : (a b : Bool) → (a || b) ≡ false → (a ≡ false) × (b ≡ false)
-or-false true b e = (cc, cc)
-or-false false b e = (refl, e)
+pub never : {kind column place : ℕ} {out : List ℕ} → refused kind column place ≡ parsed out → ⊥
+never e = let z : _≡_ {A = ℕ} 0 1 = cc in omega arith
 
-pub not-there : {n p : ℕ} (ps : List ℕ) → n oneOf (p ∷ ps) ≡ false → (n ≡ p → ⊥) × (n oneOf ps ≡ false)
-not-there {n} {p} ps e = let both = or-false (eqb n p) (n oneOf ps) e in (eqb-false n p (both .0), both .1)
+pub none-such : {kind line column place : ℕ} {all : List Order} → refusedAt kind line column place ≡ orders all → ⊥
+none-such e = let z : _≡_ {A = ℕ} 0 1 = cc in omega arith
 
-pub there-not : {n p : ℕ} (ps : List ℕ) → (n ≡ p → ⊥) → n oneOf ps ≡ false → n oneOf (p ∷ ps) ≡ false
-there-not {n} {p} ps d e = simp (ne-eqb n p d, e)
+-- a test before all others
+pub past : {out : List ℕ} (t : Bool) (kind column place : ℕ) (r : Parsed) → (if t then refused kind column place else r) ≡ parsed out
+    → (t ≡ false) × (r ≡ parsed out)
+past true kind column place r e = absurd (never e)
+past false kind column place r e = (refl, e)
 
-pub snoc-not : {n p : ℕ} (ps : List ℕ) → n oneOf ps ≡ false → (n ≡ p → ⊥) → n oneOf (ps ++ (p ∷ [])) ≡ false
-snoc-not [] e d = there-not [] d refl
-snoc-not (q ∷ ps) e d = let both = not-there ps e in there-not (ps ++ _) (both .0) (snoc-not ps (both .1) d)
+-- what is no list of orders is a refusal
+pub refused-unless : (i : Imported) → ((all : List Order) → i ≡ orders all → ⊥) → isRefused i ≡ true
+unfolding isRefused
+refused-unless (refusedAt kind line column place) n = refl
+refused-unless (orders all) n = absurd (n all refl)
 
--- places that are all different
-pub data Distinct : List ℕ → Type 0 where
-  none : Distinct []
-  one : {p : ℕ} {ps : List ℕ} → p oneOf ps ≡ false → Distinct ps → Distinct (p ∷ ps)
+-- ---- two lists, place by place
 
-distinct-snoc : (p : ℕ) {ps : List ℕ} → Distinct ps → p oneOf ps ≡ false → Distinct (ps ++ (p ∷ []))
-distinct-snoc p none e = one refl none
-distinct-snoc p (one {p = q} {ps = ps} n d) e = let both = not-there ps e in one (snoc-not ps n (λ s. both .0 (sym s))) (distinct-snoc p d (both .1))
+module _ {A B C : Type 0} {R : A → B → Type 0} {S : A → C → Type 0} {T : B → C → Type 0} (f : (a : A) (b : B) (c : C) → R a b → S a c → T b c) where
+  pub along-both : {xs : List A} {ys : List B} {zs : List C} → Along R xs ys → Along S xs zs → Along T ys zs
+  along-both none none = none
+  along-both (one {a} {b} r rs) (one {b = c} s ss) = one (f a b c r s) (along-both rs ss)
+
+pub along-so : {A B : Type 0} {R S : A → B → Type 0} → ((a : A) (b : B) → R a b → S a b) → {xs : List A} {ys : List B} → Along R xs ys → Along S xs ys
+along-so f none = none
+along-so f (one {a} {b} r rs) = one (f a b r) (along-so f rs)
 
 -- ---- the columns of an accepted first line
 
 unfoldable pub placed : List (List ℕ) → List ℕ
 placed names = map (λ name. fieldPlace (trim name)) names
 
--- the tests of one column
-pub record Passed (before : List ℕ) (place : ℕ) (later : Parsed) (out : List ℕ) : Type 0 where
-  pub few : length before < 18
-  pub known : place ≡ 18 → ⊥
-  pub new : place oneOf before ≡ false
-  pub on : later ≡ parsed out
-
-pub passed : (before : List ℕ) (place kind : ℕ) (later : Parsed) (out : List ℕ)
-    → (if 18 atMost length before then refused tooManyColumns (length before + 1) noPlace
-    else if place is 18 then refused kind (length before + 1) noPlace
-    else if place oneOf before then refused repeatedName (length before + 1) noPlace
-    else later) ≡ parsed out
-    → Passed before place later out
-passed before place kind later out e = go (18 atMost length before) refl (place is 18) refl (place oneOf before) refl e
+place-le : (names : List (List ℕ)) (name : List ℕ) → placeIn names name ≤ length names
+unfolding placeIn
+place-le [] name = omega arith
+place-le (known ∷ others) name = go (sameText name known) (place-le others name)
   where
-    go : (s : Bool) → leb 18 (length before) ≡ s → (t : Bool) → eqb place 18 ≡ t → (u : Bool) → place oneOf before ≡ u
-        → (if s then refused tooManyColumns (length before + 1) noPlace else if t then refused kind (length before + 1) noPlace
-        else if u then refused repeatedName (length before + 1) noPlace else later) ≡ parsed out
-        → Passed before place later out
-    go true f t g u h e = absurd (let z : _≡_ {A = ℕ} 0 1 = cc in omega arith)
-    go false f true g u h e = absurd (let z : _≡_ {A = ℕ} 0 1 = cc in omega arith)
-    go false f false g true h e = absurd (let z : _≡_ {A = ℕ} 0 1 = cc in omega arith)
-    go false f false g false h e = record { few = leb-false 18 (length before) f; known = eqb-false place 18 g; new = h; on = e }
+    go : (t : Bool) → placeIn others name ≤ length others → (if t then 0 else suc (placeIn others name)) ≤ suc (length others)
+    go true h = omega arith
+    go false h = omega arith
 
--- the last test of the first line
-needed : (s t : Bool) (before out : List ℕ)
-    → (if s then refused formMissing 0 noPlace else if t then refused minuteMissing 0 noPlace else parsed before) ≡ parsed out → before ≡ out
-needed true t before out e = cc
-needed false true before out e = cc
-needed false false before out e = cc
+pub place-most : (name : List ℕ) → fieldPlace name ≤ 18
+unfolding fieldPlace fieldNames
+place-most name = place-le (map text fieldNames) name
 
--- an accepted first line: the columns name these places, all known, all different
-pub record Columned (names : List (List ℕ)) (before out : List ℕ) : Type 0 where
-  pub all : out ≡ before ++ placed names
-  pub distinct : Distinct out
-  pub known : Known out
+pub placed-most : (names : List (List ℕ)) → Each (λ place. place < 19) (placed names)
+unfolding placed
+placed-most [] = tt
+placed-most (name ∷ names) = (omega (arith, place-most (trim name)), placed-most names)
 
-pub columned : (before : List ℕ) (names : List (List ℕ)) (out : List ℕ) → headerFrom before names ≡ parsed out → Distinct before → Known before
-    → Columned names before out
+-- places that a first line may name so far
+pub record Apart (places : List ℕ) : Type 0 where
+  pub few : length places ≤ 18
+  pub known : times 18 places ≡ 0
+  pub once : (n : ℕ) → times n places ≤ 1
+
+-- and with form and minute among them
+pub record Fit (places : List ℕ) : Type 0 where
+  pub apart : Apart places
+  pub has-form : 0 < times form places
+  pub has-minute : 0 < times minute places
+
+once-more : (n p : ℕ) (ps : List ℕ) → Apart ps → times p ps ≡ 0 → times n (ps ++ (p ∷ [])) ≤ 1
+once-more n p ps a e = rw (total-append (λ q. if n is q then 1 else 0) ps (p ∷ [])) (go (eqb n p) refl)
+  where
+    go : (t : Bool) → eqb n p ≡ t → times n ps + ((if t then 1 else 0) + 0) ≤ 1
+    go true f = let same : times n ps ≡ times p ps = ap (λ (m : ℕ). times m ps) (eqb-true n p f) in omega arith
+    go false f = omega (arith, a .once n)
+
+-- they are those of the columns before and of the names, and so they fit
+pub columned : (before : List ℕ) (names : List (List ℕ)) (out : List ℕ) → headerFrom before names ≡ parsed out → Apart before
+    → (out ≡ before ++ placed names) × Fit out
 unfolding headerFrom placed
-columned before [] out e d k =
-    let same : before ≡ out = needed (not (form oneOf before)) (not (minute oneOf before)) before out e in
-    record { all = sym same ∙ sym (append-nil before); distinct = rw same at d; known = rw same at k }
-columned before (name ∷ names) out e d k =
+columned before [] out e a =
+    let f = past (not (form oneOf before)) _ _ _ _ e in
+    let m = past (not (minute oneOf before)) _ _ _ _ (f .1) in
+    let same : before ≡ out = cc in
+    let fit : Fit before = record {
+      apart = a;
+      has-form = ltb-true 0 _ (sym (one-of-times form before) ∙ not-false _ (f .0));
+      has-minute = ltb-true 0 _ (sym (one-of-times minute before) ∙ not-false _ (m .0));
+    } in
+    (sym same ∙ sym (append-nil before), subst Fit same fit)
+columned before (name ∷ names) out e a =
     let place : ℕ = fieldPlace (trim name) in
-    let p : Passed before place (headerFrom (before ++ (place ∷ [])) names) out = passed before place (nameKind (trim name)) _ out e in
-    let small : place < 18 = omega (arith, place-most (trim name), p .known) in
-    let rest = columned (before ++ (place ∷ [])) names out (p .on) (distinct-snoc place d (p .new)) (known-snoc before place k small) in
-    record { all = rest .all ∙ append-assoc before (place ∷ []) (placed names); distinct = rest .distinct; known = rest .known }
+    let s = past (18 atMost length before) _ _ _ _ e in
+    let t = past (place is 18) _ _ _ _ (s .1) in
+    let u = past (place oneOf before) _ _ _ _ (t .1) in
+    let new : times place before ≤ 0 = ltb-false 0 _ (sym (one-of-times place before) ∙ u .0) in
+    let other : eqb 18 place ≡ false = ne-eqb 18 place (λ q. eqb-false place 18 (t .0) (sym q)) in
+    let wider : Apart (before ++ (place ∷ [])) = record {
+      few = omega (arith, leb-false 18 (length before) (s .0), length-append before (place ∷ []));
+      known = rw (total-append (λ q. if 18 is q then 1 else 0) before (place ∷ []), other) (omega (arith, a .known));
+      once = λ n. once-more n place before a (omega arith);
+    } in
+    let rest = columned (before ++ (place ∷ [])) names out (u .1) wider in
+    (rest .0 ∙ append-assoc before (place ∷ []) (placed names), rest .1)
 
--- a test before all others
-pub past : (t : Bool) (kind : ℕ) (r : Parsed) (out : List ℕ) → (if t then refused kind 0 noPlace else r) ≡ parsed out → (t ≡ false) × (r ≡ parsed out)
-past true kind r out e = absurd (let z : _≡_ {A = ℕ} 0 1 = cc in omega arith)
-past false kind r out e = (refl, e)
+-- and names whose places fit are accepted
+pub named : (before : List ℕ) (names : List (List ℕ)) → Fit (before ++ placed names) → headerFrom before names ≡ parsed (before ++ placed names)
+unfolding headerFrom placed
+named before [] f =
+    let e : before ++ [] ≡ before = append-nil before in
+    let g : Fit before = subst Fit e f in
+    simp (one-of-times form before ∙ lt-ltb 0 _ (g .has-form), one-of-times minute before ∙ lt-ltb 0 _ (g .has-minute), e)
+named before (name ∷ names) f =
+    let place : ℕ = fieldPlace (trim name) in
+    let e : (before ++ (place ∷ [])) ++ placed names ≡ before ++ (place ∷ placed names) = append-assoc before (place ∷ []) (placed names) in
+    let both : (n : ℕ) → times n (before ++ (place ∷ placed names)) ≡ times n before + times n (place ∷ placed names) =
+    λ n. total-append (λ q. if n is q then 1 else 0) before (place ∷ placed names) in
+    let few : length before < 18 = omega (arith, f .apart .few, length-append before (place ∷ placed names)) in
+    let known : place ≡ 18 → ⊥ = λ q. apart 18 place (placed names) (omega (arith, both 18, f .apart .known)) (sym q) in
+    let new : times place before ≤ 0 = omega (arith, both place, f .apart .once place, first-more place (placed names)) in
+    simp (lt-leb 18 (length before) few, ne-eqb place 18 known, one-of-times place before ∙ le-ltb 0 _ new)
+    (named (before ++ (place ∷ [])) names (subst Fit (sym e) f) ∙ ap parsed e)
 
-pub header-parsed : (header : List ℕ) (places : List ℕ) → headerOf header ≡ parsed places → headerFrom [] (cells header) ≡ parsed places
+-- of the whole line
+pub header-columned : (header places : List ℕ) → headerOf header ≡ parsed places → (isEmpty header ≡ false) × (places ≡ placed (cells header)) × Fit places
 unfolding headerOf
-header-parsed header places e = past (isEmpty header) emptyLine (headerFrom [] (cells header)) places e .1
-
-pub header-columned : (header : List ℕ) (places : List ℕ) → headerOf header ≡ parsed places → Columned (cells header) [] places
 header-columned header places e =
-    columned [] (cells header) places (header-parsed header places e) none (record { field = λ i h. absurd (omega arith) })
+    let p = past (isEmpty header) _ _ _ _ e in
+    let c = columned [] (cells header) places (p .1) (record { few = omega arith; known = refl; once = λ n. omega arith }) in
+    (p .0, c .0, c .1)
 
 -- ---- the fields of an accepted line
 
--- a number was found, and the line went on with it
-pub record GoneOn (v : Number) (next : ℕ → Parsed) (out : List ℕ) : Type 0 where
-  pub n : ℕ
-  pub found : v ≡ Number.Value n
-  pub on : next n ≡ parsed out
+-- cell by cell, each number goes into the field of its column
+pub data Fills : (places values : List ℕ) → List (List ℕ) → List ℕ → Type 0 where
+  no-more : {values : List ℕ} → Fills [] values [] values
+  one-more : {p n : ℕ} {ps values out c : List ℕ} {cs : List (List ℕ)} → fieldNumber p c ≡ Number.Value n → Fills ps (set values p n) cs out
+      → Fills (p ∷ ps) values (c ∷ cs) out
 
-pub gone-on : (v : Number) (column place : ℕ) (next : ℕ → Parsed) (out : List ℕ) → withNumber v column place next ≡ parsed out → GoneOn v next out
-unfolding withNumber
-gone-on (Number.Value n) column place next out e = record { n = n; found = refl; on = e }
-gone-on (Number.Refused kind) column place next out e = absurd (let z : _≡_ {A = ℕ} 0 1 = cc in omega arith)
+pub fills : (ps : List ℕ) (column : ℕ) (values : List ℕ) (cs : List (List ℕ)) (out : List ℕ) → fieldsFrom ps column values cs ≡ parsed out
+    → Fills ps values cs out
+unfolding fieldsFrom withNumber
+fills [] column values [] out e = let same : values ≡ out = cc in subst (Fills [] values []) same no-more
+fills [] column values (c ∷ cs) out e = absurd (never e)
+fills (p ∷ ps) column values [] out e = absurd (never e)
+fills (p ∷ ps) column values (c ∷ cs) out e = go (fieldNumber p c) refl e (λ n. fills ps (column + 1) (set values p n) cs out)
+  where
+    go : (v : Number) → fieldNumber p c ≡ v → withNumber v column p (λ n. fieldsFrom ps (column + 1) (set values p n) cs) ≡ parsed out
+        → ((n : ℕ) → fieldsFrom ps (column + 1) (set values p n) cs ≡ parsed out → Fills ps (set values p n) cs out) → Fills (p ∷ ps) values (c ∷ cs) out
+    go (Number.Value n) f e more = one-more f (more n e)
+    go (Number.Refused kind) f e more = absurd (never e)
 
--- a place that no column has keeps its value
-kept : (ps : List ℕ) (column : ℕ) (values : List ℕ) (cs : List (List ℕ)) (out : List ℕ) → fieldsFrom ps column values cs ≡ parsed out
-    → (place : ℕ) → place oneOf ps ≡ false → getD out place 0 ≡ getD values place 0
-unfolding fieldsFrom
-kept [] column values [] out e place h = let same : values ≡ out = cc in rw same
-kept [] column values (c ∷ cs) out e place h = cc
-kept (p ∷ ps) column values [] out e place h = cc
-kept (p ∷ ps) column values (c ∷ cs) out e place h =
-    let both = not-there ps h in
-    let g = gone-on (fieldNumber p c) column p (λ n. fieldsFrom ps (column + 1) (set values p n) cs) out e in
-    kept ps (column + 1) (set values p (g .n)) cs out (g .on) place (both .1) ∙ getD-set-other values p place (g .n) 0 (both .0)
-
--- a column's place gets the number in its cell
-numbers : {ps : List ℕ} (column : ℕ) (values : List ℕ) (cs : List (List ℕ)) (out : List ℕ) → fieldsFrom ps column values cs ≡ parsed out
-    → Distinct ps → ((i : ℕ) → i < length ps → getD ps i 0 < length values)
-    → (i : ℕ) → i < length ps → fieldNumber (getD ps i 0) (getD cs i []) ≡ Number.Value (getD out (getD ps i 0) 0)
-unfolding fieldsFrom
-numbers column values cs out e none k i h = absurd (omega arith)
-numbers column values [] out e (one n d) k i h = cc
-numbers column values (c ∷ cs) out e (one {p = p} {ps = ps} n d) k zero h =
-    let g = gone-on (fieldNumber p c) column p (λ n. fieldsFrom ps (column + 1) (set values p n) cs) out e in
-    let same : getD out p 0 ≡ g .n = kept ps (column + 1) (set values p (g .n)) cs out (g .on) p n ∙ getD-set-same values p (g .n) 0 (k 0 (omega arith)) in
-    rw same (g .found)
-numbers column values (c ∷ cs) out e (one {p = p} {ps = ps} n d) k (suc i) h =
-    let g = gone-on (fieldNumber p c) column p (λ n. fieldsFrom ps (column + 1) (set values p n) cs) out e in
-    numbers (column + 1) (set values p (g .n)) cs out (g .on) d (λ j l. rw (length-set values p (g .n)) (k (suc j) (omega arith))) i (omega arith)
+pub fills-so : {ps values : List ℕ} {cs : List (List ℕ)} {out : List ℕ} → Fills ps values cs out → (column : ℕ) → fieldsFrom ps column values cs ≡ parsed out
+unfolding fieldsFrom withNumber
+fills-so no-more column = refl
+fills-so (one-more f r) column = rw f (fills-so r (column + 1))
 
 -- there are as many cells as columns
-pub as-many : (ps : List ℕ) (column : ℕ) (values : List ℕ) (cs : List (List ℕ)) (out : List ℕ) → fieldsFrom ps column values cs ≡ parsed out
-    → length cs ≡ length ps
-unfolding fieldsFrom
-as-many [] column values [] out e = refl
-as-many [] column values (c ∷ cs) out e = cc
-as-many (p ∷ ps) column values [] out e = cc
-as-many (p ∷ ps) column values (c ∷ cs) out e =
-    let g = gone-on (fieldNumber p c) column p (λ n. fieldsFrom ps (column + 1) (set values p n) cs) out e in
-    ap suc (as-many ps (column + 1) (set values p (g .n)) cs out (g .on))
+pub as-many : {ps values : List ℕ} {cs : List (List ℕ)} {out : List ℕ} → Fills ps values cs out → length cs ≡ length ps
+as-many no-more = refl
+as-many (one-more f r) = ap suc (as-many r)
+
+-- a place that no column has keeps its value
+pub kept : {ps values : List ℕ} {cs : List (List ℕ)} {out : List ℕ} → Fills ps values cs out → (place : ℕ) → times place ps ≡ 0
+    → getD out place 0 ≡ getD values place 0
+kept no-more place h = refl
+kept (one-more {p} {n} {ps} {values} f r) place h = kept r place (omega arith) ∙ getD-set-other values p place n 0 (apart place p ps h)
+
+-- a column's place gets the number in its cell
+pub numbers : {ps values : List ℕ} {cs : List (List ℕ)} {out : List ℕ} → Fills ps values cs out → ((n : ℕ) → times n ps ≤ 1)
+    → Each (λ p. p < length values) ps → (i : ℕ) → i < length ps → fieldNumber (getD ps i 0) (getD cs i []) ≡ Number.Value (getD out (getD ps i 0) 0)
+numbers no-more once inside i h = absurd (omega arith)
+numbers (one-more {p} {n} {ps} {values} f r) once inside zero h =
+    rw (kept r p (omega (arith, once p, first-more p ps)), getD-set-same values p n 0 (inside .0)) f
+numbers (one-more {p} {n} {ps} {values} f r) once inside (suc i) h =
+    numbers r (λ m. omega (arith, once m)) (rw (length-set values p n) (inside .1)) i (omega arith)
 
 -- the fields of the order of some values are these
 pub field-back : (values : List ℕ) (place : ℕ) → place < 18 → getD (fieldsOf (orderOf values)) place 0 ≡ getD values place 0
@@ -175,67 +210,66 @@ unfolding fieldsOf orderOf
 field-back values = same-below 18 (λ place. getD (fieldsOf (orderOf values)) place 0) (λ place. getD values place 0) refl
 
 -- an accepted line: its values, and the order of these
-pub record Accepted (places line : List ℕ) (order : Order) : Type 0 where
+pub record Taken (places line : List ℕ) (order : Order) : Type 0 where
+  pub full : isEmpty line ≡ false
   pub values : List ℕ
-  pub read : lineFields places line ≡ parsed values
-  pub same : order ≡ orderOf values
+  pub read : Fills places (replicate 19 0) (cells line) values
+  pub same : orderOf values ≡ order
   pub tests : first (fieldTests (fieldsOf order)) ≡ 0
 
-pub accepted : (places line : List ℕ) (order : Order) → rowOf places line ≡ Row.Order order → Accepted places line order
-unfolding rowOf ordered
-accepted places line order e = go (lineFields places line) refl e
+pub taken : (places line : List ℕ) (order : Order) → rowOf places line ≡ Row.Order order → Taken places line order
+unfolding rowOf lineFields ordered
+taken places line order e = go (lineFields places line) refl e
   where
     tested : (values : List ℕ) (n column place : ℕ) (t : Bool) → eqb n 0 ≡ t
         → (if t then Row.Order (orderOf values) else Row.Refused n column place) ≡ Row.Order order → (orderOf values ≡ order) × (n ≡ 0)
     tested values n column place true f e = (cc, eqb-true n 0 f)
     tested values n column place false f e = (cc, cc)
 
-    go : (r : Parsed) → lineFields places line ≡ r → ordered places r ≡ Row.Order order → Accepted places line order
+    go : (r : Parsed) → lineFields places line ≡ r → ordered places r ≡ Row.Order order → Taken places line order
     go (refused kind column place) f e = absurd (let z : _≡_ {A = ℕ} 0 1 = cc in omega arith)
     go (parsed values) f e =
-        let number : ℕ = first (fieldTests (fieldsOf (orderOf values))) in
-        let field : ℕ = refusedPlace (fieldsOf (orderOf values)) in
-        let both = tested values number (columnFrom 1 places field) field (eqb number 0) refl e in
-        record { values = values; read = f; same = sym (both .0); tests = rw (both .0) at (both .1) }
+        let p = past (isEmpty line) _ _ _ _ f in
+        let both = tested values (first (fieldTests (fieldsOf (orderOf values)))) _ _ _ refl e in
+        record { full = p .0; values = values; read = fills places 1 _ _ values (p .1); same = both .0; tests = rw (both .0) at (both .1) }
 
--- and so is a line with those values, under any columns
-pub accepted-so : {places line : List ℕ} {order : Order} → Accepted places line order → (others other : List ℕ) (a : List ℕ)
-    → lineFields others other ≡ parsed a → orderOf a ≡ order → rowOf others other ≡ Row.Order order
-unfolding rowOf ordered
-accepted-so accepted others other a e same = ap (ordered others) e ∙ rw same (simp (accepted .tests))
+pub taken-so : {places line : List ℕ} {order : Order} → Taken places line order → rowOf places line ≡ Row.Order order
+unfolding rowOf lineFields ordered
+taken-so t = simp (t .full, fills-so (t .read) 1, t .same, t .tests)
 
-pub fields : {places line : List ℕ} {order : Order} (a : Accepted places line order) → fieldsFrom places 1 (replicate 19 0) (cells line) ≡ parsed (a .values)
-unfolding lineFields
-fields {places} {line} a = past (isEmpty line) emptyLine (fieldsFrom places 1 (replicate 19 0) (cells line)) (a .values) (a .read) .1
+-- ---- rows, and a table
 
-module _ {places line : List ℕ} {order : Order} (a : Accepted places line order) (k : Known places) where
-  pub field-named : Distinct places → (i : ℕ) → i < length places
-      → fieldNumber (getD places i 0) (getD (cells line) i []) ≡ Number.Value (getD (fieldsOf order) (getD places i 0) 0)
-  field-named d i h =
-      rw (a .same, field-back (a .values) (getD places i 0) (k .field i h))
-      (numbers 1 (replicate 19 0) (cells line) (a .values) (fields a) d (λ j l. omega (arith, k .field j l)) i h)
+pub rows : (places : List ℕ) (n : ℕ) (lines : List (List ℕ)) (all : List Order) → rowsFrom places n lines ≡ orders all → Along (Taken places) lines all
+unfolding rowsFrom withRow more
+rows places n [] all e = let same : [] ≡ all = cc in subst (Along (Taken places) []) same none
+rows places n (line ∷ lines) all e = go (rowOf places line) refl (rowsFrom places (n + 1) lines) refl e (rows places (n + 1) lines)
+  where
+    go : (r : Row) → rowOf places line ≡ r → (later : Imported) → rowsFrom places (n + 1) lines ≡ later → withRow r n later ≡ orders all
+        → ((rest : List Order) → rowsFrom places (n + 1) lines ≡ orders rest → Along (Taken places) lines rest) → Along (Taken places) (line ∷ lines) all
+    go (Row.Order order) f (orders rest) g e later =
+        let same : order ∷ rest ≡ all = cc in
+        subst (Along (Taken places) (line ∷ lines)) same (one (taken places line order f) (later rest g))
+    go (Row.Order order) f (refusedAt kind at column place) g e later = absurd (none-such e)
+    go (Row.Refused kind column place) f i g e later = absurd (none-such e)
 
-  pub field-zero : (place : ℕ) → place < 18 → place oneOf places ≡ false → getD (fieldsOf order) place 0 ≡ 0
-  field-zero place h n = rw (a .same, field-back (a .values) place h) (kept places 1 (replicate 19 0) (cells line) (a .values) (fields a) place n
-      ∙ zeros place h)
-    where
-      zeros : (place : ℕ) → place < 18 → getD {A = ℕ} (replicate 19 0) place 0 ≡ 0
-      zeros place h = getD-replicate 19 place 0 0 (omega arith)
+pub rows-so : {places : List ℕ} {lines : List (List ℕ)} {all : List Order} → Along (Taken places) lines all → (n : ℕ) → rowsFrom places n lines ≡ orders all
+unfolding rowsFrom withRow more
+rows-so none n = refl
+rows-so (one t r) n = rw (taken-so t, rows-so r (n + 1))
 
-  pub cell-each : length (cells line) ≡ length places
-  cell-each = as-many places 1 (replicate 19 0) (cells line) (a .values) (fields a)
+pub record Table (header : List ℕ) (lines : List (List ℕ)) (all : List Order) : Type 0 where
+  pub places : List ℕ
+  pub columns : headerOf header ≡ parsed places
+  pub taken-in : Along (Taken places) (fullLines lines) all
 
--- ---- rows that were accepted
+pub imported : (header : List ℕ) (lines : List (List ℕ)) (all : List Order) → importLines (header ∷ lines) ≡ orders all → Table header lines all
+unfolding importLines withColumns
+imported header lines all e = go (headerOf header) refl e
+  where
+    go : (r : Parsed) → headerOf header ≡ r → withColumns r (λ places. rowsFrom places 2 (fullLines lines)) ≡ orders all → Table header lines all
+    go (refused kind column place) f e = absurd (none-such e)
+    go (parsed places) f e = record { places = places; columns = f; taken-in = rows places 2 (fullLines lines) all e }
 
-pub record Gone (row : Row) (later : Imported) (all : List Order) : Type 0 where
-  pub order : Order
-  pub rest : List Order
-  pub row-is : row ≡ Row.Order order
-  pub later-is : later ≡ orders rest
-  pub all-is : all ≡ order ∷ rest
-
-pub gone : (row : Row) (line : ℕ) (later : Imported) (all : List Order) → withRow row line later ≡ orders all → Gone row later all
-unfolding withRow more
-gone (Row.Refused kind column place) line later all e = absurd (let z : _≡_ {A = ℕ} 0 1 = cc in omega arith)
-gone (Row.Order order) line (refusedAt kind at column place) all e = absurd (let z : _≡_ {A = ℕ} 0 1 = cc in omega arith)
-gone (Row.Order order) line (orders rest) all e = record { order = order; rest = rest; row-is = refl; later-is = refl; all-is = cc }
+pub imported-so : {header : List ℕ} {lines : List (List ℕ)} {all : List Order} → Table header lines all → importLines (header ∷ lines) ≡ orders all
+unfolding importLines withColumns
+imported-so t = rw (t .columns) (rows-so (t .taken-in) 2)

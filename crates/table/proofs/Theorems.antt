@@ -1,26 +1,27 @@
 -- The theorems of specs/Theorems on names, on what is written, and on empty lines. Assumes nothing.
-use Prim.Native.Nat.{ℕ, zero, suc, _+_, _<_}
+use Prim.Native.Nat.{ℕ, zero, suc, _<_}
 use native.Mathlib.Omega.{arith}
-use mathlib.Core.Bool.{Bool, true, false}
-use mathlib.Core.List.{List, [], _∷_, _++_}
+use mathlib.Core.Bool.{true, false, true≢false}
+use mathlib.Core.List.{List, [], _∷_, _++_, append-assoc}
 use mathlib.Core.Path.{_≡_, refl, sym, ap, _∙_}
-use lib.ListN.{length, getD, replicate, length-map}
-use Rattle.plain.specs.Lists.{if_then_else_, _oneOf_}
+use borrow.Author.Tests.{ne-eqb}
+use lib.ListN.{length, getD, replicate, length-map, getD-replicate}
+use Rattle.plain.specs.Lists.{Each}
 use Rattle.rulebook.specs.Record.{writeRefusal}
 use Rattle.rulebook.specs.declared.Order.{Order}
 use Rattle.rulebook.proofs.RoundTrips.{write-read}
 use Rattle.names.specs.Numbers.{fieldPlace}
-use Rattle.cells.specs.Kinds.{emptyLine}
 use Rattle.cells.specs.Cells.{cells, trim, isEmpty, leading, fullLines}
-use Rattle.table.specs.Header.{noPlace, Parsed, headerOf}
-use Rattle.table.specs.Header.Parsed.{refused, parsed}
-use Rattle.table.specs.Lines.{Imported, more, withRow, rowsFrom, rowOf, lineFields, ordered}
+use Rattle.table.specs.Header.{headerOf}
+use Rattle.table.specs.Header.Parsed.{parsed}
+use Rattle.table.specs.Lines.{Imported}
 use Rattle.table.specs.Lines.Imported.{refusedAt, orders}
-use Rattle.table.specs.Import.{withColumns, importLines, importOf, written, isRefused}
-use Rattle.table.specs.Theorems.{fieldAt, Says, EachSays, NamedFields, UnknownRefused, NothingWritten, EmptyEnd, EmptyRefused}
-use Rattle.table.specs.Theorems.EachSays.{none, one}
-use Rattle.table.specs.declared.Row.{Row}
-use Rattle.table.proofs.Meaning.{placed, there-not, Columned, header-columned, Accepted, accepted, field-named, field-zero, cell-each, gone}
+use Rattle.table.specs.Import.{importLines, importOf, written, isRefused}
+use Rattle.table.specs.Theorems.{fieldAt, Says, Along, NamedFields, UnknownRefused, NothingWritten, EmptyEnd, EmptyRefused}
+use Rattle.table.specs.Theorems.Along.{one}
+use Rattle.table.proofs.Places.{times, at-place}
+use Rattle.table.proofs.Meaning.{placed, place-most, placed-most, header-columned, Taken, kept, numbers, as-many, field-back}
+use Rattle.table.proofs.Meaning.{imported, refused-unless, along-so}
 
 -- ---- (a)
 
@@ -31,64 +32,58 @@ placed-at (name ∷ names) zero h = refl
 placed-at (name ∷ names) (suc i) h = placed-at names i (omega arith)
 
 placed-none : (place : ℕ) (names : List (List ℕ)) → ((i : ℕ) → i < length names → fieldPlace (trim (getD names i [])) ≡ place → ⊥)
-    → place oneOf (placed names) ≡ false
+    → times place (placed names) ≡ 0
 unfolding placed
 placed-none place [] h = refl
-placed-none place (name ∷ names) h = there-not (placed names) (λ e. h 0 (omega arith) (sym e)) (placed-none place names (λ i l. h (suc i) (omega arith)))
-
-placed-long : (names : List (List ℕ)) → length (placed names) ≡ length names
-unfolding placed
-placed-long names = length-map names (λ name. fieldPlace (trim name))
+placed-none place (name ∷ names) h =
+    rw (ne-eqb place (fieldPlace (trim name)) (λ e. h 0 (omega arith) (sym e))) (omega (arith, placed-none place names (λ i l. h (suc i) (omega arith))))
 
 module _ (header places : List ℕ) (h : headerOf header ≡ parsed places) where
-  columns : Columned (cells header) [] places
-  columns = header-columned header places h
-
   many : length places ≡ length (cells header)
-  many = ap length (columns .all) ∙ placed-long (cells header)
+  unfolding placed
+  many = ap length (header-columned header places h .1) ∙ length-map (cells header) (λ name. fieldPlace (trim name))
 
   at-column : (i : ℕ) → i < length (cells header) → getD places i 0 ≡ fieldAt header i
-  at-column i l = ap (λ (ps : List ℕ). getD ps i 0) (columns .all) ∙ placed-at (cells header) i l
+  at-column i l = ap (λ (ps : List ℕ). getD ps i 0) (header-columned header places h .1) ∙ placed-at (cells header) i l
 
-  says : (line : List ℕ) (order : Order) → rowOf places line ≡ Row.Order order → Says header line order
+  -- which is a field
+  at-field : (i : ℕ) → i < length (cells header) → fieldAt header i < 18
+  at-field i l =
+      let there : 0 < times (fieldAt header i) places = rw (at-column i l) at (at-place places i (omega (arith, many))) in
+      let other : fieldAt header i ≡ 18 → ⊥ =
+      λ s. omega (arith, ap (λ (n : ℕ). times n places) s, header-columned header places h .2 .apart .known) in
+      omega (arith, place-most (trim (getD (cells header) i [])), other)
+
+  says : (line : List ℕ) (order : Order) → Taken places line order → Says header line order
   unfolding writeRefusal
-  says line order r =
-      let a : Accepted places line order = accepted places line order r in
+  says line order t =
+      let fit = header-columned header places h .2 in
+      let inside : Each (λ p. p < 19) places = rw (header-columned header places h .1) (placed-most (cells header)) in
       record {
-        as-many = cell-each a (columns .known) ∙ many;
-        named = λ i l. rw (← at-column i l) (field-named a (columns .known) (columns .distinct) i (omega (arith, many)));
-        other = λ place l n. field-zero a (columns .known) place l (rw (columns .all) (placed-none place (cells header) n));
-        back = write-read order (replicate 40 0) (a .tests);
+        as-many = as-many (t .read) ∙ many;
+        named = λ i l.
+            rw (← t .same, field-back (t .values) (fieldAt header i) (at-field i l), ← at-column i l)
+            (numbers (t .read) (fit .apart .once) inside i (omega (arith, many)));
+        other = λ place l n.
+            rw (← t .same, field-back (t .values) place l)
+            (kept (t .read) place (rw (header-columned header places h .1) (placed-none place (cells header) n)) ∙ getD-replicate 19 place 0 0 (omega arith));
+        back = write-read order (replicate 40 0) (t .tests);
       }
 
-  each : (line : ℕ) (others : List (List ℕ)) (all : List Order) → rowsFrom places line others ≡ orders all → EachSays header others all
-  unfolding rowsFrom
-  each line [] [] e = none
-  each line [] (order ∷ all) e = absurd (let z : _≡_ {A = ℕ} 0 1 = cc in omega arith)
-  each line (text ∷ others) all e =
-      let g = gone (rowOf places text) line (rowsFrom places (line + 1) others) all e in
-      rw (g .all-is) (one (says text (g .order) (g .row-is)) (each (line + 1) others (g .rest) (g .later-is)))
-
 pub named-fields : NamedFields
-unfolding NamedFields importOf importLines withColumns
-named-fields file header others all l e = go (headerOf header) refl (rw l at e)
-  where
-    go : (r : Parsed) → headerOf header ≡ r → withColumns r (λ places. rowsFrom places 2 (fullLines others)) ≡ orders all
-        → EachSays header (fullLines others) all
-    go (refused kind column place) f e = absurd (let z : _≡_ {A = ℕ} 0 1 = cc in omega arith)
-    go (parsed places) f e = each header places f 2 (fullLines others) all e
+unfolding NamedFields importOf
+named-fields file header others all l e =
+    let t = imported header others all (rw l at e) in
+    along-so (says header (t .places) (t .columns)) (t .taken-in)
 
 -- ---- (b), (e)
 
 pub unknown-refused : UnknownRefused
-unfolding UnknownRefused importOf importLines withColumns isRefused
-unknown-refused file header others column l h u = rw l (go (headerOf header) refl)
+unfolding UnknownRefused importOf
+unknown-refused file header others column l h u = rw l (refused-unless (importLines (header ∷ others)) known)
   where
-    go : (r : Parsed) → headerOf header ≡ r → isRefused (withColumns r (λ places. rowsFrom places 2 (fullLines others))) ≡ true
-    go (refused kind at place) f = refl
-    go (parsed places) f =
-        let small = columns header places f .known .field column (omega (arith, many header places f)) in
-        absurd (omega (arith, at-column header places f column h))
+    known : (all : List Order) → importLines (header ∷ others) ≡ orders all → ⊥
+    known all e = let t = imported header others all e in omega (arith, at-field header (t .places) (t .columns) column h)
 
 pub nothing-written : NothingWritten
 unfolding NothingWritten isRefused written
@@ -107,56 +102,42 @@ full-end (first ∷ lines) line e = ap (leading first) (full-end lines line e)
 
 pub empty-end : EmptyEnd
 unfolding EmptyEnd importLines
-empty-end header lines line e = ap (λ (l : List (List ℕ)). withColumns (headerOf header) (λ places. rowsFrom places 2 l)) (full-end lines line e)
-
--- a row that is refused refuses the rows
-row-refuses : (row : Row) (line kind column place : ℕ) (later : Imported) → row ≡ Row.Refused kind column place → isRefused (withRow row line later) ≡ true
-unfolding withRow isRefused
-row-refuses row line kind column place later e = rw e
-
-more-refuses : (row : Row) (line : ℕ) (later : Imported) → isRefused later ≡ true → isRefused (withRow row line later) ≡ true
-unfolding withRow more isRefused
-more-refuses (Row.Refused kind column place) line later e = refl
-more-refuses (Row.Order order) line (refusedAt kind at column place) e = refl
-more-refuses (Row.Order order) line (orders all) e = e
-
-leading-more : (line : List ℕ) (next : List ℕ) (others lines : List (List ℕ)) → lines ≡ next ∷ others → leading line lines ≡ line ∷ next ∷ others
-unfolding leading
-leading-more line next others lines e = rw e
+empty-end header lines line e = rw (full-end lines line e)
 
 -- a line that is not empty is left, and those before it are
+pub leading-full : (line : List ℕ) (lines : List (List ℕ)) → isEmpty line ≡ false → leading line lines ≡ line ∷ lines
+unfolding leading
+leading-full line [] e = simp e
+leading-full line (next ∷ lines) e = refl
+
 pub full-later : (later : List ℕ) (others : List (List ℕ)) → isEmpty later ≡ false → fullLines (later ∷ others) ≡ later ∷ fullLines others
-unfolding fullLines leading
-full-later later others e = go (fullLines others)
+unfolding fullLines
+full-later later others e = leading-full later (fullLines others) e
+
+full-before : (lines : List (List ℕ)) (later : List ℕ) (others : List (List ℕ)) → isEmpty later ≡ false
+    → fullLines (lines ++ (later ∷ others)) ≡ lines ++ (later ∷ fullLines others)
+unfolding fullLines
+full-before [] later others e = full-later later others e
+full-before (first ∷ lines) later others e = ap (leading first) (full-before lines later others e) ∙ go lines
   where
-    go : (l : List (List ℕ)) → leading later l ≡ later ∷ l
-    go [] = simp e
-    go (next ∷ l) = refl
+    go : (lines : List (List ℕ)) → leading first (lines ++ (later ∷ fullLines others)) ≡ first ∷ (lines ++ (later ∷ fullLines others))
+    go [] = unfold leading in refl
+    go (next ∷ lines) = unfold leading in refl
 
-full-before : (line later : List ℕ) (others : List (List ℕ)) → isEmpty later ≡ false → fullLines (line ∷ later ∷ others) ≡ line ∷ later ∷ fullLines others
-unfolding fullLines
-full-before line later others e = leading-more line later (fullLines others) (fullLines (later ∷ others)) (full-later later others e)
-
-left-with : (lines : List (List ℕ)) (line later : List ℕ) (others : List (List ℕ)) → isEmpty later ≡ false
-    → fullLines (lines ++ (line ∷ later ∷ others)) ≡ lines ++ (line ∷ later ∷ fullLines others)
-unfolding fullLines
-left-with [] line later others e = full-before line later others e
-left-with (first ∷ []) line later others e = leading-more first line (later ∷ fullLines others) _ (left-with [] line later others e)
-left-with (first ∷ next ∷ lines) line later others e =
-    leading-more first next (lines ++ (line ∷ later ∷ fullLines others)) _ (left-with (next ∷ lines) line later others e)
-
-rows-refused : (places : List ℕ) (number : ℕ) (lines : List (List ℕ)) (line : List ℕ) (others : List (List ℕ)) → isEmpty line ≡ true
-    → isRefused (rowsFrom places number (lines ++ (line ∷ others))) ≡ true
-unfolding rowsFrom
-rows-refused places number [] line others e =
-    row-refuses (rowOf places line) number emptyLine 0 noPlace _ (unfold rowOf lineFields ordered in simp e)
-rows-refused places number (first ∷ lines) line others e =
-    more-refuses (rowOf places first) number _ (rows-refused places (number + 1) lines line others e)
+-- no accepted line is empty
+not-among : {places : List ℕ} (lines : List (List ℕ)) (line : List ℕ) (others : List (List ℕ)) {all : List Order} → isEmpty line ≡ true
+    → Along (Taken places) (lines ++ (line ∷ others)) all → ⊥
+not-among [] line others e (one t r) = true≢false (sym e ∙ t .full)
+not-among (first ∷ lines) line others e (one t r) = not-among lines line others e r
 
 pub empty-refused : EmptyRefused
-unfolding EmptyRefused importLines withColumns isRefused
-empty-refused header lines others line later e f = rw (left-with lines line later others f) (go (headerOf header))
+unfolding EmptyRefused
+empty-refused header lines others line later e f = refused-unless (importLines (header ∷ lines ++ (line ∷ later ∷ others))) none-taken
   where
-    go : (r : Parsed) → isRefused (withColumns r (λ places. rowsFrom places 2 (lines ++ (line ∷ later ∷ fullLines others)))) ≡ true
-    go (refused kind column place) = refl
-    go (parsed places) = rows-refused places 2 lines line (later ∷ fullLines others) e
+    none-taken : (all : List Order) → importLines (header ∷ lines ++ (line ∷ later ∷ others)) ≡ orders all → ⊥
+    none-taken all i =
+        let t = imported header (lines ++ (line ∷ later ∷ others)) all i in
+        let split : lines ++ (line ∷ later ∷ others) ≡ (lines ++ (line ∷ [])) ++ (later ∷ others) = sym (append-assoc lines (line ∷ []) (later ∷ others)) in
+        let left : fullLines (lines ++ (line ∷ later ∷ others)) ≡ lines ++ (line ∷ later ∷ fullLines others) =
+        rw split (full-before (lines ++ (line ∷ [])) later others f ∙ append-assoc lines (line ∷ []) (later ∷ fullLines others)) in
+        not-among lines line (later ∷ fullLines others) e (rw left at (t .taken-in))

@@ -1,7 +1,9 @@
 -- Tables as a clerk sees them, and what they import as.
 use Prim.Native.String.{String}
-use mathlib.Core.List.{[], _∷_, _++_}
+use Prim.Native.Nat.{ℕ}
+use mathlib.Core.List.{List, [], _∷_, _++_}
 use mathlib.Core.Path.{_≡_}
+use Rattle.plain.specs.Lists.{Each}
 use Rattle.rulebook.specs.Field.{minute, security, quantity, amount}
 use Rattle.rulebook.specs.Record.{orderOf}
 use Rattle.rulebook.specs.declared.Order.{Order}
@@ -19,39 +21,45 @@ opening = orderOf (1 ∷ 470 ∷ 0 ∷ 0 ∷ 0 ∷ 0 ∷ 0 ∷ 0 ∷ 0 ∷ 0 ∷
 abbrev pub admission : Order
 admission = orderOf (2 ∷ 500 ∷ 101 ∷ 0 ∷ 0 ∷ 0 ∷ 0 ∷ 0 ∷ 0 ∷ 0 ∷ 1000 ∷ [])
 
-abbrev pub says : String → Imported → Type 0
-says table result = importOf (text table) ≡ result
+-- a table, by what it shows, and what it imports as
+abbrev pub shown : String → List ℕ → Imported → List ℕ × Imported
+shown what table result = (table, result)
 
-pub record Tables : Type 0 where
-  pub two-orders : says "form,minute,security,quantity\n1,470,0,1\n2,500,101,1000\n" (orders (opening ∷ admission ∷ []))
-  pub other-order : says "quantity,form,security,minute\n1,1,0,470\n1000,2,101,500\n" (orders (opening ∷ admission ∷ []))
-  pub forms-by-name : says "form,minute,security,quantity\nopen day,470,0,1\nadmit,500,101,1000\n" (orders (opening ∷ admission ∷ []))
-  pub spaces-and-returns : says "form, minute, quantity\r\n open day ,\t470, 1\r\n" (orders (opening ∷ []))
-  pub no-last-end : says "form,minute,quantity\n1,470,1" (orders (opening ∷ []))
-  pub byte-order-mark : importOf (mark ++ text "form,minute,quantity\n1,470,1\n") ≡ orders (opening ∷ [])
-  pub names-alone : says "form,minute\n" (orders [])
-  pub empty-lines-last : says "form,minute,quantity\n1,470,1\n\r\n \n\n" (orders (opening ∷ []))
-  pub nothing : says "" (refusedAt noHeader 1 0 noPlace)
-  pub no-names : says "\nform,minute\n" (refusedAt emptyLine 1 0 noPlace)
-  pub one-column-more : says "form,minute,quantity,certificate\n1,470,1,77\n" (refusedAt unknownName 1 4 noPlace)
-  pub another-case : says "Form,minute\n1,470\n" (refusedAt unknownName 1 1 noPlace)
-  pub no-name : says "form,minute,\n1,470,\n" (refusedAt emptyCell 1 3 noPlace)
-  pub name-twice : says "form,minute,form\n1,470,1\n" (refusedAt repeatedName 1 3 noPlace)
-  pub no-minute : says "form,quantity\n1,1\n" (refusedAt minuteMissing 1 0 noPlace)
-  pub quoted-name : says "\"form\",\"minute\"\n1,470\n" (refusedAt quoted 1 1 noPlace)
-  pub one-cell-more : says "form,minute,quantity\n1,470,1\n1,470,1,9\n" (refusedAt tooManyCells 3 4 noPlace)
-  pub one-cell-less : says "form,minute,quantity\n1,470\n" (refusedAt tooFewCells 2 3 quantity)
-  pub empty-line : says "form,minute,quantity\n1,470,1\n\n\n1,470,1\n" (refusedAt emptyLine 3 0 noPlace)
-  pub a-remark : says "form,minute,quantity\n# opening\n1,470,1\n" (refusedAt unknownForm 2 1 0)
-  pub nothing-there : says "form,minute,quantity\n1,470,\n" (refusedAt 5 2 3 quantity)
-  pub nothing-unused : says "form,minute,quantity,amount\n1,470,1,\n" (orders (opening ∷ []))
-  pub no-minute-there : says "form,minute\nclose, \n" (refusedAt emptyCell 2 2 minute)
-  pub a-sign : says "form,minute,quantity\n1,470,-1\n" (refusedAt notANumber 2 3 quantity)
-  pub a-quote : says "form,minute,quantity\n1,470,\"1\"\n" (refusedAt quoted 2 3 quantity)
-  pub a-quoted-form : says "form,minute\n\"close\",470\n" (refusedAt quoted 2 1 0)
-  pub no-such-name : says "form,minute\nopen,470\n" (refusedAt unknownForm 2 1 0)
-  pub below-the-limit : says "form,minute,quantity\n1,470,18446744073709551615\n" (refusedAt 5 2 3 quantity)
-  pub at-the-limit : says "form,minute,quantity\n1,470,18446744073709551616\n" (refusedAt tooLarge 2 3 quantity)
-  pub no-such-form : says "form,minute,quantity\n21,470,1\n" (refusedAt 3 2 1 0)
-  pub unused-field : says "form,minute,quantity,amount\n1,470,1,5\n" (refusedAt 4 2 4 amount)
-  pub used-field-missing : says "form,minute\nadmit,500\n" (refusedAt 5 2 0 security)
+unfoldable pub tables : List (List ℕ × Imported)
+tables =
+    shown "two orders" (text "form,minute,security,quantity\n1,470,0,1\n2,500,101,1000\n") (orders (opening ∷ admission ∷ []))
+    ∷ shown "other order" (text "quantity,form,security,minute\n1,1,0,470\n1000,2,101,500\n") (orders (opening ∷ admission ∷ []))
+    ∷ shown "forms by name" (text "form,minute,security,quantity\nopen day,470,0,1\nadmit,500,101,1000\n") (orders (opening ∷ admission ∷ []))
+    ∷ shown "spaces and returns" (text "form, minute, quantity\r\n open day ,\t470, 1\r\n") (orders (opening ∷ []))
+    ∷ shown "no last end" (text "form,minute,quantity\n1,470,1") (orders (opening ∷ []))
+    ∷ shown "byte order mark" (mark ++ text "form,minute,quantity\n1,470,1\n") (orders (opening ∷ []))
+    ∷ shown "names alone" (text "form,minute\n") (orders [])
+    ∷ shown "empty lines last" (text "form,minute,quantity\n1,470,1\n\r\n \n\n") (orders (opening ∷ []))
+    ∷ shown "nothing" (text "") (refusedAt noHeader 1 0 noPlace)
+    ∷ shown "no names" (text "\nform,minute\n") (refusedAt emptyLine 1 0 noPlace)
+    ∷ shown "one column more" (text "form,minute,quantity,certificate\n1,470,1,77\n") (refusedAt unknownName 1 4 noPlace)
+    ∷ shown "another case" (text "Form,minute\n1,470\n") (refusedAt unknownName 1 1 noPlace)
+    ∷ shown "no name" (text "form,minute,\n1,470,\n") (refusedAt emptyCell 1 3 noPlace)
+    ∷ shown "name twice" (text "form,minute,form\n1,470,1\n") (refusedAt repeatedName 1 3 noPlace)
+    ∷ shown "no minute" (text "form,quantity\n1,1\n") (refusedAt minuteMissing 1 0 noPlace)
+    ∷ shown "quoted name" (text "\"form\",\"minute\"\n1,470\n") (refusedAt quoted 1 1 noPlace)
+    ∷ shown "one cell more" (text "form,minute,quantity\n1,470,1\n1,470,1,9\n") (refusedAt tooManyCells 3 4 noPlace)
+    ∷ shown "one cell less" (text "form,minute,quantity\n1,470\n") (refusedAt tooFewCells 2 3 quantity)
+    ∷ shown "empty line" (text "form,minute,quantity\n1,470,1\n\n\n1,470,1\n") (refusedAt emptyLine 3 0 noPlace)
+    ∷ shown "a remark" (text "form,minute,quantity\n# opening\n1,470,1\n") (refusedAt unknownForm 2 1 0)
+    ∷ shown "nothing there" (text "form,minute,quantity\n1,470,\n") (refusedAt 5 2 3 quantity)
+    ∷ shown "nothing unused" (text "form,minute,quantity,amount\n1,470,1,\n") (orders (opening ∷ []))
+    ∷ shown "no minute there" (text "form,minute\nclose, \n") (refusedAt emptyCell 2 2 minute)
+    ∷ shown "a sign" (text "form,minute,quantity\n1,470,-1\n") (refusedAt notANumber 2 3 quantity)
+    ∷ shown "a quote" (text "form,minute,quantity\n1,470,\"1\"\n") (refusedAt quoted 2 3 quantity)
+    ∷ shown "a quoted form" (text "form,minute\n\"close\",470\n") (refusedAt quoted 2 1 0)
+    ∷ shown "no such name" (text "form,minute\nopen,470\n") (refusedAt unknownForm 2 1 0)
+    ∷ shown "below the limit" (text "form,minute,quantity\n1,470,18446744073709551615\n") (refusedAt 5 2 3 quantity)
+    ∷ shown "at the limit" (text "form,minute,quantity\n1,470,18446744073709551616\n") (refusedAt tooLarge 2 3 quantity)
+    ∷ shown "no such form" (text "form,minute,quantity\n21,470,1\n") (refusedAt 3 2 1 0)
+    ∷ shown "unused field" (text "form,minute,quantity,amount\n1,470,1,5\n") (refusedAt 4 2 4 amount)
+    ∷ shown "used field missing" (text "form,minute\nadmit,500\n") (refusedAt 5 2 0 security)
+    ∷ []
+
+unfoldable pub Tables : Type 0
+Tables = Each (λ table. importOf (table .0) ≡ table .1) tables

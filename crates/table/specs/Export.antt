@@ -3,7 +3,7 @@ use Prim.Native.Nat.{ℕ}
 use mathlib.Core.List.{List, [], _∷_, _++_, map}
 use mathlib.Core.Path.{_≡_}
 use lib.ListN.{take, drop}
-use Rattle.plain.specs.Lists.{first}
+use Rattle.plain.specs.Lists.{first, Each}
 use Rattle.rulebook.specs.Names.{fieldNames, formName}
 use Rattle.rulebook.specs.Record.{fieldsOf, fieldTests}
 use Rattle.rulebook.specs.declared.Order.{Order}
@@ -30,5 +30,4 @@ tableOf all = join comma nameCells ++ (lineFeed ∷ orderLines all)
 
 -- orders that the record writer takes
 unfoldable pub Writable : List Order → Type 0
-Writable [] = Unit
-Writable (order ∷ others) = (first (fieldTests (fieldsOf order)) ≡ 0) × Writable others
+Writable all = Each (λ order. first (fieldTests (fieldsOf order)) ≡ 0) all

@@ -23,8 +23,7 @@ pub data Parsed : Type 0 where
 
 -- why a column's name names no field
 unfoldable pub nameKind : List ℕ → ℕ
-nameKind [] = emptyCell
-nameKind (b ∷ rest) = strange unknownName (b ∷ rest)
+nameKind name = if length name is 0 then emptyCell else strange unknownName name
 
 -- the fields of the columns, behind those of the columns before them
 unfoldable pub headerFrom : List ℕ → List (List ℕ) → Parsed

@@ -1,7 +1,7 @@
 -- The lines of a table: the orders that they say.
-use Prim.Native.Nat.{ℕ, zero, suc, _+_, _*_}
+use Prim.Native.Nat.{ℕ, _+_, _*_}
 use mathlib.Core.List.{List, [], _∷_, _++_}
-use lib.ListN.{length, set, replicate, drop}
+use lib.ListN.{length, getD, set, replicate, drop}
 use Rattle.plain.specs.Lists.{if_then_else_, _is_, within, first}
 use Rattle.rulebook.specs.Field.{form, minute}
 use Rattle.rulebook.specs.Record.{fieldsOf, orderOf, fieldTests, recordOf}
@@ -18,20 +18,18 @@ use Rattle.table.specs.declared.Row.{Row}
 
 -- ---- a cell under its column
 
--- the number of a form that was looked for by its name; 0 where none has it
-unfoldable pub named : ℕ → List ℕ → Number
-named zero name = Number.Refused (strange unknownForm name)
-named (suc n) name = Number.Value (suc n)
-
 -- a form: what starts with a digit is its number, all else its name
 unfoldable pub formIn : List ℕ → Number
-formIn [] = Number.Refused emptyCell
-formIn (b ∷ rest) = if within 48 57 b then numberIn (b ∷ rest) else named (formNumber (b ∷ rest)) (b ∷ rest)
+formIn text =
+    let number = formNumber text in
+    if length text is 0 then Number.Refused emptyCell
+    else if within 48 57 (getD text 0 0) then numberIn text
+    else if number is 0 then Number.Refused (strange unknownForm text)
+    else Number.Value number
 
 -- an empty cell says 0
 unfoldable pub optionalIn : List ℕ → Number
-optionalIn [] = Number.Value 0
-optionalIn (b ∷ rest) = numberIn (b ∷ rest)
+optionalIn text = let number = numberIn text in if length text is 0 then Number.Value 0 else number
 
 -- the number that a cell says under a field's name; under form and minute it may not be empty
 unfoldable pub fieldNumber : (place : ℕ) → List ℕ → Number

@@ -37,16 +37,15 @@ pub record Says (header line : List ℕ) (order : Order) : Type 0 where
   -- and the record reads back as this order
   pub back : readOf (recordOf order) ≡ Read.Order order
 
--- each line has its order, in the same place
-pub data EachSays (header : List ℕ) : List (List ℕ) → List Order → Type 0 where
-  none : EachSays header [] []
-  one : {line : List ℕ} {others : List (List ℕ)} {order : Order} {all : List Order}
-      → Says header line order → EachSays header others all → EachSays header (line ∷ others) (order ∷ all)
+-- two lists, each element of the one with that of the other in the same place
+pub data Along {A B : Type 0} (Fits : A → B → Type 0) : List A → List B → Type 0 where
+  none : Along Fits [] []
+  one : {a : A} {b : B} {rest : List A} {others : List B} → Fits a b → Along Fits rest others → Along Fits (a ∷ rest) (b ∷ others)
 
 -- (a) in each record the field that a column names is the number in that column's cell, and a field without a column is 0
 unfoldable pub NamedFields : Type 0
 NamedFields = (file header : List ℕ) (others : List (List ℕ)) (all : List Order) → linesOf (unmarked file) ≡ header ∷ others
-    → importOf file ≡ orders all → EachSays header (fullLines others) all
+    → importOf file ≡ orders all → Along (Says header) (fullLines others) all
 
 -- (b) a column under a name of its own has the table refused, whatever else stands in it
 unfoldable pub UnknownRefused : Type 0
@@ -63,16 +62,14 @@ module _ {A : Type 0} where
   exchange zero (a ∷ b ∷ rest) = b ∷ a ∷ rest
   exchange (suc k) (a ∷ rest) = a ∷ exchange k rest
 
--- in each line of a table, the first among them, the cells of two neighbouring columns have changed places
-pub data Exchanged (k : ℕ) : List (List ℕ) → List (List ℕ) → Type 0 where
-  none : Exchanged k [] []
-  one : {line other : List ℕ} {lines others : List (List ℕ)} → cells other ≡ exchange k (cells line) → Exchanged k lines others
-      → Exchanged k (line ∷ lines) (other ∷ others)
+-- the cells of two neighbouring columns have changed places
+abbrev pub Exchanged : ℕ → List ℕ → List ℕ → Type 0
+Exchanged k line other = cells other ≡ exchange k (cells line)
 
--- the columns stand in another order: neighbours changed places, one pair after the other
+-- the columns stand in another order: in each line, the first among them, neighbours changed places, one pair after the other
 pub data Rearranged : List (List ℕ) → List (List ℕ) → Type 0 where
   same : {lines : List (List ℕ)} → Rearranged lines lines
-  then : {lines between others : List (List ℕ)} (k : ℕ) → Exchanged k lines between → Rearranged between others → Rearranged lines others
+  then : {lines between others : List (List ℕ)} (k : ℕ) → Along (Exchanged k) lines between → Rearranged between others → Rearranged lines others
 
 -- (c) the order of the columns changes nothing
 unfoldable pub AnyOrder : Type 0
@@ -91,25 +88,21 @@ module _ {A : Type 0} where
   insert (suc k) a [] = a ∷ []
   insert (suc k) a (b ∷ rest) = b ∷ insert k a rest
 
--- in each line there is a cell more, at the same place
-pub data Widened (k : ℕ) : List (List ℕ) → List (List ℕ) → Type 0 where
-  none : Widened k [] []
-  one : {line other : List ℕ} {lines others : List (List ℕ)} (cell : List ℕ) → cells other ≡ insert k cell (cells line) → Widened k lines others
-      → Widened k (line ∷ lines) (other ∷ others)
+-- a line has a cell more, at a place
+pub record Widened (k : ℕ) (line other : List ℕ) : Type 0 where
+  pub cell : List ℕ
+  pub wider : cells other ≡ insert k cell (cells line)
 
--- two lists of orders that differ in one field at most
-pub data Agree (place : ℕ) : List Order → List Order → Type 0 where
-  none : Agree place [] []
-  one : {order other : Order} {all others : List Order}
-      → ((field : ℕ) → (field ≡ place → ⊥) → getD (fieldsOf other) field 0 ≡ getD (fieldsOf order) field 0) → Agree place all others
-      → Agree place (order ∷ all) (other ∷ others)
+-- two orders differ in one field at most
+abbrev pub Agree : (place : ℕ) → Order → Order → Type 0
+Agree place order other = (field : ℕ) → (field ≡ place → ⊥) → getD (fieldsOf other) field 0 ≡ getD (fieldsOf order) field 0
 
 -- (d) one more column under a field's name moves no other field
 unfoldable pub OneColumnMore : Type 0
 OneColumnMore = (k : ℕ) (header header′ name : List ℕ) (lines lines′ : List (List ℕ)) (all all′ : List Order)
-    → cells header′ ≡ insert k name (cells header) → Widened k (fullLines lines) (fullLines lines′)
+    → cells header′ ≡ insert k name (cells header) → Along (Widened k) (fullLines lines) (fullLines lines′)
     → importLines (header ∷ lines) ≡ orders all → importLines (header′ ∷ lines′) ≡ orders all′
-    → Agree (fieldPlace (trim name)) all all′
+    → Along (Agree (fieldPlace (trim name))) all all′
 
 -- ---- what is written
 

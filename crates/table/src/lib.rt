@@ -1,8 +1,4 @@
-// A comma-separated table with named columns, read into orders.
-pub mod blocks;
-pub mod header;
-pub mod orders;
-
+// The types that the definitions of a table are written with. Nothing here runs.
 use rulebook::Order;
 
 // The columns of a table: where they are good, the field's place for each of them; else a kind of refusal and its column.

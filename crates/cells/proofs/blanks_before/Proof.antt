@@ -15,43 +15,24 @@ Inv-loop cell i₀ i = (i ≤ length cell) × (front (drop i cell) ≡ front cel
 abbrev μ-loop : tie.MeasureT-loop
 μ-loop cell i₀ i = length cell - i
 
-loop-holds : tie.Need-loop-holds Inv-loop μ-loop
-loop-holds c = (search needs, refl)
+abbrev turn : tie.After-is-blank Inv-loop μ-loop → tie.At-loop Inv-loop μ-loop
+turn c = c .before .before .before
 
 returns : tie.Need-returns Inv-loop μ-loop
-returns c =
-    let at-is-blank = c .before in
-    let at-loop = at-is-blank .before .before .before in
-    let start = at-loop .before .before in (
-      search needs,
-      front-stop (start .args .cell .now) (at-loop .loop .i) _ (at-loop .loop .inv .1) (search needs)
-          (sym (at-is-blank .is-blank .ensures) ∙ not-true _ (c .if1 .taken)),
-    )
+returns c = (
+  search needs,
+  front-stop _ (turn (c .before) .loop .i) _ (turn (c .before) .loop .inv .1) (search needs) (sym (c .before .is-blank .ensures) ∙ not-true _ (c .if1 .taken)),
+)
 
 loop-again : tie.Need-loop-again Inv-loop μ-loop
-loop-again c =
-    let at-is-blank = c .before in
-    let at-loop = at-is-blank .before .before .before in
-    let start = at-loop .before .before in (
-      search needs,
-      front-on (start .args .cell .now) (at-loop .loop .i) _ (at-loop .loop .inv .1) (search needs)
-          (sym (at-is-blank .is-blank .ensures) ∙ not-false _ (c .if1 .left)),
-    )
-
-returns-2 : tie.Need-returns-2 Inv-loop μ-loop
-returns-2 c = (search needs, front-end (c .before .before .before .args .cell .now) (c .before .loop .i) _ (c .before .loop .inv .1) (search needs))
+loop-again c = (
+  search needs,
+  front-on _ (turn (c .before) .loop .i) _ (turn (c .before) .loop .inv .1) (search needs) (sym (c .before .is-blank .ensures) ∙ not-false _ (c .if1 .left)),
+)
 
 pub blanks-before-spec : {M : Type 1} → statement M
 blanks-before-spec =
     tie.close
     (tie.spec
-    Inv-loop
-    μ-loop
-    loop-holds
-    (λ c. search needs)
-    (λ c κs. search needs)
-    returns
-    (λ c. search needs)
-    (λ c. search needs)
-    loop-again
-    returns-2)
+    Inv-loop μ-loop (λ c. (search needs, refl)) (λ c. search needs) (λ c κs. search needs) returns (λ c. search needs) (λ c. search needs) loop-again
+    (λ c. (search needs, front-end _ (c .before .loop .i) _ (c .before .loop .inv .1) (search needs))))

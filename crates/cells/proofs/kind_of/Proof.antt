@@ -4,11 +4,9 @@ use Rattle.cells.proofs.Bytes.{with-quote, no-quote}
 use Rattle.cells.proofs.kind_of.Statement.{statement}
 use Rattle.cells.proofs.kind_of.Tie as tie
 
-returns : tie.Need-returns
-returns c = with-quote (c .before .before .before .args .kind) _ _ (c .before .end-of .ensures .0) (c .if1 .taken)
-
-returns-2 : tie.Need-returns-2
-returns-2 c = no-quote (c .before .before .before .args .kind) _ _ (c .before .end-of .ensures .0) (c .if1 .left)
-
 pub kind-of-spec : {M : Type 1} → statement M
-kind-of-spec = tie.close (tie.spec (λ c κs. search needs) returns returns-2)
+kind-of-spec =
+    tie.close
+    (tie.spec
+    (λ c κs. search needs) (λ c. with-quote (c .before .before .before .args .kind) _ _ (c .before .end-of .ensures .0) (c .if1 .taken))
+    (λ c. no-quote (c .before .before .before .args .kind) _ _ (c .before .end-of .ensures .0) (c .if1 .left)))

@@ -16,44 +16,24 @@ Inv-loop text end₀ end = (end ≤ length text) × (back (take end text) ≡ ba
 abbrev μ-loop : tie.MeasureT-loop
 μ-loop text end₀ end = end
 
-loop-holds : tie.Need-loop-holds Inv-loop μ-loop
-loop-holds c = (search needs, ap back (take-length _))
+abbrev turn : tie.After-is-blank Inv-loop μ-loop → tie.At-loop Inv-loop μ-loop
+turn c = c .before .before .before
 
 returns : tie.Need-returns Inv-loop μ-loop
-returns c =
-    let at-is-blank = c .before in
-    let at-loop = at-is-blank .before .before .before in
-    let start = at-loop .before .before in (
-      search needs,
-      back-stop (start .args .text .now) (at-loop .loop .end) _ (at-loop .loop .inv .1) (search needs) (search needs)
-          (sym (at-is-blank .is-blank .ensures) ∙ not-true _ (c .if1 .taken)),
-    )
+returns c = (
+  search needs,
+  back-stop _ (turn (c .before) .loop .end) _ (turn (c .before) .loop .inv .1) (search needs) (search needs) (sym (c .before .is-blank .ensures) ∙ not-true _ (c .if1 .taken)),
+)
 
 loop-again : tie.Need-loop-again Inv-loop μ-loop
-loop-again c =
-    let at-is-blank = c .before in
-    let at-loop = at-is-blank .before .before .before in
-    let start = at-loop .before .before in (
-      search needs,
-      back-on (start .args .text .now) (at-loop .loop .end) _ (at-loop .loop .inv .1) (search needs) (search needs)
-          (sym (at-is-blank .is-blank .ensures) ∙ not-false _ (c .if1 .left)),
-    )
-
-returns-2 : tie.Need-returns-2 Inv-loop μ-loop
-returns-2 c = (search needs, back-end (c .before .before .before .args .text .now) (c .before .loop .end) _ (c .before .loop .inv .1) (search needs))
+loop-again c = (
+  search needs,
+  back-on _ (turn (c .before) .loop .end) _ (turn (c .before) .loop .inv .1) (search needs) (search needs) (sym (c .before .is-blank .ensures) ∙ not-false _ (c .if1 .left)),
+)
 
 pub text-end-spec : {M : Type 1} → statement M
 text-end-spec =
     tie.close
     (tie.spec
-    Inv-loop
-    μ-loop
-    loop-holds
-    (λ c. search needs)
-    (λ c. search needs)
-    (λ c κs. search needs)
-    returns
-    (λ c. search needs)
-    (λ c. search needs)
-    loop-again
-    returns-2)
+    Inv-loop μ-loop (λ c. (search needs, ap back (take-length _))) (λ c. search needs) (λ c. search needs) (λ c κs. search needs) returns
+    (λ c. search needs) (λ c. search needs) loop-again (λ c. (search needs, back-end _ (c .before .loop .end) _ (c .before .loop .inv .1) (search needs))))

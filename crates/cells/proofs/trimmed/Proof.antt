@@ -7,9 +7,6 @@ use Rattle.cells.proofs.Bytes.{rest-all}
 use Rattle.cells.proofs.trimmed.Statement.{statement}
 use Rattle.cells.proofs.trimmed.Tie as tie
 
-slice-aggregate-result : tie.Need-slice-aggregate-result
-slice-aggregate-result c = sym (length-take-le _ _ (c .before .text-end .ensures .0))
-
 returns : tie.Need-returns
 unfolding trim
 returns c =
@@ -23,10 +20,5 @@ pub trimmed-spec : {M : Type 1} → statement M
 trimmed-spec =
     tie.close
     (tie.spec
-    (λ c κs. search needs)
-    (λ c. search needs)
-    (λ c. search needs)
-    (λ c. search needs)
-    (λ c κs. search needs)
-    slice-aggregate-result
-    returns)
+    (λ c κs. search needs) (λ c. search needs) (λ c. search needs) (λ c. search needs) (λ c κs. search needs)
+    (λ c. sym (length-take-le _ _ (c .before .text-end .ensures .0))) returns)

@@ -1,0 +1,4 @@
+-- places and names
+mod Naming
+-- the columns, one after the other
+mod Heading

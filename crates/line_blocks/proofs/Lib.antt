@@ -1,0 +1,2 @@
+-- the walk over the lines of a block
+mod Walking

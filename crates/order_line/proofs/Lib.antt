@@ -1,0 +1,6 @@
+-- columns and cells
+mod Naming
+-- the numbers of a line, one after the other
+mod Numbers
+-- a line's order, and its record
+mod Writing

@@ -1,7 +1,0 @@
--- `table::orders::is_digit` meets its contract. Assumes nothing.
-use borrow.Author.Tests.{lt-leb, le-leb}
-use Rattle.table.proofs.orders.is_digit.Statement.{statement}
-use Rattle.table.proofs.orders.is_digit.Tie as tie
-
-pub is-digit-spec : {M : Type 1} → statement M
-is-digit-spec = tie.close (tie.spec (λ c. simp (lt-leb _ _ (c .if1 .taken))) (λ c. simp (le-leb _ _ (c .if1 .left))))
