@@ -102,7 +102,8 @@ loop-less c =
 loop-again : tie.Need-loop-again Inv-loop μ-loop
 loop-again c =
     let p = put (c .before) in
-    (whole-more (roomy (made (p .before))) (p .put-block .ensures .written) (full p (not-false _ (c .if2 .left))), p .put-block .ensures .inside, input-long p, out-long p)
+    let more = full p (not-false _ (c .if2 .left)) in
+    (whole-more (roomy (made (p .before))) (p .put-block .ensures .written) more, p .put-block .ensures .inside, input-long p, out-long p)
 
 returns-3 : tie.Need-returns-3 Inv-loop μ-loop
 returns-3 c =
