@@ -1,65 +1,93 @@
 // Export: writes the records of standard input as a comma-separated table, every field under its name. What it cannot do it tells in one line on
 // standard error.
 ghost use mathlib.Core.Path.{_≡_};
-ghost use Prim.Native.Nat.{_≤_};
-ghost use lib.ListN.{length};
-ghost use Rattle.export.specs.Written.{BLOCK, OUT, NamesWritten, BlockWritten, ReadAndWritten};
+ghost use Prim.Native.Nat.{_+_, _^_, _≤_, _<_};
+ghost use lib.ListN.{length, take};
+ghost use Rattle.export.specs.Written.{BLOCK, OUT, HALF, Emptied, BlockWritten, RecordsWritten, TableWritten};
 
-// Bytes of a block of 160 records, and of their lines.
-const BLOCK: usize = 6400;
+// Bytes of a block of 80 records.
+const BLOCK: usize = 3200;
 
+// Bytes of the output buffer. The lines of a block fit half of it.
 const OUT: usize = 262144;
 
-// More blocks than any input has.
-const LAST: u64 = 1 << 63;
+// More records than any input has.
+const LAST: usize = 1 << 63;
 
-// Writes to standard output; false where it takes no more.
-fn print(bytes: &[u8]) -> bool {
-    streams::print(bytes, b"export: standard output cannot be written")
+// How far the output buffer is filled with lines that are still to be printed, and whether more may follow.
+struct Pending {
+    end: usize,
+    more: bool,
 }
 
-// Writes the first line; false where the output takes no more.
-fn print_names(out: &mut [u8]) -> bool
-    requires { ⌜ length (now out) ≡ OUT ⌝ }
-    ensures { λ r. ⌜ NamesWritten (now (out .entry)) (now (out .exit)) ⌝ }
+// Writes lines to standard output; false where it takes no more.
+fn print(lines: &[u8]) -> bool {
+    streams::print(lines, b"export: standard output cannot be written")
+}
+
+// Prints the lines in the buffer where those of another block might not fit behind them.
+fn make_room(out: &[u8], at: usize) -> Pending
+    requires { ⌜ (length (now out) ≡ OUT) × (at ≤ OUT) ⌝ }
+    ensures { λ r. ⌜ Emptied (now (out .entry)) at r ⌝ }
 {
-    let end = table_lines::put_names(out, 0);
-    print(&out[..end])
+    if at <= 131072 {
+        return Pending {
+            end: at,
+            more: true,
+        };
+    }
+    Pending {
+        end: 0,
+        more: print(&out[..at]),
+    }
 }
 
-// Writes the lines of a block, in one piece; false where the output takes no more.
-fn print_lines(out: &mut [u8], block: &[u8]) -> bool
-    requires { ⌜ (length (now out) ≡ OUT) × (length (now block) ≤ BLOCK) ⌝ }
-    ensures { λ r. ⌜ BlockWritten (now (block .entry)) (now (out .entry)) (now (out .exit)) ⌝ }
-{
-    let end = table_lines::put_records(out, 0, block);
-    print(&out[..end])
-}
-
-// Reads a block and writes its lines; true where more may follow. After a read that failed only the whole records before it are written.
-fn print_block(input: &mut [u8], out: &mut [u8]) -> bool
-    requires { ⌜ (length (now input) ≡ BLOCK) × (length (now out) ≡ OUT) ⌝ }
-    ensures { λ r. ⌜ ReadAndWritten (now (input .exit)) r (now (out .entry)) (now (out .exit)) ⌝ }
+// Reads a block and puts its lines behind those in the buffer; after a read that failed only those of the whole records before it.
+fn put_block(input: &mut [u8], out: &mut [u8], at: usize, records: &mut usize) -> Pending
+    requires { ⌜ (length (now input) ≡ BLOCK) × (length (now out) ≡ OUT) × (at ≤ HALF) × (now records + 80 < 2 ^ 64) ⌝ }
+    ensures { λ r. ⌜
+        BlockWritten (now (input .exit)) (now (records .entry)) (take at (now (out .entry))) r (now (records .exit)) (now (out .exit))
+        ⌝ }
 {
     let filled = streams::fill_records(input, b"export: standard input cannot be read");
     let size = filled.size;
-    if !print_lines(out, &input[..size]) {
-        return false;
+    let end = table_lines::put_records(out, at, &input[..size]);
+    *records = *records + (size + 39) / 40;
+    Pending {
+        end: end,
+        more: filled.more,
     }
-    filled.more
 }
 
-// Block after block.
-fn run(input: &mut [u8], out: &mut [u8])
-    requires { ⌜ (length (now input) ≡ BLOCK) × (length (now out) ≡ OUT) ⌝ }
+// Block after block, behind the lines in the buffer; answers how far it is filled at the end.
+fn put_records(input: &mut [u8], out: &mut [u8], at: usize, records: &mut usize) -> usize
+    requires { ⌜ (length (now input) ≡ BLOCK) × (length (now out) ≡ OUT) × (at ≤ OUT) ⌝ }
+    ensures { λ r. ⌜ RecordsWritten (now (records .entry)) (take at (now (out .entry))) (now (records .exit)) (take r (now (out .exit))) ⌝ }
+    ensures { λ r. ⌜ r ≤ OUT ⌝ }
 {
-    let mut n: u64 = 0;
-    while n < LAST {
-        if !print_block(input, out) {
-            return;
+    let mut end = at;
+    while *records < LAST {
+        let room = make_room(out, end);
+        if !room.more {
+            return 0;
         }
-        n += 1;
+        let pending = put_block(input, out, room.end, records);
+        end = pending.end;
+        if !pending.more {
+            return end;
+        }
     }
+    end
+}
+
+// The first line, then the records' lines; what is left of them in the buffer is printed by the caller.
+fn put_table(input: &mut [u8], out: &mut [u8], records: &mut usize) -> usize
+    requires { ⌜ (length (now input) ≡ BLOCK) × (length (now out) ≡ OUT) ⌝ }
+    ensures { λ r. ⌜ TableWritten (now (records .entry)) (now (records .exit)) (take r (now (out .exit))) ⌝ }
+    ensures { λ r. ⌜ r ≤ OUT ⌝ }
+{
+    let at = table_lines::put_names(out, 0);
+    put_records(input, out, at, records)
 }
 
 // Zeros for a block, and for its lines. The contracts give only the lengths.
@@ -84,7 +112,7 @@ fn main() {
     }
     let mut input = input_buffer();
     let mut out = output_buffer();
-    if print_names(&mut out) {
-        run(&mut input, &mut out);
-    }
+    let mut records: usize = 0;
+    let end = put_table(&mut input, &mut out, &mut records);
+    print(&out[..end]);
 }

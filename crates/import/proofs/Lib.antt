@@ -1,2 +1,2 @@
--- lines in blocks, and the first line
-pub mod Laws
+-- lines that are read block after block
+mod Laws

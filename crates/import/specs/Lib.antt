@@ -1,4 +1,2 @@
--- The buffers, and what the program makes of what it reads.
-pub mod Buffers
-pub mod Blocks
+-- What the program makes of what it reads.
 pub mod Reading

@@ -1,21 +1,16 @@
 // Import: makes records of a table of orders. The file is read twice: first to check it, then to write its records to standard output. What is
 // wrong with it is told in one line on standard error.
-mod blocks;
-mod first;
 mod rows;
+mod tables;
 mod telling;
 
 ghost use mathlib.Core.Path.{_≡_};
 ghost use Prim.Native.Nat.{_≤_};
 ghost use lib.ListN.{length};
-ghost use Rattle.import.specs.Buffers.{INPUT, OUT};
+ghost use Rattle.table_blocks.specs.Buffers.{INPUT, OUT};
 ghost use Rattle.import.specs.Reading.{FileRead};
 
-// Bytes of the input buffer, the last of which is kept for a line feed, and of the records of its lines.
-pub const INPUT: usize = 16384;
-
-pub const BLOCK: usize = 16383;
-
+// Bytes of the records of a buffer's lines.
 const OUT: usize = 327720;
 
 // What a reading came to: a refusal, which was told; the number behind that of the last line; or something failed, which was told.
@@ -33,10 +28,10 @@ pub enum Read {
 }
 
 // Zeros for the lines, and for their records. The contracts give only the lengths.
-fn input_buffer() -> [u8; INPUT]
+fn input_buffer() -> [u8; table_blocks::INPUT]
     ensures { λ r. ⌜ length r ≡ INPUT ⌝ }
 {
-    [0; INPUT]
+    [0; table_blocks::INPUT]
 }
 
 fn output_buffer() -> [u8; OUT]
@@ -46,8 +41,8 @@ fn output_buffer() -> [u8; OUT]
 }
 
 // Opens the file and reads it; where it is to be printed, its records are written.
-fn read_file(file: &[u8], input: &mut [u8], carry: &mut [u8], out: &mut [u8], print: bool) -> Read
-    requires { ⌜ (length (now file) ≤ 4096) × (length (now input) ≡ INPUT) × (length (now carry) ≡ INPUT) × (length (now out) ≡ OUT) ⌝ }
+fn read_file(file: &[u8], input: &mut [u8], out: &mut [u8], print: bool) -> Read
+    requires { ⌜ (length (now file) ≤ 4096) × (length (now input) ≡ INPUT) × (length (now out) ≡ OUT) ⌝ }
     ensures { λ r. ⌜ FileRead r ⌝ }
 {
     let fd = os::open_read(file);
@@ -55,16 +50,16 @@ fn read_file(file: &[u8], input: &mut [u8], carry: &mut [u8], out: &mut [u8], pr
         os::fail(file);
         return Read::Failed;
     }
-    let read = first::read_table(fd, file, input, carry, out, print);
+    let read = tables::read_table(fd, file, input, out, print);
     libc::close(fd);
     read
 }
 
 // The second reading comes to what the first came to, or the file has changed.
-fn write_file(file: &[u8], input: &mut [u8], carry: &mut [u8], out: &mut [u8], lines: u64)
-    requires { ⌜ (length (now file) ≤ 4096) × (length (now input) ≡ INPUT) × (length (now carry) ≡ INPUT) × (length (now out) ≡ OUT) ⌝ }
+fn write_file(file: &[u8], input: &mut [u8], out: &mut [u8], lines: u64)
+    requires { ⌜ (length (now file) ≤ 4096) × (length (now input) ≡ INPUT) × (length (now out) ≡ OUT) ⌝ }
 {
-    let read = read_file(file, input, carry, out, true);
+    let read = read_file(file, input, out, true);
     match read {
         Read::Ended { line } => {
             if line != lines {
@@ -77,12 +72,12 @@ fn write_file(file: &[u8], input: &mut [u8], carry: &mut [u8], out: &mut [u8], l
 }
 
 // Checks the file, and writes its records where nothing is wrong with it.
-fn run(file: &[u8], input: &mut [u8], carry: &mut [u8], out: &mut [u8])
-    requires { ⌜ (length (now file) ≤ 4096) × (length (now input) ≡ INPUT) × (length (now carry) ≡ INPUT) × (length (now out) ≡ OUT) ⌝ }
+fn run(file: &[u8], input: &mut [u8], out: &mut [u8])
+    requires { ⌜ (length (now file) ≤ 4096) × (length (now input) ≡ INPUT) × (length (now out) ≡ OUT) ⌝ }
 {
-    let read = read_file(file, input, carry, out, false);
+    let read = read_file(file, input, out, false);
     match read {
-        Read::Ended { line } => write_file(file, input, carry, out, line),
+        Read::Ended { line } => write_file(file, input, out, line),
         Read::Refused { .. } => (),
         Read::Failed => (),
     }
@@ -100,7 +95,6 @@ fn main() {
         return;
     }
     let mut input = input_buffer();
-    let mut carry = input_buffer();
     let mut out = output_buffer();
-    run(&name[..size], &mut input, &mut carry, &mut out);
+    run(&name[..size], &mut input, &mut out);
 }

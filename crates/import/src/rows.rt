@@ -1,157 +1,66 @@
-// The lines behind the first of a file that does not fit the buffer, block after block.
+// The lines of a table, block after block.
 use crate::Read;
-use crate::blocks;
-use crate::blocks::Converted;
 use crate::telling;
-use cells::kinds;
+use table_blocks::Next;
+use table_blocks::Reading;
 ghost use mathlib.Core.Path.{_≡_};
-ghost use Prim.Native.Nat.{_+_, _^_, _≤_, _<_};
-ghost use lib.ListN.{length, take, drop};
-ghost use Rattle.cells.specs.Cells.{linesOf};
-ghost use Rattle.table.specs.Blocks.{walk, outcome};
-ghost use Rattle.table.specs.Header.{Known};
-ghost use Rattle.import.specs.Buffers.{INPUT, BLOCK, OUT};
-ghost use Rattle.import.specs.Reading.{Says, Goes, Turned, RowsRead, readOf};
+ghost use Prim.Native.Nat.{_≤_};
+ghost use lib.ListN.{length};
+ghost use Rattle.table_blocks.specs.Buffers.{INPUT, BLOCK};
+ghost use Rattle.table_blocks.specs.Blocks.{Given, Goes};
+ghost use Rattle.import.specs.Reading.{ReadOn, RowsRead, readOf};
 
 // More blocks, and more lines, than any file has.
 const LAST: u64 = 1 << 62;
 
-// What a block came to: as `Converted`; and where more may follow, the bytes at the buffer's start that are left of it.
-pub enum Next {
-    Refused {
-        kind: u64,
-        line: u64,
-        column: usize,
-        place: usize,
-    },
-    Ended {
-        line: u64,
-    },
-    More {
-        held: usize,
-        line: u64,
-        empty: u64,
-    },
-    Failed,
-}
-
-// A full buffer: its lines, and its tail moved to its start. A line that fills it is too long.
-fn full(
-    input: &mut [u8],
-    carry: &mut [u8],
-    out: &mut [u8],
-    places: &[usize],
-    line: u64,
-    empty: u64,
-    print: bool,
-) -> Next
-    requires { ⌜
-        Known (now places) × (length (now input) ≡ INPUT) × (length (now carry) ≡ INPUT) × (length (now out) ≡ OUT) × (line < 2 ^ 63)
-        ⌝ }
-    ensures { λ r. ⌜ Goes (now (places .entry)) line empty (take BLOCK (now (input .entry))) (now (input .exit)) r ⌝ }
-{
-    let converted = blocks::convert(&input[..16383], places, line, empty, out, print);
-    match converted {
-        Converted::Refused {
-            kind,
-            line,
-            column,
-            place,
-        } => Next::Refused {
-            kind: kind,
-            line: line,
-            column: column,
-            place: place,
-        },
-        Converted::Failed => Next::Failed,
-        Converted::Passed { used, line, empty } => {
-            if used == 0 {
-                return Next::Refused {
-                    kind: kinds::LONG_LINE,
-                    line: line,
-                    column: 0,
-                    place: 18,
-                };
-            }
-            Next::More {
-                held: blocks::keep(input, carry, used),
-                line: line,
-                empty: empty,
-            }
-        }
+// Writes records to standard output where they are to be printed; false where it takes no more.
+fn put(bytes: &[u8], print: bool) -> bool {
+    if !print {
+        return true;
     }
+    streams::print(bytes, b"import: standard output cannot be written")
 }
 
-// The last bytes, of this size, with a line feed behind them: another empty line does no harm.
-pub fn last(
+// Converts the lines in the buffer, and writes their records.
+fn convert(
     input: &mut [u8],
     out: &mut [u8],
     places: &[usize],
-    from: usize,
-    size: usize,
-    line: u64,
-    empty: u64,
+    reading: Reading,
     print: bool,
 ) -> Next
-    requires { ⌜
-        Known (now places) × (length (now input) ≡ INPUT) × (length (now out) ≡ OUT) × (from ≤ size) × (size ≤ BLOCK) × (line < 2 ^ 63)
-        ⌝ }
-    ensures { λ r. ⌜ Goes (now (places .entry)) line empty (drop from (take size (now (input .entry)))) (now (input .exit)) r ⌝ }
+    requires { ⌜ Given (now places) (now input) (now out) reading ⌝ }
+    ensures { λ r. ⌜ Goes (now (places .entry)) reading (now (input .entry)) (now (input .exit)) r ⌝ }
 {
-    input[size] = 10;
-    let converted = blocks::convert(&input[from..size + 1], places, line, empty, out, print);
-    match converted {
-        Converted::Refused {
-            kind,
-            line,
-            column,
-            place,
-        } => Next::Refused {
-            kind: kind,
-            line: line,
-            column: column,
-            place: place,
-        },
-        Converted::Failed => Next::Failed,
-        Converted::Passed { line, .. } => Next::Ended { line: line },
+    let converted = table_blocks::lines::convert(input, out, places, reading);
+    let wrote = converted.wrote;
+    if !put(&out[..wrote], print) {
+        return Next::Failed;
     }
+    converted.next
 }
 
-// Reads on behind the bytes that are left, and converts what ends there.
-fn turn(
+// Reads on behind the bytes that are left at the buffer's start.
+pub fn read_on(
     fd: i32,
     file: &[u8],
     input: &mut [u8],
-    carry: &mut [u8],
-    out: &mut [u8],
-    places: &[usize],
     held: usize,
     line: u64,
     empty: u64,
-    print: bool,
-) -> Next
-    requires { ⌜
-        Known (now places) × (length (now input) ≡ INPUT) × (length (now carry) ≡ INPUT) × (length (now out) ≡ OUT) × (held ≤ BLOCK) × (line < 2 ^ 63)
-        ⌝ }
-    ensures { λ r. ⌜ Turned (now (places .entry)) line empty (take held (now (input .entry))) (now (input .exit)) r ⌝ }
+) -> Reading
+    requires { ⌜ (length (now input) ≡ INPUT) × (held ≤ BLOCK) ⌝ }
+    ensures { λ r. ⌜ ReadOn (now (input .entry)) held line empty (now (input .exit)) r ⌝ }
 {
     let filled = streams::fill(fd, &mut input[held..16383], file);
-    if filled.more {
-        return full(input, carry, out, places, line, empty, print);
+    Reading {
+        from: 0,
+        size: held + filled.size,
+        more: filled.more,
+        ended: filled.ended,
+        line: line,
+        empty: empty,
     }
-    if filled.ended {
-        return last(
-            input,
-            out,
-            places,
-            0,
-            held + filled.size,
-            line,
-            empty,
-            print,
-        );
-    }
-    Next::Failed
 }
 
 // A refusal is told.
@@ -172,73 +81,29 @@ fn told(file: &[u8], next: Next) -> Read
     }
 }
 
-// The lines behind the first of a file that fits the buffer, where that line ends.
-pub fn all(
-    file: &[u8],
-    input: &mut [u8],
-    out: &mut [u8],
-    places: &[usize],
-    end: usize,
-    size: usize,
-    print: bool,
-) -> Read
-    requires { ⌜
-        (length (now file) ≤ 4096) × Known (now places) × (length (now input) ≡ INPUT) × (length (now out) ≡ OUT) × (end ≤ size) × (size ≤ BLOCK)
-        ⌝ }
-    ensures { λ r. ⌜ Says (outcome (walk (now (places .entry)) 2 0 (linesOf (drop (end + 1) (take size (now (input .entry))))))) r ⌝ }
-{
-    if end == size {
-        return Read::Ended { line: 2 };
-    }
-    told(file, last(input, out, places, end + 1, size, 2, 0, print))
-}
-
-// Block after block, from the second line on.
+// The lines in the buffer, then those of the next block, until the file ends.
 pub fn rows(
     fd: i32,
     file: &[u8],
     input: &mut [u8],
-    carry: &mut [u8],
     out: &mut [u8],
     places: &[usize],
-    first: usize,
+    first: Reading,
     print: bool,
 ) -> Read
-    requires { ⌜
-        (length (now file) ≤ 4096) × Known (now places) × (length (now input) ≡ INPUT) × (length (now carry) ≡ INPUT) × (length (now out) ≡ OUT)
-        × (first ≤ BLOCK)
-        ⌝ }
-    ensures { λ r. ⌜ RowsRead (now (places .entry)) (take first (now (input .entry))) r ⌝ }
+    requires { ⌜ (length (now file) ≤ 4096) × Given (now places) (now input) (now out) first ⌝ }
+    ensures { λ r. ⌜ RowsRead (now (places .entry)) (now (input .entry)) first r ⌝ }
 {
-    let mut held = first;
-    let mut line: u64 = 2;
-    let mut empty: u64 = 0;
+    let mut reading = first;
     let mut turns: u64 = 0;
     while turns < LAST {
-        if LAST <= line {
+        if LAST <= reading.line {
             return Read::Failed;
         }
-        let next = turn(
-            fd,
-            file,
-            input,
-            carry,
-            out,
-            places,
-            held,
-            line,
-            empty,
-            print,
-        );
+        let next = convert(input, out, places, reading, print);
         match next {
-            Next::More {
-                held: h,
-                line: l,
-                empty: e,
-            } => {
-                held = h;
-                line = l;
-                empty = e;
+            Next::More { held, line, empty } => {
+                reading = read_on(fd, file, input, held, line, empty);
                 turns += 1;
             }
             _ => return told(file, next),

@@ -1,6 +1,6 @@
 -- `import::rows::told` meets its contract. Assumes nothing.
 use borrow.Author.Needs.{needs}
-use mathlib.Core.Path.{refl, sym, ap, _∙_}
+use mathlib.Core.Path.{sym, ap, _∙_}
 use Rattle.import.specs.Reading.{readOf}
 use Rattle.import.proofs.rows.told.Statement.{statement}
 use Rattle.import.proofs.rows.told.Tie as tie

@@ -1,0 +1,2 @@
+-- lines of records, block after block
+pub mod Blocks

@@ -1,0 +1,4 @@
+-- lines in blocks
+pub mod Laws
+-- the first line
+mod Heading
