@@ -4,3 +4,4 @@ pub mod ByNumber
 pub mod Walking
 pub mod Complete
 pub mod HeldBack
+pub mod LeftOut
