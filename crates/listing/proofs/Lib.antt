@@ -5,3 +5,5 @@ pub mod Walking
 pub mod Complete
 pub mod HeldBack
 pub mod LeftOut
+pub mod Rows
+pub mod Walks
