@@ -3,14 +3,14 @@ use Prim.Native.Nat.{ℕ, _+_, _*_, _/_, _%_, _^_, _<_}
 use native.Mathlib.Omega.{arith}
 use mathlib.Core.List.{List}
 use mathlib.Core.Path.{_≡_, sym, ap, ap₂, _∙_}
-use Rattle.plain.specs.Lists.{_isNot_, sumBelow}
+use Rattle.plain.specs.Lists.{sumBelow}
 use Rattle.plain.proofs.Sums.{sum-same}
 use Rattle.rulebook.specs.Ledger.{Holdings, Requests, counted}
 use Rattle.rulebook.specs.Premise.{accountCount, requestCount}
 use Rattle.rulebook.specs.declared.Account.{Account}
 use Rattle.book.specs.Keys.{accountLimit, accountOf, requestLimit, memberOf, referenceOf}
 use Rattle.listing.specs.InOrder.{eachBelow}
-use Rattle.listing.specs.Listed.{ifSo, isListed, accountsListed, cashListed, requestsListed}
+use Rattle.listing.specs.Listed.{ifSo, isListed, hasCash, hasOpen, accountsListed, cashListed, requestsListed}
 use Rattle.listing.specs.ByNumber.{accountListed, cashLimit, cashListedAt, requestListed}
 use Rattle.listing.proofs.Below.{each-same, each-digits, sum-digits}
 
@@ -78,7 +78,7 @@ accounts-listed h = sym (by-number (λ a. ifSo (isListed h a) a))
 
 pub requests-listed : (r : Requests) → requestsListed r ≡ eachBelow requestLimit (requestListed r)
 unfolding requestsListed
-requests-listed r = sym (requests-by-number (λ m n. ifSo (r.asked m n .quantity .0 isNot 0) (m, n)))
+requests-listed r = sym (requests-by-number (λ m n. ifSo (hasOpen r (m, n)) (m, n)))
 
 abbrev pub accountCounted : Holdings → ℕ → ℕ
 accountCounted h k = counted (h.balance (accountOf k))
@@ -101,8 +101,8 @@ unfolding cashListed
 cash-listed h =
     sym (each-digits 64 2 (cashListedAt h) ∙ each-same 64 _ _ (λ m p. each-same 2 _ _ (λ c q. of-cash m c q)))
   where
-    of-cash : (m c : ℕ) → c < 2 → cashListedAt h (m * 2 + c) ≡ ifSo (h.cash (m + 1) (c + 1) isNot 0) (m + 1, c + 1)
+    of-cash : (m c : ℕ) → c < 2 → cashListedAt h (m * 2 + c) ≡ ifSo (hasCash h (m + 1, c + 1)) (m + 1, c + 1)
     of-cash m c l =
         let a : (m * 2 + c) / 2 ≡ m = omega arith in
         let b : (m * 2 + c) % 2 ≡ c = omega arith in
-        ap₂ (λ (x y : ℕ). ifSo (h.cash (x + 1) (y + 1) isNot 0) (x + 1, y + 1)) a b
+        ap₂ (λ (x y : ℕ). ifSo (hasCash h (x + 1, y + 1)) (x + 1, y + 1)) a b

@@ -39,6 +39,15 @@ and-false : (x : Bool) → (x && false) ≡ false
 and-false true = refl
 and-false false = refl
 
+-- one that is listed is not empty
+pub has-balance : (h : Holdings) (a : Account) → isListed h a ≡ true → (h.balance a isNot 0) ≡ true
+unfolding isListed
+has-balance h a so = go (heldBack a.typ) so
+  where
+    go : (held : Bool) → (held && h.balance a isNot 0) ≡ true → (h.balance a isNot 0) ≡ true
+    go true e = e
+    go false e = absurd (false≢true e)
+
 -- it is listed where it is not free
 pub listed-or-free : (b : Ledger) → Premise b → (a : Account) → (b.holdings.balance a isNot 0) ≡ true → isListed b.holdings a ≡ not (isFree a.typ)
 unfolding isListed

@@ -4,3 +4,6 @@ pub mod ByNumber
 pub mod Walking
 pub mod Complete
 pub mod HeldBack
+pub mod LeftOut
+pub mod Rows
+pub mod Walks

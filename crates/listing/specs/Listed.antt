@@ -27,14 +27,21 @@ accountsListed h =
     let account : Account = record { security = security; member = member; typ = typ; shareholder = shareholder } in
     ifSo (isListed h account) account
 
+-- a member's cash in a currency is not 0, and a member's request under a reference is open
+abbrev pub hasCash : Holdings → (memberAndCurrency : ℕ × ℕ) → Bool
+hasCash h who = h.cash (who .0) (who .1) isNot 0
+
+abbrev pub hasOpen : Requests → (memberAndReference : ℕ × ℕ) → Bool
+hasOpen r who = r.asked (who .0) (who .1) .quantity .0 isNot 0
+
 -- the members' cash that is not 0, by member and currency
 unfoldable pub cashListed : Holdings → List (ℕ × ℕ)
 cashListed h =
     eachBelow 64 λ m. eachBelow 2 λ c.
-    ifSo (h.cash (m + 1) (c + 1) isNot 0) (m + 1, c + 1)
+    ifSo (hasCash h (m + 1, c + 1)) (m + 1, c + 1)
 
 -- the open requests, by member and reference
 unfoldable pub requestsListed : Requests → List (ℕ × ℕ)
 requestsListed r =
     eachBelow (2 ^ 10) λ member. eachBelow (2 ^ 32) λ reference.
-    ifSo (r.asked member reference .quantity .0 isNot 0) (member, reference)
+    ifSo (hasOpen r (member, reference)) (member, reference)

@@ -1,4 +1,3 @@
--- The handover sheet of a book.
+-- The handover sheet of a book, whole.
 pub mod Page
-pub mod Rows
 pub mod Sheet

@@ -5,14 +5,15 @@ use mathlib.Core.List.{List, _++_}
 use mathlib.Core.Path.{_≡_}
 use Rattle.rulebook.specs.Ledger.{Ledger}
 use Rattle.book.specs.Meaning.{ledgerOf}
-use Rattle.sheet_lines.specs.Written.{inPage}
-use Rattle.sheet_lines.specs.DayLine.{heading, dayLine}
-use Rattle.sheets.specs.Page.{pageHead, pageFoot, dayHead, waitingHead, accountsHead, cashHead, requestsHead, custodyHead, tableFoot}
-use Rattle.sheets.specs.Rows.{waitingRows, accountRows, cashRows, requestRows, custodyRows}
-
--- in a page, rows stand in a table
-unfoldable pub tableOf : (page : Bool) → (head rows : List ℕ) → List ℕ
-tableOf page head rows = inPage page head ++ rows ++ inPage page tableFoot
+use Rattle.text_or_page.specs.Written.{inPage}
+use Rattle.text_or_page.specs.Table.{tableOf}
+use Rattle.sheet_day.specs.DayLine.{heading, dayLine, dayHead}
+use Rattle.sheet_waiting.specs.Rows.{waitingRows, waitingHead}
+use Rattle.sheet_accounts.specs.Rows.{accountRows, accountsHead}
+use Rattle.sheet_cash.specs.Rows.{cashRows, cashHead}
+use Rattle.sheet_requests.specs.Rows.{requestRows, requestsHead}
+use Rattle.sheet_custody.specs.Rows.{custodyRows, custodyHead}
+use Rattle.sheets.specs.Page.{pageHead, pageFoot}
 
 -- the day and what waits
 unfoldable pub firstParts : (page : Bool) → Ledger → List ℕ

@@ -1,6 +1,5 @@
 // The whole sheet.
 use crate::page;
-use crate::tables;
 ghost use Prim.Native.Nat.{_+_, _≤_};
 ghost use lib.ListN.{length};
 ghost use Rattle.book.specs.Meaning.{ledgerOf};
@@ -18,10 +17,10 @@ fn put_first_parts(out: &mut [u8], at: usize, page: bool, book: &[u64]) -> usize
     ensures { λ r. ⌜ r ≤ at + 113000 ⌝ }
 {
     let day = reading::day(book);
-    let mut next = sheet_lines::put_in_page(out, at, page, &page::PAGE_HEAD);
-    next = sheet_lines::put_heading(out, next, page, day.number);
-    next = tables::put_day(out, next, page, book);
-    tables::put_waiting(out, next, page, book)
+    let mut next = text_or_page::put_in_page(out, at, page, &page::PAGE_HEAD);
+    next = sheet_day::put_heading(out, next, page, day.number);
+    next = sheet_day::put_day(out, next, page, book);
+    sheet_waiting::put_waiting(out, next, page, book)
 }
 
 // What is held back, cash, requests for paper, custody.
@@ -29,11 +28,11 @@ fn put_other_parts(out: &mut [u8], at: usize, page: bool, book: &[u64]) -> usize
     requires { ⌜ Kept (now book) × (at + 277000 ≤ length (now out)) ⌝ }
     ensures { λ r. ⌜ Put (now (out .entry)) at (otherParts page (ledgerOf (now (book .entry)))) (now (out .exit)) r ⌝ }
 {
-    let mut next = tables::put_accounts(out, at, page, book);
-    next = tables::put_cash(out, next, page, book);
-    next = tables::put_requests(out, next, page, book);
-    next = tables::put_custody(out, next, page, book);
-    sheet_lines::put_in_page(out, next, page, &page::PAGE_FOOT)
+    let mut next = sheet_accounts::put_accounts(out, at, page, book);
+    next = sheet_cash::put_cash(out, next, page, book);
+    next = sheet_requests::put_requests(out, next, page, book);
+    next = sheet_custody::put_custody(out, next, page, book);
+    text_or_page::put_in_page(out, next, page, &page::PAGE_FOOT)
 }
 
 // The sheet of a book: as a page, or as text.

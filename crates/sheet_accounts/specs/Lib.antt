@@ -1,0 +1,3 @@
+-- The accounts whose shares are pledged, blocked or in transit (RULES 18.5).
+pub mod Line
+pub mod Rows

@@ -1,0 +1,2 @@
+-- The heading and the day.
+pub mod DayLine

@@ -1,0 +1,2 @@
+-- A waiting item's line.
+pub mod ItemLine

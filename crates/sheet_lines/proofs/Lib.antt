@@ -1,2 +1,0 @@
--- The laws of a sheet's lines.
-pub mod AsPrinted

@@ -1,0 +1,3 @@
+-- The open requests for paper (RULES 18.7).
+pub mod Line
+pub mod Rows

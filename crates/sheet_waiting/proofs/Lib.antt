@@ -1,0 +1,2 @@
+-- The laws of the waiting items.
+pub mod Nobody

@@ -1,0 +1,2 @@
+-- The waiting items (RULES 18.4).
+pub mod Rows
