@@ -16,10 +16,11 @@ copy() {
     cp -R Cargo.toml Cargo.lock reference boundary compare standin table "$work/$1/"
 }
 
-# build: the stand-in from the copy. A slip may leave a name unused, and changes a few lines, so only what they touch is compiled again.
+# build: the stand-in from the copy; with --release one for long lists. A slip may leave a name unused, and changes a few lines, so only what they touch
+# is compiled again.
 build() {
     (cd "$work/source" &&
-        CARGO_INCREMENTAL=1 RUSTFLAGS='-A warnings' cargo --offline build --quiet --release -p standin --target-dir "$work/build")
+        CARGO_INCREMENTAL=1 RUSTFLAGS='-A warnings' cargo --offline build --quiet "$@" -p standin --target-dir "$work/build")
 }
 
 # build_table: the same for tables, where little is computed.
@@ -28,14 +29,16 @@ build_table() {
 }
 
 copy source
-build
+build --release
 copy table-source
 DEPOSITORY_LIB=$work/build/release/libstandin.so \
     cargo --offline build --quiet --release -p compare -p table --target-dir "$work/compare"
 
-# try: runs the comparison with the stand-in built last.
+# try: runs the comparison with the stand-in built last, in that profile.
 try() {
-    LD_LIBRARY_PATH=$work/build/release "$work/compare/release/compare" "$@" > "$work/output" 2>&1
+    profile=$1
+    shift
+    LD_LIBRARY_PATH=$work/build/$profile "$work/compare/release/compare" "$@" > "$work/output" 2>&1
 }
 
 # try_table: runs the trial of tables in the same way, where a drawn table must show the slip.
@@ -47,13 +50,14 @@ try_table() {
 
 # try_ledger: most slips show in a short list.
 try_ledger() {
-    try --replay 'busy trading' 1 5000 && try --seed 1
+    try debug --replay 'busy trading' 1 5000 && { build --release; try release --seed 1; }
 }
 
-# slip: the stand-in with a slip.
+# slip: the stand-in with a slip. The patch is taken out again before the next, so that only what either touches is compiled.
 slip() {
-    copy source
+    if [ -n "${last:-}" ]; then patch --quiet --reverse --directory="$work/source" -p1 < "slips/$last.patch"; fi
     patch --quiet --directory="$work/source" -p1 < "slips/$1.patch"
+    last=$1
     build
 }
 
@@ -66,7 +70,8 @@ slip_table() {
 
 if [ $# -eq 0 ]; then
     echo "unchanged stand-ins:"
-    try --replay 'busy trading' 1 5000 || { cat "$work/output"; exit 1; }
+    build
+    try debug --replay 'busy trading' 1 5000 || { cat "$work/output"; exit 1; }
     echo "    $(tail -n 1 "$work/output")"
     build_table
     try_table || { cat "$work/output"; exit 1; }
