@@ -1,5 +1,5 @@
 -- What the program makes of what it reads. No contract can say what the C library reads or writes: the buffers and the count of records are what these
--- speak of. `printed` are bytes that have left the output buffer.
+-- speak of. `printed` are bytes that have left the output buffer; that the system wrote them no contract can say.
 use Prim.Native.Nat.{ℕ, _+_, _≤_}
 use mathlib.Core.Bool.{true}
 use mathlib.Core.List.{List, _++_}

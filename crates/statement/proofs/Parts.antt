@@ -9,7 +9,7 @@ use Rattle.book.specs.Stored.{Kept}
 use Rattle.book.specs.Meaning.{ledgerOf}
 use Rattle.file.specs.Records.{recordsOf}
 use Rattle.file.proofs.Walking.{no-records, records-append}
-use Rattle.printing.specs.Printed.{Lent, lent}
+use Rattle.printing.specs.Printed.{lent}
 use Rattle.statements.specs.Stated.{statementLines, PartPut, RecordsStated}
 use Rattle.statements.specs.declared.calls.Part.{Part}
 use Rattle.statements.proofs.Pieces.{stated-nothing, part-stated, stated-printed, stated-more}

@@ -4,7 +4,7 @@ use native.Mathlib.Omega.{arith}
 use native.Mathlib.Numerals.{add-one}
 use mathlib.Core.Bool.{Bool, true, false}
 use mathlib.Core.List.{List, [], _∷_, _++_, append-nil}
-use mathlib.Core.Path.{_≡_, refl, sym, ap, _∙_}
+use mathlib.Core.Path.{_≡_, refl, sym, ap, subst, _∙_}
 use lib.Dec.{eqb, ltb}
 use lib.ListN.{length, take, drop, set, length-append, length-drop, length-set}
 use lib.Seq.{drop-append-le, drop-drop, take-add, take-suc-set, drop-at, length-take-le}
@@ -19,9 +19,10 @@ use Rattle.table.specs.Theorems.{InBlocks, WalkInBlocks, RoomEnough}
 use Rattle.table.proofs.InBlocks.{in-blocks, walk-in-blocks, room-enough}
 use Rattle.cells.specs.Kinds.{longLine}
 use Rattle.table.specs.Lines.{filled}
-use Rattle.table_blocks.specs.Blocks.{Given, inside, ending, Ordered, Continues, Goes, recordBytes, Recorded}
+use Rattle.table_blocks.specs.Blocks.{Given, inside, ending, Ordered, Continues, refusedAs, Goes, recordBytes, Recorded}
 use Rattle.table_blocks.specs.declared.Reading.{Reading}
 use Rattle.table_blocks.specs.declared.Next.{Next}
+use Rattle.table_blocks.specs.declared.Converted.{Converted}
 
 -- ---- what a walk came to, by the code's answer
 
@@ -233,6 +234,14 @@ module _ {places : List ℕ} {reading : Reading} {block : List ℕ} {checked : C
       let p = passed-at used line empty wrote e in
       let most = wrote-fits places (reading .line) (reading .empty) block wrote (p .few) in
       record { size = p .size; fits = omega arith; contents = t .contents }
+
+-- the code's answer is a refusal
+pub as-refused : (places : List ℕ) (reading : Reading) (input input′ block out out′ : List ℕ) (r : Converted) {kind line column place wrote : ℕ}
+    → r ≡ refusedAs kind line column place wrote
+    → Goes places reading input input′ (Next.Refused kind line column place) × Recorded places reading block wrote out out′
+    → Goes places reading input input′ (r .next) × Recorded places reading block (r .wrote) out out′
+as-refused places reading input input′ block out out′ r e g =
+    subst (λ (x : Converted). Goes places reading input input′ (x .next) × Recorded places reading block (x .wrote) out out′) (sym e) g
 
 -- a full buffer
 module _ (places : List ℕ) (reading : Reading) (input out out′ : List ℕ) (checked : Checked) (given : Given places input out reading)

@@ -16,6 +16,7 @@ use Rattle.table.specs.Blocks.Walked.{stopped, reached}
 use Rattle.table_blocks.specs.Buffers.{INPUT, BLOCK, OUT}
 use Rattle.table_blocks.specs.declared.Reading.{Reading}
 use Rattle.table_blocks.specs.declared.Next.{Next}
+use Rattle.table_blocks.specs.declared.Converted.{Converted}
 
 -- what is lent
 pub record Given (places input out : List ℕ) (reading : Reading) : Type 0 where
@@ -32,6 +33,10 @@ inside reading input = drop (reading .from) (take (reading .size) input)
 
 abbrev pub ending : Reading → List ℕ → List ℕ
 ending reading input = inside reading input ++ (lineFeed ∷ [])
+
+-- a refusal, and the bytes that were written before it
+abbrev pub refusedAs : (kind line column place wrote : ℕ) → Converted
+refusedAs kind line column place wrote = record { next = Next.Refused kind line column place; wrote = wrote }
 
 -- lines say orders
 pub record Ordered (imported : Imported) : Type 0 where

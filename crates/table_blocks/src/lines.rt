@@ -8,7 +8,7 @@ ghost use mathlib.Core.Bool.{false};
 ghost use mathlib.Core.Path.{_≡_};
 ghost use Prim.Native.Nat.{_+_, _≤_};
 ghost use lib.ListN.{length, take, drop};
-ghost use Rattle.table_blocks.specs.Blocks.{Given, Goes, Recorded, Written, inside, ending};
+ghost use Rattle.table_blocks.specs.Blocks.{Given, Goes, Recorded, Written, inside, ending, refusedAs};
 
 // Moves so many bytes from a place on to the start of the buffer.
 fn move_down(input: &mut [u8], from: usize, count: usize)
@@ -19,6 +19,20 @@ fn move_down(input: &mut [u8], from: usize, count: usize)
     while i < count {
         input[i] = input[from + i];
         i += 1;
+    }
+}
+
+fn refused(kind: u64, line: u64, column: usize, place: usize, wrote: usize) -> Converted
+    ensures { λ r. ⌜ r ≡ refusedAs kind line column place wrote ⌝ }
+{
+    Converted {
+        next: Next::Refused {
+            kind: kind,
+            line: line,
+            column: column,
+            place: place,
+        },
+        wrote: wrote,
     }
 }
 
@@ -43,15 +57,7 @@ fn full(input: &mut [u8], out: &mut [u8], places: &[usize], reading: Reading) ->
             line,
             column,
             place,
-        } => Converted {
-            next: Next::Refused {
-                kind: kind,
-                line: line,
-                column: column,
-                place: place,
-            },
-            wrote: 0,
-        },
+        } => refused(kind, line, column, place, 0),
         Checked::Passed {
             used,
             line,
@@ -60,15 +66,7 @@ fn full(input: &mut [u8], out: &mut [u8], places: &[usize], reading: Reading) ->
         } => {
             let behind = from + used;
             if behind == 0 {
-                return Converted {
-                    next: Next::Refused {
-                        kind: kinds::LONG_LINE,
-                        line: line,
-                        column: 0,
-                        place: 18,
-                    },
-                    wrote: wrote,
-                };
+                return refused(kinds::LONG_LINE, line, 0, 18, wrote);
             }
             let held = size - behind;
             move_down(input, behind, held);
@@ -106,15 +104,7 @@ fn last(input: &mut [u8], out: &mut [u8], places: &[usize], reading: Reading) ->
             line,
             column,
             place,
-        } => Converted {
-            next: Next::Refused {
-                kind: kind,
-                line: line,
-                column: column,
-                place: place,
-            },
-            wrote: 0,
-        },
+        } => refused(kind, line, column, place, 0),
         Checked::Passed { line, wrote, .. } => Converted {
             next: Next::Ended { line: line },
             wrote: wrote,

@@ -1,7 +1,9 @@
 -- `desk::print_answers` meets its contract: the lines of a block end inside the buffer. Assumes nothing.
 use borrow.Author.Needs.{needs}
 use native.Mathlib.Omega.{arith}
+use Prim.Native.Nat.{_≤_}
 use mathlib.Core.Path.{sym}
+use lib.ListN.{length}
 use lib.Seq.{length-take-le}
 use Rattle.desk.proofs.print_answers.Statement.{statement}
 use Rattle.desk.proofs.print_answers.Tie as tie
@@ -12,16 +14,22 @@ put-block-requires c κs =
     let known = lent .before .before .before .before .pre in
     (known .0, omega (arith, known .1), known .2, known .3)
 
-slice-aggregate-print : tie.Need-slice-aggregate-print
-slice-aggregate-print c =
-    let printed = c .before .before .before .before in
-    let put = printed .before .before .before .put-block in
-    let lines = put .ensures .answered .lines in
-    sym (length-take-le _ _ (omega (arith, lines .room, lines .place, put .kept .0)))
+-- the lines end inside the buffer
+ends : (c : tie.After-put-block) → c .put-block .result ≤ length (c .put-block .last .0)
+ends c =
+    let lines = c .put-block .ensures .answered .lines in
+    omega (arith, lines .room, lines .place, c .put-block .kept .0)
+
+abbrev put : tie.After-slice-known6 → tie.After-put-block
+put c = c .before .before .before .before .before .before
+
+abbrev printed : tie.After-print → tie.After-put-block
+printed c = put (c .before .before .before)
 
 pub print-answers-spec : {M : Type 1} → statement M
 print-answers-spec =
     tie.close
     (tie.spec
-    put-block-requires (λ c. search needs) slice-aggregate-print (λ c. search needs) (λ c κs. search needs)
-    (λ c. search needs) (λ c. search needs) (λ c. search needs) (λ c. search needs))
+    put-block-requires (λ c. ends (put c)) (λ c. sym (length-take-le _ _ (ends (put (c .before))))) (λ c. search needs) (λ c κs. search needs)
+    (λ c. printed c .put-block .kept .0) (λ c. printed c .put-block .kept .1 .1 .0) (λ c. printed c .put-block .kept .1 .1 .1 .1 .0)
+    (λ c. record { end = printed c .put-block .result; put = printed c .put-block .ensures }))

@@ -2,8 +2,8 @@
 use borrow.Author.Needs.{needs}
 use native.Mathlib.Omega.{arith}
 use mathlib.Core.Bool.{false≢true}
-use mathlib.Core.Path.{sym, _∙_}
-use lib.ListN.{length-take}
+use mathlib.Core.Path.{_≡_, sym, _∙_}
+use lib.ListN.{length, length-take}
 use lib.Seq.{length-take-le}
 use Rattle.printing.proofs.Blocks.{block-called}
 use Rattle.desk.proofs.print_block.Statement.{statement}
@@ -22,6 +22,31 @@ printed c = c .before .before .before .before .before .before
 
 abbrev ended : tie.After-slice-known9 → tie.Else1
 ended c = c .before .before .before .before .before .before
+
+-- the lines of the block, from behind the custody lines, and where more may follow
+abbrev custody : tie.After-slice-known9 → tie.After-print-answers
+custody c = printed (ended c .before)
+
+abbrev more : tie.Else2 → tie.After-print-answers
+more c = printed (c .before .before)
+
+-- ---- the lengths of the buffers, behind the lines of the block
+
+module _ (c : tie.After-print-answers) where
+  abbrev start : tie.Start
+  start = lent (filled (c .before .before))
+
+  book-long : length (c .print-answers .last .1 .1 .0) ≡ length (start .args .book .now)
+  book-long = c .print-answers .kept .1 .1 .0
+
+  area-long : length (c .print-answers .last .1 .1 .1 .1 .0) ≡ length (start .args .area .now)
+  area-long = c .print-answers .kept .1 .1 .1 .1 .0
+
+  input-long : length (filled (c .before .before) .fill-records .last .0) ≡ length (start .args .input .now)
+  input-long = filled (c .before .before) .fill-records .kept .0
+
+  out-long : length (c .print-answers .last .0) ≡ length (start .args .out .now)
+  out-long = c .print-answers .kept .0
 
 -- ---- needs
 
@@ -54,7 +79,7 @@ returns c =
 
 returns-2 : tie.Need-returns-2
 returns-2 c =
-    let called = printed (ended c .before) in
+    let called = custody c in
     let fill = filled (called .before .before) in
     record {
       size = fill .fill-records .result .size;
@@ -64,7 +89,7 @@ returns-2 c =
 
 returns-3 : tie.Need-returns-3
 returns-3 c =
-    let called = printed (c .before .before) in
+    let called = more c in
     let fill = filled (called .before .before) in
     record {
       size = fill .fill-records .result .size;
@@ -77,7 +102,9 @@ print-block-spec =
     tie.close
     (tie.spec
     (λ c. search needs) (λ c κs. search needs) (λ c. search needs) slice-aggregate-print-answers print-answers-requires
-    (λ c. search needs) (λ c. search needs) (λ c. search needs) (λ c. search needs) returns
+    (λ c. book-long (printed (c .before))) (λ c. area-long (printed (c .before))) (λ c. input-long (printed (c .before)))
+    (λ c. out-long (printed (c .before))) returns
     print-custody-requires
-    (λ c. search needs) (λ c. search needs) (λ c. search needs) (λ c. search needs) returns-2
-    (λ c. search needs) (λ c. search needs) (λ c. search needs) (λ c. search needs) returns-3)
+    (λ c. book-long (custody c)) (λ c. area-long (custody c)) (λ c. input-long (custody c))
+    (λ c. c .before .before .print-custody .kept .0 ∙ out-long (custody c)) returns-2
+    (λ c. book-long (more c)) (λ c. area-long (more c)) (λ c. input-long (more c)) (λ c. out-long (more c)) returns-3)

@@ -1,6 +1,5 @@
 -- `desk::run` meets its contract: what was read so far are whole records, called as one file. What is left of the numbers falls at each turn.
 -- Assumes nothing.
-use borrow.Author.Needs.{needs}
 use borrow.Author.Tests.{not-false}
 use native.Mathlib.Omega.{arith}
 use mathlib.Core.List.{List, [], _++_}
@@ -73,6 +72,20 @@ returns c =
     let p = printed (c .before) in
     record { file = _; called = more (turn (p .before) .loop .inv .0) (p .print-block .ensures .called) }
 
+-- the lengths of the buffers, one block more
+module _ (c : tie.After-print-block Inv-loop μ-loop) where
+  book-long : length (c .print-block .last .0) ≡ length (start (turn (c .before)) .args .book .now)
+  book-long = c .print-block .kept .0 ∙ turn (c .before) .loop .inv .1
+
+  area-long : length (c .print-block .last .1 .0) ≡ length (start (turn (c .before)) .args .area .now)
+  area-long = c .print-block .kept .1 .0 ∙ turn (c .before) .loop .inv .2
+
+  input-long : length (c .print-block .last .1 .1 .0) ≡ length (start (turn (c .before)) .args .input .now)
+  input-long = c .print-block .kept .1 .1 .0 ∙ turn (c .before) .loop .inv .3
+
+  out-long : length (c .print-block .last .1 .1 .1 .0) ≡ length (start (turn (c .before)) .args .out .now)
+  out-long = c .print-block .kept .1 .1 .1 .0 ∙ turn (c .before) .loop .inv .4
+
 -- the block is full where the loop goes on
 full :
     (c : tie.Else1 Inv-loop μ-loop) → length (take (printed (c .before) .print-block .ensures .size) (printed (c .before) .print-block .last .1 .1 .0))
@@ -80,7 +93,7 @@ full :
 full c =
     let p = printed (c .before) in
     let at-loop = turn (p .before) in
-    block-size _ _ (p .print-block .kept .1 .1 .0 ∙ at-loop .loop .inv .3 ∙ start at-loop .pre .1) (p .print-block .ensures .whole (not-false _ (c .if1 .left)))
+    block-size _ _ (input-long p ∙ start at-loop .pre .1) (p .print-block .ensures .whole (not-false _ (c .if1 .left)))
 
 loop-less : tie.Need-loop-less Inv-loop μ-loop
 loop-less c =
@@ -92,15 +105,14 @@ loop-again : tie.Need-loop-again Inv-loop μ-loop
 loop-again c =
     let p = printed (c .before) in
     let inv = turn (p .before) .loop .inv in
-    let kept = p .print-block .kept in
     let w = inv .0 in
     let both : length (w .file ++ take (p .print-block .ensures .size) (p .print-block .last .1 .1 .0)) % 40 ≡ 0 =
     omega (arith, w .whole, full c, length-append (w .file) (take (p .print-block .ensures .size) (p .print-block .last .1 .1 .0))) in (
       record { file = _; whole = both; called = more w (p .print-block .ensures .called) },
-      kept .0 ∙ inv .1,
-      kept .1 .0 ∙ inv .2,
-      kept .1 .1 .0 ∙ inv .3,
-      kept .1 .1 .1 .0 ∙ inv .4,
+      book-long p,
+      area-long p,
+      input-long p,
+      out-long p,
     )
 
 returns-2 : tie.Need-returns-2 Inv-loop μ-loop
@@ -110,5 +122,7 @@ pub run-spec : {M : Type 1} → statement M
 run-spec =
     tie.close
     (tie.spec
-    Inv-loop μ-loop loop-holds print-block-requires (λ c. search needs) (λ c. search needs) (λ c. search needs) (λ c. search needs)
-    returns loop-less loop-again (λ c. search needs) (λ c. search needs) (λ c. search needs) (λ c. search needs) returns-2)
+    Inv-loop μ-loop loop-holds print-block-requires
+    (λ c. book-long (printed (c .before))) (λ c. area-long (printed (c .before))) (λ c. input-long (printed (c .before)))
+    (λ c. out-long (printed (c .before))) returns loop-less loop-again
+    (λ c. c .before .loop .inv .1) (λ c. c .before .loop .inv .2) (λ c. c .before .loop .inv .3) (λ c. c .before .loop .inv .4) returns-2)

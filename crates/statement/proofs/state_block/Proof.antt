@@ -14,6 +14,12 @@ start c = let behind = c .before .before .before .before .before .before in behi
 abbrev filled : tie.After-state-file-arg4 → tie.After-fill-records
 filled c = c .before .before .before .before .before .before
 
+abbrev lined : tie.After-slice-known8 → tie.After-state-file
+lined c = c .before .before .before .before .before .before
+
+abbrev called : tie.After-struct-known2 → tie.After-state-file
+called c = lined (c .before .before)
+
 slice-aggregate-state-file : tie.Need-slice-aggregate-state-file
 slice-aggregate-state-file c =
     let fill = filled c .fill-records in
@@ -27,8 +33,7 @@ state-file-requires c κs =
 
 returns : tie.Need-returns
 returns c =
-    let behind = c .before .before .before .before .before .before in
-    let stated = behind .before .before in
+    let stated = called c in
     let fill = filled (stated .before .before) in
     let f = stated .state-file .ensures in
     record {
@@ -42,4 +47,5 @@ state-block-spec =
     tie.close
     (tie.spec
     (λ c. search needs) (λ c κs. search needs) (λ c. search needs) slice-aggregate-state-file state-file-requires
-    (λ c. search needs) (λ c. search needs) (λ c. search needs) (λ c. search needs) returns)
+    (λ c. called c .state-file .kept .1 .1 .1 .0) (λ c. called c .state-file .kept .1 .1 .1 .1 .1 .0)
+    (λ c. filled (called c .before .before) .fill-records .kept .0) (λ c. called c .state-file .kept .0) returns)

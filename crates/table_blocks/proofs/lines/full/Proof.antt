@@ -2,7 +2,7 @@
 use borrow.Author.Needs.{needs}
 use native.Mathlib.Omega.{arith}
 use Prim.Native.Nat.{_+_, _≤_}
-use Rattle.table_blocks.proofs.Laws.{full-refused, full-long, used-most, full-more}
+use Rattle.table_blocks.proofs.Laws.{as-refused, full-refused, full-long, used-most, full-more}
 use Rattle.table_blocks.proofs.lines.full.Statement.{statement}
 use Rattle.table_blocks.proofs.lines.full.Tie as tie
 
@@ -31,13 +31,17 @@ move-down-requires c κs =
 
 returns : tie.Need-returns
 returns c =
-    let w = checked (c .before) in
-    full-long _ _ _ _ _ _ (start w .pre .0) (w .convert-block .ensures .0) (w .convert-block .ensures .1) _ _ _ _ (c .before .before .checked2 .given .1) _
+    let found = c .before .before in
+    let w = checked found in
+    as-refused _ _ _ _ _ _ _ _ (c .refused2 .ensures)
+    (full-long _ _ _ _ _ _ (start w .pre .0) (w .convert-block .ensures .0) (w .convert-block .ensures .1) _ _ _ _ (found .before .checked2 .given .1) _)
 
 returns-2 : tie.Need-returns-2
 returns-2 c =
-    let w = c .before .before .before .before .before in
-    full-refused _ _ _ _ _ _ (start w .pre .0) (w .convert-block .ensures .0) (w .convert-block .ensures .1) _ _ _ _ _ (c .before .checked .given .1)
+    let found = c .before .before in
+    let w = found .before .before .before .before in
+    as-refused _ _ _ _ _ _ _ _ (c .refused .ensures)
+    (full-refused _ _ _ _ _ _ (start w .pre .0) (w .convert-block .ensures .0) (w .convert-block .ensures .1) _ _ _ _ _ (found .checked .given .1))
 
 returns-3 : tie.Need-returns-3
 returns-3 c =
@@ -51,7 +55,7 @@ pub full-spec : {M : Type 1} → statement M
 full-spec =
     tie.close
     (tie.spec
-    (λ c. search needs) (λ c. search needs) (λ c. search needs) (λ c κs. search needs) (λ c. search needs) (λ c. search needs)
-    (λ c. omega (arith, most c)) (λ c. search needs) (λ c. search needs) returns
+    (λ c. search needs) (λ c. search needs) (λ c. search needs) (λ c κs. search needs) (λ c. search needs) (λ c κs. search needs) (λ c. search needs)
+    (λ c. omega (arith, most c)) (λ c κs. search needs) (λ c. search needs) (λ c. search needs) returns
     (λ c. omega (arith, most (c .before))) move-down-requires (λ c. search needs) (λ c. search needs) returns-2
     (λ c. search needs) (λ c. search needs) returns-3)

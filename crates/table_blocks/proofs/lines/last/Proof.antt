@@ -2,7 +2,7 @@
 use borrow.Author.Needs.{needs}
 use native.Mathlib.Omega.{arith}
 use lib.ListN.{length-set}
-use Rattle.table_blocks.proofs.Laws.{last-refused, last-ended}
+use Rattle.table_blocks.proofs.Laws.{as-refused, last-refused, last-ended}
 use Rattle.table_blocks.proofs.lines.last.Statement.{statement}
 use Rattle.table_blocks.proofs.lines.last.Tie as tie
 
@@ -21,8 +21,10 @@ part-end c =
 
 returns : tie.Need-returns
 returns c =
-    let w = c .before .before .before .before .before in
-    last-refused _ _ _ _ _ _ (start w .pre) (w .convert-block .ensures .0) (w .convert-block .ensures .1) _ _ _ _ _ (c .before .checked .given .1)
+    let found = c .before .before in
+    let w = found .before .before .before .before in
+    as-refused _ _ _ _ _ _ _ _ (c .refused .ensures)
+    (last-refused _ _ _ _ _ _ (start w .pre) (w .convert-block .ensures .0) (w .convert-block .ensures .1) _ _ _ _ _ (found .checked .given .1))
 
 returns-2 : tie.Need-returns-2
 returns-2 c =
@@ -34,4 +36,4 @@ last-spec =
     tie.close
     (tie.spec
     (λ c. search needs) (λ c. search needs) (λ c. search needs) (λ c. search needs) part-end (λ c κs. search needs)
-    (λ c. search needs) (λ c. search needs) (λ c. search needs) (λ c. search needs) returns (λ c. search needs) (λ c. search needs) returns-2)
+    (λ c. search needs) (λ c κs. search needs) (λ c. search needs) (λ c. search needs) (λ c. search needs) returns (λ c. search needs) (λ c. search needs) returns-2)
