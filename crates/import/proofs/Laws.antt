@@ -14,11 +14,11 @@ use Rattle.table.specs.Lines.Imported.{refusedAt}
 use Rattle.table.specs.Blocks.{Walked, having, walk, outcome}
 use Rattle.table.specs.Blocks.Walked.{stopped, reached}
 use Rattle.table.proofs.Walking.{having-none, having-both}
-use Rattle.table_blocks.specs.First.{FirstRead}
-use Rattle.table_blocks.specs.declared.first.First.{First}
-use Rattle.table_blocks.specs.Blocks.{inside, Ordered, Continues, Goes}
-use Rattle.table_blocks.specs.declared.Reading.{Reading}
-use Rattle.table_blocks.specs.declared.Next.{Next}
+use Rattle.table_buffer.specs.First.{FirstRead}
+use Rattle.table_buffer.specs.declared.first.First.{First}
+use Rattle.table_buffer.specs.Blocks.{inside, Ordered, Continues, Goes}
+use Rattle.table_buffer.specs.declared.Reading.{Reading}
+use Rattle.table_buffer.specs.declared.Next.{Next}
 use Rattle.import.specs.Reading.{Says, ReadOn, RowsRead, FileRead, readOf}
 use Rattle.import.specs.declared.Read.{Read}
 

@@ -10,10 +10,10 @@ use Rattle.table.specs.Lines.{Imported}
 use Rattle.table.specs.Lines.Imported.{refusedAt}
 use Rattle.table.specs.Import.{importOf}
 use Rattle.table.specs.Blocks.{walk, outcome}
-use Rattle.table_blocks.specs.Buffers.{BLOCK}
-use Rattle.table_blocks.specs.Blocks.{inside, Ordered}
-use Rattle.table_blocks.specs.declared.Reading.{Reading}
-use Rattle.table_blocks.specs.declared.Next.{Next}
+use Rattle.table_buffer.specs.Buffers.{BLOCK}
+use Rattle.table_buffer.specs.Blocks.{inside, Ordered}
+use Rattle.table_buffer.specs.declared.Reading.{Reading}
+use Rattle.table_buffer.specs.declared.Next.{Next}
 use Rattle.import.specs.declared.Read.{Read}
 
 -- the answer is what the table says: its refusal, unless a line is too long to be read; or that it says orders

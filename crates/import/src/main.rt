@@ -7,7 +7,7 @@ mod telling;
 ghost use mathlib.Core.Path.{_≡_};
 ghost use Prim.Native.Nat.{_≤_};
 ghost use lib.ListN.{length};
-ghost use Rattle.table_blocks.specs.Buffers.{INPUT, OUT};
+ghost use Rattle.table_buffer.specs.Buffers.{INPUT, OUT};
 ghost use Rattle.import.specs.Reading.{FileRead};
 
 // Bytes of the records of a buffer's lines.
@@ -28,10 +28,10 @@ pub enum Read {
 }
 
 // Zeros for the lines, and for their records. The contracts give only the lengths.
-fn input_buffer() -> [u8; table_blocks::INPUT]
+fn input_buffer() -> [u8; table_buffer::INPUT]
     ensures { λ r. ⌜ length r ≡ INPUT ⌝ }
 {
-    [0; table_blocks::INPUT]
+    [0; table_buffer::INPUT]
 }
 
 fn output_buffer() -> [u8; OUT]

@@ -1,13 +1,13 @@
 // The lines of a table, block after block.
 use crate::Read;
 use crate::telling;
-use table_blocks::Next;
-use table_blocks::Reading;
+use table_buffer::Next;
+use table_buffer::Reading;
 ghost use mathlib.Core.Path.{_≡_};
 ghost use Prim.Native.Nat.{_≤_};
 ghost use lib.ListN.{length};
-ghost use Rattle.table_blocks.specs.Buffers.{INPUT, BLOCK};
-ghost use Rattle.table_blocks.specs.Blocks.{Given, Goes};
+ghost use Rattle.table_buffer.specs.Buffers.{INPUT, BLOCK};
+ghost use Rattle.table_buffer.specs.Blocks.{Given, Goes};
 ghost use Rattle.import.specs.Reading.{ReadOn, RowsRead, readOf};
 
 // More blocks, and more lines, than any file has.
@@ -32,7 +32,7 @@ fn convert(
     requires { ⌜ Given (now places) (now input) (now out) reading ⌝ }
     ensures { λ r. ⌜ Goes (now (places .entry)) reading (now (input .entry)) (now (input .exit)) r ⌝ }
 {
-    let converted = table_blocks::lines::convert(input, out, places, reading);
+    let converted = table_buffer::lines::convert(input, out, places, reading);
     let wrote = converted.wrote;
     if !put(&out[..wrote], print) {
         return Next::Failed;

@@ -2,12 +2,12 @@
 use crate::Read;
 use crate::rows;
 use crate::telling;
-use table_blocks::Reading;
+use table_buffer::Reading;
 ghost use mathlib.Core.Bool.{true, false};
 ghost use mathlib.Core.Path.{_≡_};
 ghost use Prim.Native.Nat.{_≤_};
 ghost use lib.ListN.{length};
-ghost use Rattle.table_blocks.specs.Buffers.{INPUT, OUT};
+ghost use Rattle.table_buffer.specs.Buffers.{INPUT, OUT};
 ghost use Rattle.import.specs.Reading.{FileRead};
 
 // The file could not be read.
@@ -30,7 +30,7 @@ pub fn read_table(fd: i32, file: &[u8], input: &mut [u8], out: &mut [u8], print:
         return Read::Failed;
     }
     let size = reading.size;
-    let first = table_blocks::first::first_line(&input[..size], reading.ended);
+    let first = table_buffer::first::first_line(&input[..size], reading.ended);
     let columns = first.columns;
     if !columns.good {
         let start = first.start;

@@ -5,7 +5,7 @@ use Prim.Native.Nat.{_≤_}
 use mathlib.Core.Path.{sym}
 use lib.ListN.{length}
 use lib.Seq.{length-take-le}
-use Rattle.table_blocks.specs.Blocks.{Goes}
+use Rattle.table_buffer.specs.Blocks.{Goes}
 use Rattle.import.proofs.rows.convert.Statement.{statement}
 use Rattle.import.proofs.rows.convert.Tie as tie
 

@@ -4,8 +4,8 @@ use native.Mathlib.Omega.{arith}
 use mathlib.Core.Path.{_≡_, refl, _∙_}
 use Prim.Native.Nat.{_-_, _^_, _≤_}
 use lib.ListN.{length}
-use Rattle.table_blocks.specs.Buffers.{BLOCK}
-use Rattle.table_blocks.specs.Blocks.{Goes}
+use Rattle.table_buffer.specs.Buffers.{BLOCK}
+use Rattle.table_buffer.specs.Blocks.{Goes}
 use Rattle.import.proofs.Laws.{more-goes, So, so-first, so-says, so-on, so-failed}
 use Rattle.import.proofs.rows.rows.Statement.{statement}
 use Rattle.import.proofs.rows.rows.Tie as tie

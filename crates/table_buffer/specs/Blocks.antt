@@ -13,10 +13,10 @@ use Rattle.table.specs.Lines.{Imported, filled}
 use Rattle.table.specs.Lines.Imported.{refusedAt, orders}
 use Rattle.table.specs.Blocks.{Walked, having, walk, outcome, metIn}
 use Rattle.table.specs.Blocks.Walked.{stopped, reached}
-use Rattle.table_blocks.specs.Buffers.{INPUT, BLOCK, OUT}
-use Rattle.table_blocks.specs.declared.Reading.{Reading}
-use Rattle.table_blocks.specs.declared.Next.{Next}
-use Rattle.table_blocks.specs.declared.Converted.{Converted}
+use Rattle.table_buffer.specs.Buffers.{INPUT, BLOCK, OUT}
+use Rattle.table_buffer.specs.declared.Reading.{Reading}
+use Rattle.table_buffer.specs.declared.Next.{Next}
+use Rattle.table_buffer.specs.declared.Converted.{Converted}
 
 -- what is lent
 pub record Given (places input out : List ℕ) (reading : Reading) : Type 0 where

@@ -1,10 +1,10 @@
--- `table_blocks::lines::last` meets its contract. Assumes nothing.
+-- `table_buffer::lines::last` meets its contract. Assumes nothing.
 use borrow.Author.Needs.{needs}
 use native.Mathlib.Omega.{arith}
 use lib.ListN.{length-set}
-use Rattle.table_blocks.proofs.Laws.{as-refused, last-refused, last-ended}
-use Rattle.table_blocks.proofs.lines.last.Statement.{statement}
-use Rattle.table_blocks.proofs.lines.last.Tie as tie
+use Rattle.table_buffer.proofs.Laws.{as-refused, last-refused, last-ended}
+use Rattle.table_buffer.proofs.lines.last.Statement.{statement}
+use Rattle.table_buffer.proofs.lines.last.Tie as tie
 
 -- ---- places
 

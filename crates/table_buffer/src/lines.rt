@@ -8,7 +8,7 @@ ghost use mathlib.Core.Bool.{false};
 ghost use mathlib.Core.Path.{_≡_};
 ghost use Prim.Native.Nat.{_+_, _≤_};
 ghost use lib.ListN.{length, take, drop};
-ghost use Rattle.table_blocks.specs.Blocks.{Given, Goes, Recorded, Written, inside, ending, refusedAs};
+ghost use Rattle.table_buffer.specs.Blocks.{Given, Goes, Recorded, Written, inside, ending, refusedAs};
 
 // Moves so many bytes from a place on to the start of the buffer.
 fn move_down(input: &mut [u8], from: usize, count: usize)

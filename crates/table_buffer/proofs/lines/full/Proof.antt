@@ -1,10 +1,10 @@
--- `table_blocks::lines::full` meets its contract. Assumes nothing.
+-- `table_buffer::lines::full` meets its contract. Assumes nothing.
 use borrow.Author.Needs.{needs}
 use native.Mathlib.Omega.{arith}
 use Prim.Native.Nat.{_+_, _≤_}
-use Rattle.table_blocks.proofs.Laws.{as-refused, full-refused, full-long, used-most, full-more}
-use Rattle.table_blocks.proofs.lines.full.Statement.{statement}
-use Rattle.table_blocks.proofs.lines.full.Tie as tie
+use Rattle.table_buffer.proofs.Laws.{as-refused, full-refused, full-long, used-most, full-more}
+use Rattle.table_buffer.proofs.lines.full.Statement.{statement}
+use Rattle.table_buffer.proofs.lines.full.Tie as tie
 
 -- ---- places
 

@@ -1,11 +1,11 @@
--- `table_blocks::first::behind` meets its contract. Assumes nothing.
+-- `table_buffer::first::behind` meets its contract. Assumes nothing.
 use borrow.Author.Needs.{needs}
 use native.Mathlib.Omega.{arith}
 use mathlib.Core.Path.{refl, sym, _∙_}
 use Prim.Native.Nat.{_+_}
 use lib.ListN.{drop-of-length-le}
-use Rattle.table_blocks.proofs.first.behind.Statement.{statement}
-use Rattle.table_blocks.proofs.first.behind.Tie as tie
+use Rattle.table_buffer.proofs.first.behind.Statement.{statement}
+use Rattle.table_buffer.proofs.first.behind.Tie as tie
 
 returns-2 : tie.Need-returns-2
 returns-2 c =

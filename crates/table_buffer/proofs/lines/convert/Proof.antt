@@ -1,11 +1,11 @@
--- `table_blocks::lines::convert` meets its contract. Assumes nothing.
+-- `table_buffer::lines::convert` meets its contract. Assumes nothing.
 use borrow.Author.Needs.{needs}
 use native.Mathlib.Omega.{arith}
 use mathlib.Core.Bool.{true≢false}
 use mathlib.Core.Path.{sym, _∙_}
-use Rattle.table_blocks.specs.Blocks.{Goes}
-use Rattle.table_blocks.proofs.lines.convert.Statement.{statement}
-use Rattle.table_blocks.proofs.lines.convert.Tie as tie
+use Rattle.table_buffer.specs.Blocks.{Goes}
+use Rattle.table_buffer.proofs.lines.convert.Statement.{statement}
+use Rattle.table_buffer.proofs.lines.convert.Tie as tie
 
 returns : tie.Need-returns
 returns c =

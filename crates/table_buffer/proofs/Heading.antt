@@ -20,8 +20,8 @@ use Rattle.table.specs.Blocks.{walk, outcome}
 use Rattle.table.specs.Theorems.{WalkIsImport}
 use Rattle.table.specs.declared.Columns.{Columns}
 use Rattle.table.proofs.InBlocks.{walk-is-import, lines-tail}
-use Rattle.table_blocks.specs.First.{Headed, FirstRead, NoLine}
-use Rattle.table_blocks.specs.declared.first.First.{First}
+use Rattle.table_buffer.specs.First.{Headed, FirstRead, NoLine}
+use Rattle.table_buffer.specs.declared.first.First.{First}
 
 lines-more : (l later : List ℕ) → upTo lineFeed l < length l
     → linesOf (l ++ later) ≡ take (upTo lineFeed l) l ∷ linesOf (drop (suc (upTo lineFeed l)) l ++ later)

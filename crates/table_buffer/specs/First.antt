@@ -10,7 +10,7 @@ use Rattle.table.specs.Header.{noPlace, headerOf, columnsOf, Usable}
 use Rattle.table.specs.Lines.Imported.{refusedAt}
 use Rattle.table.specs.Import.{importOf}
 use Rattle.table.specs.Blocks.{walk, outcome}
-use Rattle.table_blocks.specs.declared.first.First.{First}
+use Rattle.table_buffer.specs.declared.first.First.{First}
 
 -- the columns of a line that stands at a place of some bytes, and the bytes behind it
 pub record Headed (block : List ℕ) (start end : ℕ) (first : First) : Type 0 where

@@ -1,4 +1,4 @@
--- `table_blocks::first::first_line` meets its contract. Assumes nothing.
+-- `table_buffer::first::first_line` meets its contract. Assumes nothing.
 use borrow.Author.Needs.{needs}
 use native.Mathlib.Omega.{arith}
 use mathlib.Core.Path.{_≡_, refl, sym, subst}
@@ -6,10 +6,10 @@ use mathlib.Core.Bool.{Bool}
 use Prim.Native.Nat.{_+_, _≤_, _<_}
 use lib.ListN.{length, drop}
 use Rattle.text.specs.Parts.{upTo}
-use Rattle.table_blocks.specs.First.{FirstRead}
-use Rattle.table_blocks.proofs.Heading.{first-of-all, first-of-more, too-long, nothing-there}
-use Rattle.table_blocks.proofs.first.first_line.Statement.{statement}
-use Rattle.table_blocks.proofs.first.first_line.Tie as tie
+use Rattle.table_buffer.specs.First.{FirstRead}
+use Rattle.table_buffer.proofs.Heading.{first-of-all, first-of-more, too-long, nothing-there}
+use Rattle.table_buffer.proofs.first.first_line.Statement.{statement}
+use Rattle.table_buffer.proofs.first.first_line.Tie as tie
 
 -- ---- places
 

@@ -1,8 +1,8 @@
--- `table_blocks::first::headed` meets its contract. Assumes nothing.
+-- `table_buffer::first::headed` meets its contract. Assumes nothing.
 use borrow.Author.Needs.{needs}
 use mathlib.Core.Path.{refl}
-use Rattle.table_blocks.proofs.first.headed.Statement.{statement}
-use Rattle.table_blocks.proofs.first.headed.Tie as tie
+use Rattle.table_buffer.proofs.first.headed.Statement.{statement}
+use Rattle.table_buffer.proofs.first.headed.Tie as tie
 
 returns : tie.Need-returns
 returns c =

@@ -5,7 +5,7 @@ ghost use mathlib.Core.Bool.{false};
 ghost use mathlib.Core.Path.{_≡_};
 ghost use Prim.Native.Nat.{_+_, _≤_, _<_};
 ghost use lib.ListN.{length, drop};
-ghost use Rattle.table_blocks.specs.First.{Headed, FirstRead, NoLine};
+ghost use Rattle.table_buffer.specs.First.{Headed, FirstRead, NoLine};
 
 // Where the line starts and ends, where the lines behind it start, and its columns.
 pub struct First {

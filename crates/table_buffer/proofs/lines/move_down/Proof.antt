@@ -1,4 +1,4 @@
--- `table_blocks::lines::move_down` meets its contract. The invariant: the first i bytes are copied. Assumes nothing.
+-- `table_buffer::lines::move_down` meets its contract. The invariant: the first i bytes are copied. Assumes nothing.
 use mathlib.Core.Path.{_≡_, sym, ap, _∙_}
 use mathlib.Core.List.{List}
 use Prim.Native.Nat.{ℕ, _≤_, _-_, _+_, _<_}
@@ -7,8 +7,8 @@ use native.Mathlib.Omega.{arith}
 use lib.ListN.{length, getD, set, take, drop, length-set, length-drop}
 use lib.Seq.{paste, getD-drop, take-at, length-take-le}
 use Rattle.words.proofs.Regions.{copy-none, copy-more, copy-ahead}
-use Rattle.table_blocks.proofs.lines.move_down.Statement.{statement}
-use Rattle.table_blocks.proofs.lines.move_down.Tie as tie
+use Rattle.table_buffer.proofs.lines.move_down.Statement.{statement}
+use Rattle.table_buffer.proofs.lines.move_down.Tie as tie
 
 abbrev Inv-loop : tie.InvT-loop
 Inv-loop input₀ from count i₀ input i = (i ≤ count) × (length input ≡ length input₀) × (input ≡ paste input₀ 0 (drop from input₀) i)

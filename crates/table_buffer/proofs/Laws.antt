@@ -19,10 +19,10 @@ use Rattle.table.specs.Theorems.{InBlocks, WalkInBlocks, RoomEnough}
 use Rattle.table.proofs.InBlocks.{in-blocks, walk-in-blocks, room-enough}
 use Rattle.cells.specs.Kinds.{longLine}
 use Rattle.table.specs.Lines.{filled}
-use Rattle.table_blocks.specs.Blocks.{Given, inside, ending, Ordered, Continues, refusedAs, Goes, recordBytes, Recorded}
-use Rattle.table_blocks.specs.declared.Reading.{Reading}
-use Rattle.table_blocks.specs.declared.Next.{Next}
-use Rattle.table_blocks.specs.declared.Converted.{Converted}
+use Rattle.table_buffer.specs.Blocks.{Given, inside, ending, Ordered, Continues, refusedAs, Goes, recordBytes, Recorded}
+use Rattle.table_buffer.specs.declared.Reading.{Reading}
+use Rattle.table_buffer.specs.declared.Next.{Next}
+use Rattle.table_buffer.specs.declared.Converted.{Converted}
 
 -- ---- what a walk came to, by the code's answer
 
