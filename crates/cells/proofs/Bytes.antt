@@ -4,7 +4,7 @@ use native.Mathlib.Omega.{arith}
 use mathlib.Core.Bool.{Bool, true, false}
 use mathlib.Core.List.{List, [], _∷_, _++_}
 use mathlib.Core.Path.{_≡_, refl, sym, ap, _∙_}
-use borrow.Author.Tests.{eq-eqb, ne-eqb, lt-ltb, le-ltb, lt-leb, le-leb}
+use borrow.Author.Tests.{eq-eqb, ne-eqb, eqb-true, eqb-false, lt-ltb, le-ltb, lt-leb, le-leb}
 use native.Mathlib.Decide.{ℕ-discrete}
 use lib.Dec.{eqb, ltb, leb·suc-suc}
 use lib.ListN.{length, getD, take, drop, length-drop, drop-of-length-le}
@@ -12,7 +12,7 @@ use Rattle.plain.specs.Lists.{if_then_else_, _oneOf_}
 use Rattle.text.specs.Parts.{upTo}
 use lib.Seq.{take-suc, take-all}
 use Rattle.cells.specs.Kinds.{tooLarge, quoted}
-use Rattle.text.proofs.Cutting.{here}
+use Rattle.text.proofs.Cutting.{here, to-mark}
 use Rattle.cells.specs.Cells.{quote, blank, front, before, back, isEmpty, strange, readOn}
 use Rattle.cells.specs.declared.Number.{Number}
 use Rattle.cells.specs.declared.Number.the-variants.{Value, Refused}
@@ -100,13 +100,10 @@ all-blank line n h e = rw (← e, length-drop n line) (go (ℕ-discrete n (lengt
     go (no d) = ne-eqb n (length line) d ∙ sym (ne-eqb (length line - n) 0 (λ z. d (omega arith)))
 
 has-mark : (mark : ℕ) (l : List ℕ) → mark oneOf l ≡ ltb (upTo mark l) (length l)
-unfolding upTo
-has-mark mark [] = refl
-has-mark mark (b ∷ l) = go (ℕ-discrete mark b) (has-mark mark l)
-  where
-    go : Dec (mark ≡ b) → mark oneOf l ≡ ltb (upTo mark l) (length l) → mark oneOf (b ∷ l) ≡ ltb (upTo mark (b ∷ l)) (length (b ∷ l))
-    go (yes s) e = simp (eq-eqb mark b s, eq-eqb b mark (sym s)) (sym (lt-ltb 0 (suc (length l)) (omega arith)))
-    go (no d) e = simp (ne-eqb mark b d, ne-eqb b mark (λ s. d (sym s))) (e ∙ sym (leb·suc-suc (suc (upTo mark l)) (length l)))
+has-mark mark =
+    to-mark mark (λ l n. mark oneOf l ≡ ltb n (length l)) refl
+    (λ b l e. simp (eq-eqb mark b (sym (eqb-true b mark e)), lt-ltb 0 (suc (length l)) (omega arith)))
+    (λ b l e more. simp (ne-eqb mark b (λ s. eqb-false b mark e (sym s))) (more ∙ sym (leb·suc-suc (suc (upTo mark l)) (length l))))
 
 module _ (kind : ℕ) (l : List ℕ) (end : ℕ) (e : end ≡ 0 + upTo quote (drop 0 l)) where
   reaches : end ≡ upTo quote l

@@ -2,13 +2,13 @@
 use Prim.Native.Nat.{ℕ, _+_, _-_, _≤_, _<_}
 use native.Mathlib.Omega.{arith}
 use native.Mathlib.Numerals.{add-one}
-use mathlib.Core.Bool.{Bool, true, false}
-use mathlib.Core.List.{List, [], _∷_, _++_}
+use mathlib.Core.Bool.{true, false}
+use mathlib.Core.List.{List, [], _∷_}
 use mathlib.Core.Path.{_≡_, refl, sym, ap, _∙_}
-use borrow.Author.Tests.{eq-eqb, ne-eqb, lt-leb, le-leb, ltb-true, ltb-false}
-use lib.Dec.{ltb}
-use lib.ListN.{length, getD, take, drop, set, length-append, List·getD-append}
-use lib.Seq.{take-suc-set, length-take-le, getD-append-seam}
+use borrow.Author.Tests.{eq-eqb, ne-eqb, lt-leb, le-leb}
+use lib.ListN.{length, getD, take, drop, set, length-set}
+use lib.Seq.{take-suc-set, length-take-le, getD-take, getD-set-same, getD-set-other}
+use native.Mathlib.Decide.{ℕ-discrete}
 use Rattle.plain.specs.Lists.{_oneOf_}
 use Rattle.text.specs.Parts.{upTo}
 use Rattle.text.proofs.Cutting.{partsFrom, parts-none, one-part}
@@ -20,21 +20,18 @@ use Rattle.table.specs.Header.Parsed.{refused}
 
 -- ---- places
 
-pub known-snoc : (places : List ℕ) (place : ℕ) → Known places → place < 18 → Known (places ++ (place ∷ []))
-known-snoc places place k h = record { field = λ i l. go i l (ltb i (length places)) refl }
-  where
-    go : (i : ℕ) → i < length (places ++ (place ∷ [])) → (t : Bool) → ltb i (length places) ≡ t → getD (places ++ (place ∷ [])) i 0 < 18
-    go i l true e =
-        let less = ltb-true i (length places) e in
-        rw (List·getD-append places (place ∷ []) 0 i less) (k .field i less)
-    go i l false e =
-        let most = ltb-false i (length places) e in
-        let same : i ≡ length places = omega (arith, length-append places (place ∷ [])) in
-        rw (same, getD-append-seam places place [] 0) h
-
 pub known-more : (places : List ℕ) (count place : ℕ) → count < length places → place < 18 → Known (take count places)
     → Known (take (count + 1) (set places count place))
-known-more places count place h small k = rw (add-one count, take-suc-set places count place h) (known-snoc (take count places) place k small)
+known-more places count place h small k =
+    let long : length (take (count + 1) (set places count place)) ≡ count + 1 =
+    length-take-le (count + 1) (set places count place) (omega (arith, length-set places count place)) in
+    record { field = λ i l. rw (getD-take (count + 1) (set places count place) i 0 (omega arith)) (go i (omega arith) (ℕ-discrete i count)) }
+  where
+    go : (i : ℕ) → i < count + 1 → Dec (i ≡ count) → getD (set places count place) i 0 < 18
+    go i l (yes s) = rw (s, getD-set-same places count place 0 h) small
+    go i l (no d) =
+        rw (getD-set-other places count i place 0 d, ← getD-take count places i 0 (omega (arith, d)))
+        (k .field i (omega (arith, d, length-take-le count places (omega arith))))
 
 -- ---- the walk
 

@@ -12,6 +12,7 @@ use Rattle.rulebook.specs.declared.Order.{Order}
 use Rattle.text.specs.Parts.{lineFeed, upTo, joined}
 use Rattle.cells.specs.Kinds.{emptyLine}
 use Rattle.cells.specs.Cells.{isEmpty, onto, linesOf, leading, fullLines, wholeLines, tailOf}
+use Rattle.text.proofs.Cutting.{to-mark}
 use Rattle.cells.proofs.Splits.{whole-last, whole-more}
 use Rattle.table.specs.Header.{noPlace}
 use Rattle.table.specs.Lines.{Imported, more, withRow, rowsFrom, rowOf, lineFields, ordered}
@@ -58,14 +59,10 @@ lines-tail (b ∷ l) p h = go (eqb b lineFeed) l (lines-tail l) h
     go false (c ∷ l) more h = ap (joined b) (more (omega arith) (omega arith))
 
 whole-tail : (l : List ℕ) → length l ≤ upTo lineFeed l → wholeLines (l ++ (lineFeed ∷ [])) ≡ l ∷ []
-unfolding wholeLines upTo onto
-whole-tail [] h = refl
-whole-tail (b ∷ l) h = go (eqb b lineFeed) (whole-tail l) h
-  where
-    go : (t : Bool) → (length l ≤ upTo lineFeed l → wholeLines (l ++ (lineFeed ∷ [])) ≡ l ∷ []) → suc (length l) ≤ (if t then 0 else suc (upTo lineFeed l))
-        → (if t then [] ∷ wholeLines (l ++ (lineFeed ∷ [])) else onto b (wholeLines (l ++ (lineFeed ∷ [])))) ≡ (b ∷ l) ∷ []
-    go true more h = absurd (omega arith)
-    go false more h = ap (onto b) (more (omega arith))
+unfolding wholeLines onto
+whole-tail =
+    to-mark lineFeed (λ l n. length l ≤ n → wholeLines (l ++ (lineFeed ∷ [])) ≡ l ∷ []) (λ h. refl) (λ b l e h. absurd (omega arith))
+    (λ b l e more h. simp (e, more (omega arith)))
 
 pub last-line : LastLine
 unfolding LastLine
