@@ -1,4 +1,2 @@
--- the column of a field, and a byte-order mark
-mod Naming
--- the columns, one after the other
+-- the column of a field, a byte-order mark, and the columns, one after the other
 mod Heading

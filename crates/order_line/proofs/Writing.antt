@@ -22,7 +22,7 @@ told places order (Written.Refused n) = Row.Refused n (columnFrom 1 places (refu
 
 module _ (f : Fields) (places line : List ℕ) (e : fieldsRead f ≡ lineFields places line) where
   pub row-unread : f .good ≡ false → Row.Refused (f .kind) (f .column) (f .place) ≡ rowOf places line
-  unfolding rowOf ordered fieldsRead
+  unfolding rowOf ordered
   row-unread n =
       let p : fieldsRead f ≡ refused (f .kind) (f .column) (f .place) = simp n in
       ap (ordered places) (sym p ∙ e)
@@ -30,7 +30,7 @@ module _ (f : Fields) (places line : List ℕ) (e : fieldsRead f ≡ lineFields 
   pub row-told : f .good ≡ true → (order : Order) → order ≡ orderOf (f .values) → (area : List ℕ) → 40 ≤ length area
       → (answer : Written) → answer ≡ writtenOf order area
       → (told places order answer ≡ rowOf places line) × (areaWritten order area ≡ rowWritten (told places order answer) area)
-  unfolding rowOf ordered fieldsRead writtenOf areaWritten writeRefusal rowWritten
+  unfolding rowOf ordered writtenOf areaWritten writeRefusal rowWritten
   row-told z order o area room answer w =
       let read : fieldsRead f ≡ parsed (f .values) = simp z in
       let number : ℕ = first (fieldTests (fieldsOf order)) in

@@ -7,7 +7,7 @@ use mathlib.Core.Path.{_≡_, refl, sym, ap, _∙_}
 use borrow.Author.Tests.{ne-eqb, ltb-true, ltb-false, lt-ltb, le-ltb}
 use lib.Dec.{eqb, ltb}
 use lib.ListN.{length, length-append}
-use Rattle.plain.specs.Lists.{if_then_else_}
+use Rattle.plain.specs.Lists.{if_then_else_, total}
 use Rattle.rulebook.specs.declared.Order.{Order}
 use Rattle.text.specs.Parts.{lineFeed, upTo, joined}
 use Rattle.cells.specs.Kinds.{emptyLine}
@@ -172,23 +172,18 @@ all-converted places line lines all p e = go (walk places line 0 lines) (walked-
 
 -- ---- room
 
-lines-long : List (List ℕ) → ℕ
-lines-long [] = 0
-lines-long (line ∷ lines) = length line + 1 + lines-long lines
-
-onto-long : (b : ℕ) (lines : List (List ℕ)) → lines-long (onto b lines) ≤ suc (lines-long lines)
-unfolding onto lines-long
-onto-long b [] = omega arith
-onto-long b (line ∷ lines) = omega arith
+abbrev lines-long : List (List ℕ) → ℕ
+lines-long lines = total (λ line. length line + 1) lines
 
 whole-long : (block : List ℕ) → lines-long (wholeLines block) ≤ length block
-unfolding wholeLines lines-long
+unfolding wholeLines onto
 whole-long [] = omega arith
-whole-long (b ∷ l) = go (eqb b lineFeed) (whole-long l)
+whole-long (b ∷ l) = go (eqb b lineFeed) (wholeLines l) (whole-long l)
   where
-    go : (t : Bool) → lines-long (wholeLines l) ≤ length l → lines-long (if t then [] ∷ wholeLines l else onto b (wholeLines l)) ≤ suc (length l)
-    go true h = omega arith
-    go false h = omega (arith, onto-long b (wholeLines l))
+    go : (t : Bool) (lines : List (List ℕ)) → lines-long lines ≤ length l → lines-long (if t then [] ∷ lines else onto b lines) ≤ suc (length l)
+    go true lines h = omega arith
+    go false [] h = omega arith
+    go false (line ∷ lines) h = omega arith
 
 met-having : (met : List Order) (w : Walked) → metIn (having met w) ≡ met ++ metIn w
 unfolding metIn having
@@ -196,7 +191,6 @@ met-having met (stopped kind line column place others) = refl
 met-having met (reached line empty others) = refl
 
 met-short : (places : List ℕ) (line empty : ℕ) (lines : List (List ℕ)) → 2 * length (metIn (walk places line empty lines)) ≤ lines-long lines
-unfolding lines-long
 met-short places line empty [] = unfold walk metIn in omega arith
 met-short places line empty (text ∷ lines) = go (stepOf places line empty text) (goes places line empty text) (λ empty′. met-short places
     (line + 1) empty′ lines)

@@ -4,7 +4,7 @@ use mathlib.Core.Path.{_≡_, refl}
 use Prim.Native.Nat.{_+_, _-_, _≤_}
 use lib.ListN.{length, drop}
 use Rattle.table.specs.Lines.{columnFrom}
-use Rattle.first_line.proofs.Naming.{column-found, column-on, column-none}
+use Rattle.first_line.proofs.Heading.{column-found, column-on, column-none}
 use Rattle.first_line.proofs.column_of.Statement.{statement}
 use Rattle.first_line.proofs.column_of.Tie as tie
 

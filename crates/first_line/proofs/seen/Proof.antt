@@ -4,7 +4,7 @@ use native.Mathlib.Omega.{arith}
 use mathlib.Core.Bool.{not}
 use mathlib.Core.Path.{ap, _∙_}
 use lib.Dec.{eqb}
-use Rattle.first_line.proofs.Naming.{has-column}
+use Rattle.first_line.proofs.Heading.{has-column}
 use Rattle.first_line.proofs.seen.Statement.{statement}
 use Rattle.first_line.proofs.seen.Tie as tie
 

@@ -4,7 +4,7 @@ use native.Mathlib.Omega.{arith}
 use mathlib.Core.Path.{_≡_, refl, sym, ap, _∙_}
 use Prim.Native.Nat.{_+_, _-_, _≤_, _<_}
 use lib.ListN.{length, getD, drop, length-set}
-use Rattle.table.specs.Lines.{fieldsFrom, lineFields, fieldsRead}
+use Rattle.table.specs.Lines.{fieldsFrom, lineFields}
 use Rattle.text.proofs.Cutting.{partsFrom, parts-start}
 use Rattle.cells.specs.Cells.{comma}
 use Rattle.order_line.proofs.Numbers.{all-cells, many-cells, few-cells, bad-cell, good-cell}
@@ -72,7 +72,6 @@ returns-3 c =
     )
 
 returns-4 : tie.Need-returns-4 Inv-loop μ-loop
-unfolding fieldsRead
 returns-4 c =
     let here = c .before .before in
     (all-cells _ _ (here .loop .column) (here .loop .at) _ _ (here .loop .inv .3) (search needs) (c .if2 .left), here .loop .inv .2)
