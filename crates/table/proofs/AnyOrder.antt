@@ -1,7 +1,7 @@
 -- The order of the columns changes nothing: two neighbours change places in the first line and in every other. Assumes nothing.
 use Prim.Native.Nat.{ℕ, zero, suc, _+_, _≤_}
 use native.Mathlib.Omega.{arith}
-use mathlib.Core.Bool.{Bool, true, false, _&&_, true≢false}
+use mathlib.Core.Bool.{Bool, true, false, _&&_, and-false, true≢false}
 use mathlib.Core.List.{List, [], _∷_}
 use mathlib.Core.Path.{_≡_, refl, sym, ap, _∙_, subst}
 use borrow.Author.Tests.{ne-eqb, eqb-true}
@@ -96,11 +96,7 @@ alone-joined : (b : ℕ) (parts : List (List ℕ)) → alone (joined b parts) �
 unfolding joined isEmpty front
 alone-joined b [] = empty-cons b []
 alone-joined b (part ∷ []) = empty-cons b part
-alone-joined b (part ∷ next ∷ parts) = go (blank b)
-  where
-    go : (t : Bool) → false ≡ (t && false)
-    go true = refl
-    go false = refl
+alone-joined b (part ∷ next ∷ parts) = sym (and-false (blank b))
 
 some-cells : (cell line : List ℕ) → alone (cell ∷ cells line) ≡ false
 unfolding split joined

@@ -3,6 +3,7 @@ use borrow.Author.Needs.{needs}
 use borrow.Rule.Slice.PartMut.{mid-len}
 use native.Mathlib.Omega.{arith}
 use Prim.Native.Nat.{_+_, _-_, _≤_, _<_}
+use mathlib.Core.Path.{sym, _∙_}
 use lib.ListN.{length}
 use Rattle.line_blocks.proofs.Walking.{Walking, walking-none, walking-long, walking-done, walking-tail, walking-refused, refused-long, wrote-short, walking-on}
 use Rattle.line_blocks.proofs.convert_block.Statement.{statement}
@@ -47,15 +48,15 @@ returns-2 : tie.Need-returns-2 Inv-loop μ-loop
 returns-2 c =
     let s = c .before .before .before .before .before in
     let here = turn (ends s) in
-    walking-refused (here .loop .inv) (start here .pre .2) _ (ends s .end-of .ensures .0) (less s) _ (s .step .ensures .0) _ (s .step .ensures .1) _ _ _ _
-    (c .before .next .given .1)
+    walking-refused (here .loop .inv) (start here .pre .2) _ (ends s .end-of .ensures .0) (less s) _ (s .step .ensures .1) _ _ _ _
+    (sym (s .step .ensures .0) ∙ c .before .next .given .1)
 
 same-length-2 : tie.Need-same-length-2 Inv-loop μ-loop
 same-length-2 c =
     let s = c .before .before .before .before .before in
     let here = turn (ends s) in
-    refused-long (here .loop .inv) (start here .pre .2) _ (ends s .end-of .ensures .0) (less s) _ (s .step .ensures .0) _ (s .step .ensures .1) _ _ _ _
-    (c .before .next .given .1)
+    refused-long (here .loop .inv) (start here .pre .2) _ (ends s .end-of .ensures .0) (less s) _ (s .step .ensures .1) _ _ _ _
+    (sym (s .step .ensures .0) ∙ c .before .next .given .1)
 
 add-line : tie.Need-add-line Inv-loop μ-loop
 add-line c =
@@ -66,16 +67,16 @@ add-to : tie.Need-add-to Inv-loop μ-loop
 add-to c =
     let s = stepped c in
     let here = turn (ends s) in
-    let short = wrote-short (here .loop .inv) (start here .pre .2) _ (ends s .end-of .ensures .0) (less s) _ (s .step .ensures .0) _ (s .step .ensures .1) _ _
-    (c .before .next2 .given .1) in
+    let short = wrote-short (here .loop .inv) (start here .pre .2) _ (ends s .end-of .ensures .0) (less s) _ (s .step .ensures .1) _ _
+    (sym (s .step .ensures .0) ∙ c .before .next2 .given .1) in
     omega (arith, short, less s, start here .pre .2)
 
 loop-again : tie.Need-loop-again Inv-loop μ-loop
 loop-again c =
     let s = c .before .before .before .before .before in
     let here = turn (ends s) in
-    walking-on (here .loop .inv) (start here .pre .2) _ (ends s .end-of .ensures .0) (less s) _ (s .step .ensures .0) _ (s .step .ensures .1) _ _
-    (c .before .next2 .given .1)
+    walking-on (here .loop .inv) (start here .pre .2) _ (ends s .end-of .ensures .0) (less s) _ (s .step .ensures .1) _ _
+    (sym (s .step .ensures .0) ∙ c .before .next2 .given .1)
 
 pub convert-block-spec : {M : Type 1} → statement M
 convert-block-spec =

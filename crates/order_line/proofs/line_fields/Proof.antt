@@ -45,7 +45,7 @@ returns-2 c =
     let found = number .before .before in
     let here = turn (read found) in (
       c .refused2 .ensures .0 ∙ bad-cell _ _ (here .loop .column) (here .loop .at) _ _ (here .loop .inv .3) (search needs) (search needs) _
-          (read found .end-of .ensures .0) _ (found .field-number .ensures) _ (number .number .given .1),
+          (read found .end-of .ensures .0) _ (sym (found .field-number .ensures) ∙ number .number .given .1),
       c .refused2 .ensures .1,
     )
 
@@ -61,7 +61,7 @@ loop-again c =
       search needs,
       simp length-set (here .loop .inv .2),
       good-cell _ _ (here .loop .column) (here .loop .at) _ _ (here .loop .inv .3) (search needs) (search needs) _ (read found .end-of .ensures .0) _
-          (found .field-number .ensures) _ (c .before .number2 .given .1),
+          (sym (found .field-number .ensures) ∙ c .before .number2 .given .1),
     )
 
 returns-3 : tie.Need-returns-3 Inv-loop μ-loop
