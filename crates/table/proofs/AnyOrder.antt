@@ -113,7 +113,8 @@ unfolding split
 empty-alone [] = refl
 empty-alone (b ∷ line) = empty-cons b line ∙ go (eqb b comma) refl (empty-alone line)
   where
-    go : (t : Bool) → eqb b comma ≡ t → isEmpty line ≡ alone (cells line) → (blank b && isEmpty line) ≡ alone (if t then [] ∷ cells line else joined b (cells line))
+    go : (t : Bool) → eqb b comma ≡ t → isEmpty line ≡ alone (cells line)
+        → (blank b && isEmpty line) ≡ alone (if t then [] ∷ cells line else joined b (cells line))
     go true e more = ap (λ (c : ℕ). blank c && isEmpty line) (eqb-true b comma e) ∙ sym (some-cells [] line)
     go false e more = ap (λ (t : Bool). blank b && t) more ∙ sym (alone-joined b (cells line))
 
@@ -146,7 +147,8 @@ full-exchange k (one {a = line} {b = other} c x) = go c (empty-exchange k line o
 
 -- ---- the whole table
 
-header-exchange : (k : ℕ) (header other places : List ℕ) → Exchanged k header other → headerOf header ≡ parsed places → headerOf other ≡ parsed (exchange k places)
+header-exchange : (k : ℕ) (header other places : List ℕ) → Exchanged k header other → headerOf header ≡ parsed places
+    → headerOf other ≡ parsed (exchange k places)
 unfolding headerOf
 header-exchange k header other places c e =
     let columns = header-columned header places e in

@@ -3,7 +3,7 @@ use borrow.Author.Needs.{needs}
 use borrow.Author.Tests.{eq-eqb, ne-eqb, lt-leb, le-leb, lt-ltb, le-ltb}
 use native.Mathlib.Omega.{arith}
 use mathlib.Core.Path.{_≡_, sym, ap, _∙_}
-use Prim.Native.Nat.{_+_, _-_, _*_, _^_, _≤_}
+use Prim.Native.Nat.{_+_, _-_, _*_, _^_, _≤_, _<_}
 use lib.ListN.{length, drop}
 use Rattle.cells.specs.Kinds.{notANumber}
 use Rattle.cells.specs.Cells.{strange, readOn, numberIn}
@@ -39,16 +39,18 @@ returns-4 : tie.Need-returns-4 Inv-loop μ-loop
 returns-4 c =
     let if2 = c .before .before in
     let byte = if2 .before in
+    let large : 2 ^ 64 ≤ turn byte .loop .n * 10 + (byte .wide .result - 48) = omega arith in
     sym (turn byte .loop .inv .1 ∙ next-byte _ _ _ (turn byte .loop .i) _ (byte .wide .ensures) (search needs)
-    ∙ simp (le-leb _ _ (if2 .if2 .left), le-leb _ _ (c .before .if3 .left), le-ltb (turn byte .loop .n * 10 + (byte .wide .result - 48)) (2 ^ 64) (omega arith)))
+    ∙ simp (le-leb _ _ (if2 .if2 .left), le-leb _ _ (c .before .if3 .left), le-ltb _ _ large))
 
 loop-again : tie.Need-loop-again Inv-loop μ-loop
 loop-again c =
     let if2 = c .before .before in
-    let byte = if2 .before in (
+    let byte = if2 .before in
+    let small : turn byte .loop .n * 10 + (byte .wide .result - 48) < 2 ^ 64 = omega arith in (
       search needs,
       turn byte .loop .inv .1 ∙ next-byte _ _ _ (turn byte .loop .i) _ (byte .wide .ensures) (search needs)
-          ∙ simp (le-leb _ _ (if2 .if2 .left), le-leb _ _ (c .before .if3 .left), lt-ltb (turn byte .loop .n * 10 + (byte .wide .result - 48)) (2 ^ 64) (omega arith)),
+          ∙ simp (le-leb _ _ (if2 .if2 .left), le-leb _ _ (c .before .if3 .left), lt-ltb _ _ small),
     )
 
 pub number-in-spec : {M : Type 1} → statement M

@@ -12,6 +12,7 @@ unfolding mark unmarked
 text-start-spec =
     tie.close
     (tie.spec
-    (λ c. (search needs, too-short _ (c .if1 .taken))) (λ c. sym (length-take-le 3 (c .before .before .before .args .file .now) (search needs))) (λ c. search needs) (λ c κs. search needs)
+    (λ c. (search needs, too-short _ (c .if1 .taken))) (λ c. sym (length-take-le 3 (c .before .before .before .args .file .now) (search needs)))
+    (λ c. search needs) (λ c κs. search needs)
     (λ c. (search needs, sym (simp (sym (c .before .same .ensures) ∙ c .if2 .taken))))
     (λ c. (search needs, sym (simp (sym (c .before .same .ensures) ∙ c .if2 .left)))))

@@ -5,7 +5,8 @@ use native.Mathlib.Omega.{arith}
 use Prim.Native.Nat.{_+_, _-_, _≤_, _<_}
 use mathlib.Core.Path.{sym, _∙_}
 use lib.ListN.{length}
-use Rattle.line_blocks.proofs.Walking.{Walking, walking-none, walking-long, walking-done, walking-tail, walking-refused, refused-long, wrote-short, walking-on}
+use Rattle.line_blocks.proofs.Walking.{Walking, walking-none, walking-long, walking-done, walking-tail, walking-on}
+use Rattle.line_blocks.proofs.Walking.{walking-refused, refused-long, wrote-short}
 use Rattle.line_blocks.proofs.convert_block.Statement.{statement}
 use Rattle.line_blocks.proofs.convert_block.Tie as tie
 
