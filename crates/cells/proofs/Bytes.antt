@@ -1,20 +1,19 @@
 -- A walk over the bytes of a cell, one place after the other: over blanks, over digits. Assumes nothing.
 use Prim.Native.Nat.{ℕ, suc, _+_, _-_, _*_, _^_, _≤_, _<_}
 use native.Mathlib.Omega.{arith}
-use mathlib.Core.Bool.{Bool, true, false}
+use mathlib.Core.Bool.{Bool, true, false, not}
 use mathlib.Core.List.{List, [], _∷_, _++_}
 use mathlib.Core.Path.{_≡_, refl, sym, ap, _∙_}
-use borrow.Author.Tests.{eq-eqb, ne-eqb, lt-ltb, le-ltb, lt-leb, le-leb}
+use borrow.Author.Tests.{eq-eqb, ne-eqb, eqb-true, eqb-false, lt-ltb, le-ltb}
 use native.Mathlib.Decide.{ℕ-discrete}
 use lib.Dec.{eqb, ltb, leb·suc-suc}
 use lib.ListN.{length, getD, take, drop, length-drop, drop-of-length-le}
-use Rattle.plain.specs.Lists.{if_then_else_, _oneOf_}
+use Rattle.plain.specs.Lists.{if_then_else_, _below_, _oneOf_, within}
 use Rattle.text.specs.Parts.{upTo}
 use lib.Seq.{take-suc, take-all}
 use Rattle.cells.specs.Kinds.{tooLarge, quoted}
-use Rattle.text.proofs.Cutting.{here}
+use Rattle.text.proofs.Cutting.{here, to-mark}
 use Rattle.cells.specs.Cells.{quote, blank, front, before, back, isEmpty, strange, readOn}
-use Rattle.cells.specs.declared.Number.{Number}
 use Rattle.cells.specs.declared.Number.the-variants.{Value, Refused}
 
 -- a part that reaches to the end
@@ -64,30 +63,17 @@ module _ (l : List ℕ) (n : ℕ) (r : List ℕ) (e : back (take n l) ≡ r) whe
 
 -- ---- over digits
 
-module _ (kind n : ℕ) (l : List ℕ) (i : ℕ) (v : Number) (r : v ≡ readOn kind n (drop i l)) where
-  pub all-digits : length l ≤ i → Value n ≡ v
-  unfolding readOn
-  all-digits h = sym (r ∙ ap (readOn kind n) (drop-of-length-le l h))
+-- what is left to read at a byte
+pub next-byte : (kind n : ℕ) (l : List ℕ) (i b : ℕ) → b ≡ getD l i 0 → i < length l → readOn kind n (drop i l)
+    ≡ (if not (within 48 57 b) then Refused kind
+    else if n * 10 + (b - 48) below 2 ^ 64 then readOn kind (n * 10 + (b - 48)) (drop (i + 1) l)
+    else Refused tooLarge)
+unfolding readOn
+next-byte kind n l i b e h = rw e (ap (readOn kind n) (here l i h))
 
-  module _ (b : ℕ) (e : b ≡ getD l i 0) (h : i < length l) where
-    at-byte : drop i l ≡ b ∷ drop (i + 1) l
-    at-byte = rw e (here l i h)
-
-    pub below-digits : b < 48 → Refused kind ≡ v
-    unfolding readOn
-    below-digits k = sym (r ∙ ap (readOn kind n) at-byte ∙ simp (lt-leb _ _ k))
-
-    pub above-digits : 48 ≤ b → 57 < b → Refused kind ≡ v
-    unfolding readOn
-    above-digits k m = sym (r ∙ ap (readOn kind n) at-byte ∙ simp (le-leb _ _ k, lt-leb _ _ m))
-
-    pub past-limit : 48 ≤ b → b ≤ 57 → 2 ^ 64 ≤ n * 10 + (b - 48) → Refused tooLarge ≡ v
-    unfolding readOn
-    past-limit k m o = sym (r ∙ ap (readOn kind n) at-byte ∙ simp (le-leb _ _ k, le-leb _ _ m, le-ltb _ _ o))
-
-    pub one-digit : 48 ≤ b → b ≤ 57 → n * 10 + (b - 48) < 2 ^ 64 → v ≡ readOn kind (n * 10 + (b - 48)) (drop (i + 1) l)
-    unfolding readOn
-    one-digit k m o = r ∙ ap (readOn kind n) at-byte ∙ simp (le-leb _ _ k, le-leb _ _ m, lt-ltb _ _ o)
+pub all-read : (kind n : ℕ) (l : List ℕ) (i : ℕ) → length l ≤ i → readOn kind n (drop i l) ≡ Value n
+unfolding readOn
+all-read kind n l i h = ap (readOn kind n) (drop-of-length-le l h)
 
 -- ---- nothing but blanks, and a quote somewhere
 
@@ -100,13 +86,10 @@ all-blank line n h e = rw (← e, length-drop n line) (go (ℕ-discrete n (lengt
     go (no d) = ne-eqb n (length line) d ∙ sym (ne-eqb (length line - n) 0 (λ z. d (omega arith)))
 
 has-mark : (mark : ℕ) (l : List ℕ) → mark oneOf l ≡ ltb (upTo mark l) (length l)
-unfolding upTo
-has-mark mark [] = refl
-has-mark mark (b ∷ l) = go (ℕ-discrete mark b) (has-mark mark l)
-  where
-    go : Dec (mark ≡ b) → mark oneOf l ≡ ltb (upTo mark l) (length l) → mark oneOf (b ∷ l) ≡ ltb (upTo mark (b ∷ l)) (length (b ∷ l))
-    go (yes s) e = simp (eq-eqb mark b s, eq-eqb b mark (sym s)) (sym (lt-ltb 0 (suc (length l)) (omega arith)))
-    go (no d) e = simp (ne-eqb mark b d, ne-eqb b mark (λ s. d (sym s))) (e ∙ sym (leb·suc-suc (suc (upTo mark l)) (length l)))
+has-mark mark =
+    to-mark mark (λ l n. mark oneOf l ≡ ltb n (length l)) refl
+    (λ b l e. simp (eq-eqb mark b (sym (eqb-true b mark e)), lt-ltb 0 (suc (length l)) (omega arith)))
+    (λ b l e more. simp (ne-eqb mark b (λ s. eqb-false b mark e (sym s))) (more ∙ sym (leb·suc-suc (suc (upTo mark l)) (length l))))
 
 module _ (kind : ℕ) (l : List ℕ) (end : ℕ) (e : end ≡ 0 + upTo quote (drop 0 l)) where
   reaches : end ≡ upTo quote l

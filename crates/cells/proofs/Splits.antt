@@ -1,38 +1,26 @@
 -- A block's lines, one after the other. Assumes nothing.
 use Prim.Native.Nat.{ℕ, suc, _+_, _-_, _≤_, _<_}
 use native.Mathlib.Omega.{arith}
-use mathlib.Core.Bool.{Bool, true, false}
 use mathlib.Core.List.{List, [], _∷_}
 use mathlib.Core.Path.{_≡_, refl, ap, _∙_}
 use borrow.Author.Tests.{lt-ltb, le-ltb}
-use lib.Dec.{eqb}
 use lib.ListN.{length, take, drop, length-drop, drop-of-length-le}
 use lib.Seq.{drop-drop}
-use Rattle.plain.specs.Lists.{if_then_else_}
 use Rattle.text.specs.Parts.{lineFeed, upTo}
+use Rattle.text.proofs.Cutting.{to-mark}
 use Rattle.cells.specs.Cells.{onto, wholeLines, tailOf}
 
 pub whole-last : (l : List ℕ) → length l ≤ upTo lineFeed l → wholeLines l ≡ []
-unfolding upTo wholeLines onto
-whole-last [] e = refl
-whole-last (b ∷ l) e = go (eqb b lineFeed) (whole-last l) e
-  where
-    go : (t : Bool) → (length l ≤ upTo lineFeed l → wholeLines l ≡ []) → suc (length l) ≤ (if t then 0 else suc (upTo lineFeed l))
-        → (if t then [] ∷ wholeLines l else onto b (wholeLines l)) ≡ []
-    go true more h = absurd (omega arith)
-    go false more h = ap (onto b) (more (omega arith))
+unfolding wholeLines onto
+whole-last =
+    to-mark lineFeed (λ l n. length l ≤ n → wholeLines l ≡ []) (λ h. refl) (λ b l e h. absurd (omega arith))
+    (λ b l e more h. simp (e, more (omega arith)))
 
 pub whole-more : (l : List ℕ) → upTo lineFeed l < length l → wholeLines l ≡ take (upTo lineFeed l) l ∷ wholeLines (drop (suc (upTo lineFeed l)) l)
-unfolding upTo wholeLines onto
-whole-more [] h = absurd (omega arith)
-whole-more (b ∷ l) h = go (eqb b lineFeed) (whole-more l) h
-  where
-    go : (t : Bool) → (upTo lineFeed l < length l → wholeLines l ≡ take (upTo lineFeed l) l ∷ wholeLines (drop (suc (upTo lineFeed l)) l))
-        → (if t then 0 else suc (upTo lineFeed l)) < suc (length l)
-        → (if t then [] ∷ wholeLines l else onto b (wholeLines l))
-        ≡ take (if t then 0 else suc (upTo lineFeed l)) (b ∷ l) ∷ wholeLines (drop (suc (if t then 0 else suc (upTo lineFeed l))) (b ∷ l))
-    go true more h = refl
-    go false more h = ap (onto b) (more (omega arith))
+unfolding wholeLines onto
+whole-more =
+    to-mark lineFeed (λ l n. n < length l → wholeLines l ≡ take n l ∷ wholeLines (drop (suc n) l)) (λ h. absurd (omega arith)) (λ b l e h. simp e)
+    (λ b l e more h. simp (e, more (omega arith)))
 
 pub tail-last : (l : List ℕ) → length l ≤ upTo lineFeed l → tailOf l ≡ l
 unfolding tailOf
@@ -41,14 +29,10 @@ tail-last (b ∷ l) h = simp (le-ltb _ _ h)
 
 pub tail-more : (l : List ℕ) → upTo lineFeed l < length l → tailOf l ≡ tailOf (drop (suc (upTo lineFeed l)) l)
 unfolding tailOf upTo
-tail-more [] h = absurd (omega arith)
-tail-more (b ∷ l) h = simp (lt-ltb _ _ h) (step (eqb b lineFeed) (tail-more l) h)
-  where
-    step : (t : Bool) → (upTo lineFeed l < length l → tailOf l ≡ tailOf (drop (suc (upTo lineFeed l)) l))
-        → (if t then 0 else suc (upTo lineFeed l)) < suc (length l)
-        → tailOf l ≡ tailOf (drop (suc (if t then 0 else suc (upTo lineFeed l))) (b ∷ l))
-    step true more h = refl
-    step false more h = more (omega arith)
+tail-more =
+    to-mark lineFeed (λ l n. n < length l → tailOf l ≡ tailOf (drop (suc n) l)) (λ h. absurd (omega arith))
+    (λ b l e h. simp (e, lt-ltb 0 (suc (length l)) (omega arith)))
+    (λ b l e more h. simp (e, lt-ltb (suc (upTo lineFeed l)) (suc (length l)) (omega arith)) (more (omega arith)))
 
 -- ---- the walk
 

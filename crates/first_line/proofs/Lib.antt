@@ -1,4 +1,2 @@
--- places and names
-mod Naming
--- the columns, one after the other
+-- the column of a field, a byte-order mark, and the columns, one after the other
 mod Heading

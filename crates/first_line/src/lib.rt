@@ -9,6 +9,7 @@ ghost use Rattle.plain.specs.Lists.{_oneOf_};
 ghost use Rattle.text.specs.Parts.{split};
 ghost use Rattle.cells.specs.Cells.{comma};
 ghost use Rattle.table.specs.Header.{noPlace, nameKind, headerFrom, headerOf, columnsOf, Usable, Known};
+ghost use Rattle.table.specs.Lines.{columnFrom};
 ghost use Rattle.table.specs.Import.{unmarked};
 
 // Where a text starts: behind its byte-order mark, if it has one.
@@ -34,18 +35,25 @@ fn name_kind(name: &[u8]) -> u64
     cells::kind_of(kinds::UNKNOWN_NAME, name)
 }
 
-// A column before has this place.
-fn seen(places: &[usize], place: usize) -> bool
-    ensures { λ r. ⌜ r ≡ place oneOf (now (places .entry)) ⌝ }
+// The column of a field, counted from 1; 0 where it has none.
+pub fn column_of(places: &[usize], place: usize) -> usize
+    ensures { λ r. ⌜ r ≡ columnFrom 1 (now (places .entry)) place ⌝ }
 {
     let mut i: usize = 0;
     while i < places.len() {
         if place == places[i] {
-            return true;
+            return i + 1;
         }
         i += 1;
     }
-    false
+    0
+}
+
+// A column before has this place.
+fn seen(places: &[usize], place: usize) -> bool
+    ensures { λ r. ⌜ r ≡ place oneOf (now (places .entry)) ⌝ }
+{
+    column_of(places, place) != 0
 }
 
 fn refused(kind: u64, column: usize) -> Columns

@@ -73,17 +73,15 @@ module _ {block places : List ℕ} {first empty₀ : ℕ} {out₀ out : List ℕ
     pub walking-tail : end ≡ length block → Answers (Checked.Passed at line empty to) out
     walking-tail h = ended (no-line block at end ends (w .inside) h) (all-tail block at end ends (w .inside) h)
 
-    module _ (h : end < length block) (step : Step) (s : step ≡ stepOf places line empty (take (end - at) (drop at block))) (part : List ℕ)
+    module _ (h : end < length block) (part : List ℕ)
         (p : part ≡ stepWritten places empty (take (end - at) (drop at block)) (midOf to (length out - to) out)) where
       lines : wholeLines (drop at block) ≡ take (end - at) (drop at block) ∷ wholeLines (drop (end + 1) block)
       lines = one-line block at end ends (w .inside) h
 
-      told : Goes places line empty (take (end - at) (drop at block)) step
-      told = rw s (goes places line empty (take (end - at) (drop at block)))
-
-      module _ (kind number column field : ℕ) (r : step ≡ Step.Refused kind number column field) where
+      module _ (kind number column field : ℕ)
+          (r : stepOf places line empty (take (end - at) (drop at block)) ≡ Step.Refused kind number column field) where
         refused : Goes places line empty (take (end - at) (drop at block)) (Step.Refused kind number column field)
-        refused = rw r at told
+        refused = rw r at (goes places line empty (take (end - at) (drop at block)))
 
         same : putMid to (length out - to) out part ≡ out
         same = ap (putMid to (length out - to) out) (p ∙ refused .1 (midOf to (length out - to) out)) ∙ put-same to (length out - to) out
@@ -100,9 +98,9 @@ module _ {block places : List ℕ} {first empty₀ : ℕ} {out₀ out : List ℕ
         pub refused-long : length (putMid to (length out - to) out part) ≡ length out₀
         refused-long = ap length same ∙ walking-long
 
-      module _ (empty′ wrote : ℕ) (r : step ≡ Step.Passed empty′ wrote) where
+      module _ (empty′ wrote : ℕ) (r : stepOf places line empty (take (end - at) (drop at block)) ≡ Step.Passed empty′ wrote) where
         added : Added places line empty (take (end - at) (drop at block)) empty′ wrote
-        added = rw r at told
+        added = rw r at (goes places line empty (take (end - at) (drop at block)))
 
         pub wrote-short : to + wrote ≤ 20 * (end + 1)
         wrote-short = omega (arith, w .short, added .wrote-is, added .short, length-take-le (end - at) (drop at block) (omega (arith, length-drop at block)))

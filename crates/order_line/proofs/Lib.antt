@@ -1,5 +1,3 @@
--- columns and cells
-mod Naming
 -- the numbers of a line, one after the other
 mod Numbers
 -- a line's order, and its record

@@ -27,20 +27,13 @@ module _ (places : List ℕ) (values : List ℕ) (column at : ℕ) (line : List 
     unfolding fieldsFrom
     few-cells h = sym (rw (here places column c, parts-none comma line at h)) ∙ e
 
-    module _ (h : at ≤ length line) (end : ℕ) (ends : end ≡ at + upTo comma (drop at line)) (number : Number)
-        (found : number ≡ fieldNumber (getD places column 0) (take (end - at) (drop at line))) where
-      step :
-          withNumber number (column + 1) (getD places column 0)
-          (λ n. fieldsFrom (drop (column + 1) places) (column + 1 + 1) (set values (getD places column 0) n) (partsFrom comma line (end + 1)))
-          ≡ r
-      unfolding fieldsFrom
-      step = rw found (sym (rw (here places column c, one-part comma line at end ends h)) ∙ e)
+    module _ (h : at ≤ length line) (end : ℕ) (ends : end ≡ at + upTo comma (drop at line)) where
+      pub bad-cell : (kind : ℕ) → fieldNumber (getD places column 0) (take (end - at) (drop at line)) ≡ Number.Refused kind
+          → refused kind (column + 1) (getD places column 0) ≡ r
+      unfolding fieldsFrom withNumber
+      bad-cell kind f = sym (rw (here places column c, one-part comma line at end ends h, f)) ∙ e
 
-      pub bad-cell : (kind : ℕ) → number ≡ Number.Refused kind → refused kind (column + 1) (getD places column 0) ≡ r
-      unfolding withNumber
-      bad-cell kind f = rw f at step
-
-      pub good-cell : (n : ℕ) → number ≡ Number.Value n
+      pub good-cell : (n : ℕ) → fieldNumber (getD places column 0) (take (end - at) (drop at line)) ≡ Number.Value n
           → fieldsFrom (drop (column + 1) places) (column + 1 + 1) (set values (getD places column 0) n) (partsFrom comma line (end + 1)) ≡ r
-      unfolding withNumber
-      good-cell n f = rw f at step
+      unfolding fieldsFrom withNumber
+      good-cell n f = sym (rw (here places column c, one-part comma line at end ends h, f)) ∙ e

@@ -115,20 +115,6 @@ fn line_fields(line: &[u8], places: &[usize]) -> Fields
     }
 }
 
-// The column of a field, counted from 1; 0 where it has none.
-fn column_of(places: &[usize], place: usize) -> usize
-    ensures { λ r. ⌜ r ≡ columnFrom 1 (now (places .entry)) place ⌝ }
-{
-    let mut i: usize = 0;
-    while i < places.len() {
-        if place == places[i] {
-            return i + 1;
-        }
-        i += 1;
-    }
-    0
-}
-
 // The refusal of an order that the record writer does not take, with the first field to which it applies.
 fn refused_row(order: Order, places: &[usize], number: u64) -> Row
     ensures { λ r. ⌜
@@ -140,7 +126,7 @@ fn refused_row(order: Order, places: &[usize], number: u64) -> Row
     let place = field_rules::refused_place(&fields);
     Row::Refused {
         kind: number,
-        column: column_of(places, place),
+        column: first_line::column_of(places, place),
         place: place,
     }
 }

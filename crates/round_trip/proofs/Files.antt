@@ -7,10 +7,7 @@ use lib.ListN.{length, replicate, take, drop, length-append, take-append-drop}
 use lib.Dec.{lit<, lit≤}
 use lib.Seq.{take-at, drop-append-add, getD-drop}
 use Rattle.bits.specs.Bits.{Octets}
-use Rattle.bits.specs.Layout.{pack}
-use Rattle.bits.proofs.Numbers.{length-bytes}
-use Rattle.rulebook.specs.Field.{widths}
-use Rattle.rulebook.specs.Record.{fieldsOf, readOf, recordOf, writeRefusal}
+use Rattle.rulebook.specs.Record.{readOf, recordOf, writeRefusal}
 use Rattle.rulebook.specs.declared.Order.{Order}
 use Rattle.rulebook.specs.declared.Read.{Read}
 use Rattle.rulebook.proofs.RoundTrips.{read-write, read-writable}
@@ -18,12 +15,9 @@ use Rattle.file.specs.Records as File
 use Rattle.file.proofs.Walking.{no-records, first-record}
 use Rattle.table.specs.Lines.{recordsOf}
 use Rattle.table.specs.Export.{Writable}
+use Rattle.table.proofs.Walking.{record-long}
 use Rattle.round_trip.specs.RoundTrips.{EachReads}
 use Rattle.round_trip.specs.RoundTrips.EachReads.{none, one}
-
-record-long : (order : Order) → length (recordOf order) ≡ 40
-unfolding recordOf
-record-long order = length-bytes 40 (pack 0 widths (fieldsOf order))
 
 -- ---- the file of orders
 

@@ -85,7 +85,8 @@ module _ (octets : List ℕ) (number : ℕ) (e : readOf octets ≡ Read.Refused 
 
 -- ---- lines, one after the other
 
-one-line : (text rest : List ℕ) → Without lineFeed text → isEmpty text ≡ false → fullLines (linesOf (text ++ (lineFeed ∷ rest))) ≡ text ∷ fullLines (linesOf rest)
+one-line : (text rest : List ℕ) → Without lineFeed text → isEmpty text ≡ false
+    → fullLines (linesOf (text ++ (lineFeed ∷ rest))) ≡ text ∷ fullLines (linesOf rest)
 one-line text rest no-feed full = ap fullLines (line-first text rest no-feed) ∙ full-later text (linesOf rest) full
 
 module _ (octets : List ℕ) (records : List (List ℕ)) where

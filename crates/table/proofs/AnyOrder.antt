@@ -1,7 +1,7 @@
 -- The order of the columns changes nothing: two neighbours change places in the first line and in every other. Assumes nothing.
 use Prim.Native.Nat.{ℕ, zero, suc, _+_, _≤_}
 use native.Mathlib.Omega.{arith}
-use mathlib.Core.Bool.{Bool, true, false, _&&_, true≢false}
+use mathlib.Core.Bool.{Bool, true, false, _&&_, and-false, true≢false}
 use mathlib.Core.List.{List, [], _∷_}
 use mathlib.Core.Path.{_≡_, refl, sym, ap, _∙_, subst}
 use borrow.Author.Tests.{ne-eqb, eqb-true}
@@ -96,11 +96,7 @@ alone-joined : (b : ℕ) (parts : List (List ℕ)) → alone (joined b parts) �
 unfolding joined isEmpty front
 alone-joined b [] = empty-cons b []
 alone-joined b (part ∷ []) = empty-cons b part
-alone-joined b (part ∷ next ∷ parts) = go (blank b)
-  where
-    go : (t : Bool) → false ≡ (t && false)
-    go true = refl
-    go false = refl
+alone-joined b (part ∷ next ∷ parts) = sym (and-false (blank b))
 
 some-cells : (cell line : List ℕ) → alone (cell ∷ cells line) ≡ false
 unfolding split joined
@@ -117,7 +113,8 @@ unfolding split
 empty-alone [] = refl
 empty-alone (b ∷ line) = empty-cons b line ∙ go (eqb b comma) refl (empty-alone line)
   where
-    go : (t : Bool) → eqb b comma ≡ t → isEmpty line ≡ alone (cells line) → (blank b && isEmpty line) ≡ alone (if t then [] ∷ cells line else joined b (cells line))
+    go : (t : Bool) → eqb b comma ≡ t → isEmpty line ≡ alone (cells line)
+        → (blank b && isEmpty line) ≡ alone (if t then [] ∷ cells line else joined b (cells line))
     go true e more = ap (λ (c : ℕ). blank c && isEmpty line) (eqb-true b comma e) ∙ sym (some-cells [] line)
     go false e more = ap (λ (t : Bool). blank b && t) more ∙ sym (alone-joined b (cells line))
 
@@ -150,7 +147,8 @@ full-exchange k (one {a = line} {b = other} c x) = go c (empty-exchange k line o
 
 -- ---- the whole table
 
-header-exchange : (k : ℕ) (header other places : List ℕ) → Exchanged k header other → headerOf header ≡ parsed places → headerOf other ≡ parsed (exchange k places)
+header-exchange : (k : ℕ) (header other places : List ℕ) → Exchanged k header other → headerOf header ≡ parsed places
+    → headerOf other ≡ parsed (exchange k places)
 unfolding headerOf
 header-exchange k header other places c e =
     let columns = header-columned header places e in

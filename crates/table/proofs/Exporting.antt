@@ -125,7 +125,8 @@ read-digits kind n (b ∷ l) e h =
 cell-decimal : (p n : ℕ) → eqb p 0 ≡ false → n < 2 ^ 64 → fieldNumber p (decimal n) ≡ Number.Value n
 unfolding fieldNumber optionalIn numberIn
 cell-decimal p n z h =
-    rw (trim-digits (decimal n) (digits-only n)) (simp (z, ne-eqb (length (decimal n)) 0 (decimal-some n), value (strange notANumber (decimal n))) (go (p is 1)))
+    rw (trim-digits (decimal n) (digits-only n))
+    (simp (z, ne-eqb (length (decimal n)) 0 (decimal-some n), value (strange notANumber (decimal n))) (go (p is 1)))
   where
     value : (kind : ℕ) → readOn kind 0 (decimal n) ≡ Number.Value n
     value kind = read-digits kind 0 (decimal n) (digits-only n) (rw (decimal-read n) h) ∙ ap Number.Value (decimal-read n)

@@ -7,11 +7,12 @@ use mathlib.Core.Path.{_≡_, refl, sym, ap, _∙_}
 use borrow.Author.Tests.{ne-eqb, ltb-true, ltb-false, lt-ltb, le-ltb}
 use lib.Dec.{eqb, ltb}
 use lib.ListN.{length, length-append}
-use Rattle.plain.specs.Lists.{if_then_else_}
+use Rattle.plain.specs.Lists.{if_then_else_, total}
 use Rattle.rulebook.specs.declared.Order.{Order}
 use Rattle.text.specs.Parts.{lineFeed, upTo, joined}
 use Rattle.cells.specs.Kinds.{emptyLine}
 use Rattle.cells.specs.Cells.{isEmpty, onto, linesOf, leading, fullLines, wholeLines, tailOf}
+use Rattle.text.proofs.Cutting.{to-mark}
 use Rattle.cells.proofs.Splits.{whole-last, whole-more}
 use Rattle.table.specs.Header.{noPlace}
 use Rattle.table.specs.Lines.{Imported, more, withRow, rowsFrom, rowOf, lineFields, ordered}
@@ -58,14 +59,10 @@ lines-tail (b ∷ l) p h = go (eqb b lineFeed) l (lines-tail l) h
     go false (c ∷ l) more h = ap (joined b) (more (omega arith) (omega arith))
 
 whole-tail : (l : List ℕ) → length l ≤ upTo lineFeed l → wholeLines (l ++ (lineFeed ∷ [])) ≡ l ∷ []
-unfolding wholeLines upTo onto
-whole-tail [] h = refl
-whole-tail (b ∷ l) h = go (eqb b lineFeed) (whole-tail l) h
-  where
-    go : (t : Bool) → (length l ≤ upTo lineFeed l → wholeLines (l ++ (lineFeed ∷ [])) ≡ l ∷ []) → suc (length l) ≤ (if t then 0 else suc (upTo lineFeed l))
-        → (if t then [] ∷ wholeLines (l ++ (lineFeed ∷ [])) else onto b (wholeLines (l ++ (lineFeed ∷ [])))) ≡ (b ∷ l) ∷ []
-    go true more h = absurd (omega arith)
-    go false more h = ap (onto b) (more (omega arith))
+unfolding wholeLines onto
+whole-tail =
+    to-mark lineFeed (λ l n. length l ≤ n → wholeLines (l ++ (lineFeed ∷ [])) ≡ l ∷ []) (λ h. refl) (λ b l e h. absurd (omega arith))
+    (λ b l e more h. simp (e, more (omega arith)))
 
 pub last-line : LastLine
 unfolding LastLine
@@ -175,23 +172,18 @@ all-converted places line lines all p e = go (walk places line 0 lines) (walked-
 
 -- ---- room
 
-lines-long : List (List ℕ) → ℕ
-lines-long [] = 0
-lines-long (line ∷ lines) = length line + 1 + lines-long lines
-
-onto-long : (b : ℕ) (lines : List (List ℕ)) → lines-long (onto b lines) ≤ suc (lines-long lines)
-unfolding onto lines-long
-onto-long b [] = omega arith
-onto-long b (line ∷ lines) = omega arith
+abbrev lines-long : List (List ℕ) → ℕ
+lines-long lines = total (λ line. length line + 1) lines
 
 whole-long : (block : List ℕ) → lines-long (wholeLines block) ≤ length block
-unfolding wholeLines lines-long
+unfolding wholeLines onto
 whole-long [] = omega arith
-whole-long (b ∷ l) = go (eqb b lineFeed) (whole-long l)
+whole-long (b ∷ l) = go (eqb b lineFeed) (wholeLines l) (whole-long l)
   where
-    go : (t : Bool) → lines-long (wholeLines l) ≤ length l → lines-long (if t then [] ∷ wholeLines l else onto b (wholeLines l)) ≤ suc (length l)
-    go true h = omega arith
-    go false h = omega (arith, onto-long b (wholeLines l))
+    go : (t : Bool) (lines : List (List ℕ)) → lines-long lines ≤ length l → lines-long (if t then [] ∷ lines else onto b lines) ≤ suc (length l)
+    go true lines h = omega arith
+    go false [] h = omega arith
+    go false (line ∷ lines) h = omega arith
 
 met-having : (met : List Order) (w : Walked) → metIn (having met w) ≡ met ++ metIn w
 unfolding metIn having
@@ -199,7 +191,6 @@ met-having met (stopped kind line column place others) = refl
 met-having met (reached line empty others) = refl
 
 met-short : (places : List ℕ) (line empty : ℕ) (lines : List (List ℕ)) → 2 * length (metIn (walk places line empty lines)) ≤ lines-long lines
-unfolding lines-long
 met-short places line empty [] = unfold walk metIn in omega arith
 met-short places line empty (text ∷ lines) = go (stepOf places line empty text) (goes places line empty text) (λ empty′. met-short places
     (line + 1) empty′ lines)

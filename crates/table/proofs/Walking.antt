@@ -23,7 +23,7 @@ use Rattle.table.specs.declared.Step.{Step}
 
 -- ---- records
 
-record-long : (order : Order) → length (recordOf order) ≡ 40
+pub record-long : (order : Order) → length (recordOf order) ≡ 40
 unfolding recordOf
 record-long order = length-bytes 40 (pack 0 widths (fieldsOf order))
 

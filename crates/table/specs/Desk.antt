@@ -8,7 +8,8 @@ use Rattle.rulebook.specs.Field.{minute, security, quantity, amount}
 use Rattle.rulebook.specs.Record.{orderOf}
 use Rattle.rulebook.specs.declared.Order.{Order}
 use Rattle.text.specs.Text.{text}
-use Rattle.cells.specs.Kinds.{noHeader, unknownName, repeatedName, minuteMissing, tooFewCells, tooManyCells, emptyCell, notANumber, tooLarge, quoted, unknownForm, emptyLine}
+use Rattle.cells.specs.Kinds.{noHeader, unknownName, repeatedName, minuteMissing, tooFewCells, tooManyCells}
+use Rattle.cells.specs.Kinds.{emptyCell, notANumber, tooLarge, quoted, unknownForm, emptyLine}
 use Rattle.table.specs.Header.{noPlace}
 use Rattle.table.specs.Lines.{Imported}
 use Rattle.table.specs.Lines.Imported.{refusedAt, orders}

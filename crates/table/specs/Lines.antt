@@ -76,7 +76,7 @@ unfoldable pub rowOf : List ℕ → List ℕ → Row
 rowOf places line = ordered places (lineFields places line)
 
 -- what the code's answer means
-unfoldable pub fieldsRead : Fields → Parsed
+abbrev pub fieldsRead : Fields → Parsed
 fieldsRead fields = if fields .good then parsed (fields .values) else refused (fields .kind) (fields .column) (fields .place)
 
 -- a buffer after a row: its record at the start, the rest as it was

@@ -5,7 +5,7 @@ use native.Mathlib.Numerals.{add-one}
 use mathlib.Core.Bool.{Bool, true, false, _&&_}
 use mathlib.Core.List.{List, [], _∷_}
 use mathlib.Core.Path.{_≡_, refl, sym, ap, _∙_}
-use borrow.Author.Tests.{eq-eqb, ne-eqb, ltb-true, ltb-false, lt-ltb, le-ltb, lt-leb, le-leb}
+use borrow.Author.Tests.{eq-eqb, ne-eqb, ltb-true, ltb-false, lt-leb, le-leb}
 use lib.Dec.{eqb, ltb}
 use lib.ListN.{length, getD, take, drop, length-drop, drop-of-length-le}
 use lib.Seq.{drop-cons, drop-drop, take-all}
@@ -18,14 +18,20 @@ here l i h = rw add-one (drop-cons l i 0 h)
 
 -- ---- to a mark
 
+-- what holds of nothing, of a mark with all behind it, and of another byte before a text of which it holds, holds of how far it is to the mark
+module _ (mark : ℕ) (P : List ℕ → ℕ → Type 0) (none : P [] 0) (found : (b : ℕ) (l : List ℕ) → eqb b mark ≡ true → P (b ∷ l) 0)
+    (on : (b : ℕ) (l : List ℕ) → eqb b mark ≡ false → P l (upTo mark l) → P (b ∷ l) (suc (upTo mark l))) where
+  pub to-mark : (l : List ℕ) → P l (upTo mark l)
+  unfolding upTo
+  to-mark [] = none
+  to-mark (b ∷ l) = go (eqb b mark) refl (to-mark l)
+    where
+      go : (t : Bool) → eqb b mark ≡ t → P l (upTo mark l) → P (b ∷ l) (if t then 0 else suc (upTo mark l))
+      go true e more = found b l e
+      go false e more = on b l e more
+
 pub up-le : (mark : ℕ) (l : List ℕ) → upTo mark l ≤ length l
-unfolding upTo
-up-le mark [] = omega arith
-up-le mark (b ∷ l) = go (eqb b mark) (up-le mark l)
-  where
-    go : (t : Bool) → upTo mark l ≤ length l → (if t then 0 else suc (upTo mark l)) ≤ suc (length l)
-    go true h = omega arith
-    go false h = omega arith
+up-le mark = to-mark mark (λ l n. n ≤ length l) (omega arith) (λ b l e. omega arith) (λ b l e more. omega arith)
 
 module _ (mark : ℕ) (l : List ℕ) (i : ℕ) where
   up-here : i < length l → getD l i 0 ≡ mark → upTo mark (drop i l) ≡ 0
@@ -54,26 +60,16 @@ module _ (mark : ℕ) (l : List ℕ) (i r : ℕ) (e : i + upTo mark (drop i l) �
 -- ---- parts
 
 split-last : (mark : ℕ) (l : List ℕ) → length l ≤ upTo mark l → split mark l ≡ l ∷ []
-unfolding upTo split joined
-split-last mark [] e = refl
-split-last mark (b ∷ l) e = go (eqb b mark) (split-last mark l) e
-  where
-    go : (t : Bool) → (length l ≤ upTo mark l → split mark l ≡ l ∷ []) → suc (length l) ≤ (if t then 0 else suc (upTo mark l))
-        → (if t then [] ∷ split mark l else joined b (split mark l)) ≡ (b ∷ l) ∷ []
-    go true more h = absurd (omega arith)
-    go false more h = ap (joined b) (more (omega arith))
+unfolding split joined
+split-last mark =
+    to-mark mark (λ l n. length l ≤ n → split mark l ≡ l ∷ []) (λ h. refl) (λ b l e h. absurd (omega arith))
+    (λ b l e more h. simp (e, more (omega arith)))
 
 split-more : (mark : ℕ) (l : List ℕ) → upTo mark l < length l → split mark l ≡ take (upTo mark l) l ∷ split mark (drop (suc (upTo mark l)) l)
-unfolding upTo split joined
-split-more mark [] h = absurd (omega arith)
-split-more mark (b ∷ l) h = go (eqb b mark) (split-more mark l) h
-  where
-    go : (t : Bool) → (upTo mark l < length l → split mark l ≡ take (upTo mark l) l ∷ split mark (drop (suc (upTo mark l)) l))
-        → (if t then 0 else suc (upTo mark l)) < suc (length l)
-        → (if t then [] ∷ split mark l else joined b (split mark l))
-        ≡ take (if t then 0 else suc (upTo mark l)) (b ∷ l) ∷ split mark (drop (suc (if t then 0 else suc (upTo mark l))) (b ∷ l))
-    go true more h = refl
-    go false more h = ap (joined b) (more (omega arith))
+unfolding split joined
+split-more mark =
+    to-mark mark (λ l n. n < length l → split mark l ≡ take n l ∷ split mark (drop (suc n) l)) (λ h. absurd (omega arith)) (λ b l e h. simp e)
+    (λ b l e more h. simp (e, more (omega arith)))
 
 -- the parts from a place on; none behind the end
 unfoldable pub partsFrom : (mark : ℕ) → List ℕ → ℕ → List (List ℕ)

@@ -22,13 +22,15 @@ turn c = c .before .before .before
 returns : tie.Need-returns Inv-loop μ-loop
 returns c = (
   search needs,
-  back-stop _ (turn (c .before) .loop .end) _ (turn (c .before) .loop .inv .1) (search needs) (search needs) (sym (c .before .is-blank .ensures) ∙ not-true _ (c .if1 .taken)),
+  back-stop _ (turn (c .before) .loop .end) _ (turn (c .before) .loop .inv .1) (search needs) (search needs)
+      (sym (c .before .is-blank .ensures) ∙ not-true _ (c .if1 .taken)),
 )
 
 loop-again : tie.Need-loop-again Inv-loop μ-loop
 loop-again c = (
   search needs,
-  back-on _ (turn (c .before) .loop .end) _ (turn (c .before) .loop .inv .1) (search needs) (search needs) (sym (c .before .is-blank .ensures) ∙ not-false _ (c .if1 .left)),
+  back-on _ (turn (c .before) .loop .end) _ (turn (c .before) .loop .inv .1) (search needs) (search needs)
+      (sym (c .before .is-blank .ensures) ∙ not-false _ (c .if1 .left)),
 )
 
 pub text-end-spec : {M : Type 1} → statement M

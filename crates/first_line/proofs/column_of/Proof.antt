@@ -1,12 +1,12 @@
--- `order_line::column_of` meets its contract: the places passed are others. Assumes nothing.
+-- `first_line::column_of` meets its contract: the places passed are others. Assumes nothing.
 use borrow.Author.Needs.{needs}
 use mathlib.Core.Path.{_≡_, refl}
 use Prim.Native.Nat.{_+_, _-_, _≤_}
 use lib.ListN.{length, drop}
 use Rattle.table.specs.Lines.{columnFrom}
-use Rattle.order_line.proofs.Naming.{column-found, column-on, column-none}
-use Rattle.order_line.proofs.column_of.Statement.{statement}
-use Rattle.order_line.proofs.column_of.Tie as tie
+use Rattle.first_line.proofs.Heading.{column-found, column-on, column-none}
+use Rattle.first_line.proofs.column_of.Statement.{statement}
+use Rattle.first_line.proofs.column_of.Tie as tie
 
 abbrev Inv-loop : tie.InvT-loop
 Inv-loop places place i₀ i = (i ≤ length places) × (columnFrom (i + 1) (drop i places) place ≡ columnFrom 1 places place)
