@@ -3,21 +3,11 @@ use Prim.Native.Nat.{ℕ, _+_, _/_, _%_}
 use native.Mathlib.Omega.{arith}
 use mathlib.Core.List.{List, [], _∷_, _++_, append-assoc, append-nil}
 use mathlib.Core.Path.{_≡_, refl, sym, ap, _∙_}
-use lib.ListN.{length, take, drop, length-append}
-use lib.Seq.{take-at, length-take-le}
-use Rattle.text.specs.Text.{put, Put}
+use lib.ListN.{length, take, drop}
 use Rattle.file.specs.Records.{recordsOf}
 use Rattle.file.proofs.Walking.{no-records, records-append}
 use Rattle.table_lines.specs.Exported.{nameLine, recordLines, exported}
 use Rattle.export.specs.Written.{BLOCK, FileWritten, RecordsWritten, TableWritten}
-
--- what stands before the place behind bytes that were put
-pub put-taken : {out bytes after : List ℕ} {at next : ℕ} → Put out at bytes after next → take next after ≡ take at out ++ bytes
-unfolding put
-put-taken {out} {bytes} {after} {at} {next} p =
-    let head : length (take at out ++ bytes) ≡ next =
-    length-append (take at out) bytes ∙ omega (arith, length-take-le at out (omega (arith, p .room)), p .place) in
-    ap (take next) (p .contents) ∙ take-at (take at out ++ bytes) (drop (at + length bytes) out) next head
 
 lines-append : (first more : List (List ℕ)) → recordLines (first ++ more) ≡ recordLines first ++ recordLines more
 unfolding recordLines

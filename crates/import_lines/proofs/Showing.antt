@@ -3,9 +3,9 @@ use Prim.Native.Nat.{ℕ, zero, suc, _+_, _≤_, _<_}
 use native.Mathlib.Omega.{arith}
 use mathlib.Core.List.{List, [], _∷_, _++_, map}
 use mathlib.Core.Path.{_≡_, refl, sym, ap, _∙_}
-use lib.ListN.{length, getD, take, drop}
-use lib.Seq.{take-all, take-at}
-use Rattle.text.specs.Text.{text, put, Put}
+use lib.ListN.{length, getD, take}
+use lib.Seq.{take-all}
+use Rattle.text.specs.Text.{text}
 use Rattle.import_lines.specs.Told.{shown, bracketed}
 
 pub shown-at : (l : List ℕ) (i : ℕ) → i < length l → getD (map shown l) i 0 ≡ shown (getD l i 0)
@@ -25,10 +25,3 @@ some-brackets (b ∷ name) n = refl
 
 pub short-brackets : (name : List ℕ) → (length name ≡ 0 → ⊥) → length name ≤ 80 → bracketed name ≡ text " (" ++ map shown name ++ text ")"
 short-brackets name n h = rw (some-brackets name n, take-all 80 name h)
-
--- bytes that were put at the start
-pub put-taken : {before bytes after : List ℕ} {next : ℕ} → Put before 0 bytes after next → take next after ≡ bytes
-unfolding put
-put-taken {before} {bytes} {after} {next} p =
-    let n : next ≡ length bytes = p .place ∙ omega arith in
-    ap (take next) (p .contents) ∙ take-at bytes (drop (0 + length bytes) before) next (sym n)

@@ -3,24 +3,15 @@ use Prim.Native.Nat.{ℕ, _+_, _≤_}
 use native.Mathlib.Omega.{arith}
 use mathlib.Core.List.{List, [], _∷_, _++_, append-assoc, append-nil}
 use mathlib.Core.Path.{_≡_, refl, sym, ap, _∙_}
-use lib.ListN.{length, take, drop, length-append}
-use lib.Seq.{take-at, length-take-le}
+use lib.ListN.{length, take, drop}
 use Rattle.book.specs.Meaning.{ledgerOf}
 use Rattle.book.specs.Stored.{Kept}
-use Rattle.text.specs.Text.{put, Put}
+use Rattle.text.proofs.Putting.{put-taken}
 use Rattle.printing.specs.Printed.{bookAfter, areaAfter, Lent}
 use Rattle.printing.proofs.AnswerLines.{book-append, area-append}
 use Rattle.statements.specs.Stated.{statementLines, PartPut, RecordsStated}
 use Rattle.statements.specs.declared.calls.Part.{Part}
 use Rattle.statements.proofs.Walks.{lines-append}
-
--- what stands before the place behind bytes that were put
-put-taken : {out bytes after : List ℕ} {at next : ℕ} → Put out at bytes after next → take next after ≡ take at out ++ bytes
-unfolding put
-put-taken {out} {bytes} {after} {at} {next} p =
-    let head : length (take at out ++ bytes) ≡ next =
-    length-append (take at out) bytes ∙ omega (arith, length-take-le at out (omega (arith, p .room)), p .place) in
-    ap (take next) (p .contents) ∙ take-at (take at out ++ bytes) (drop (at + length bytes) out) next head
 
 pub stated-nothing : (number : ℕ) (book area waiting : List ℕ) → Kept book → RecordsStated [] number book area waiting number book area waiting
 unfolding statementLines bookAfter areaAfter

@@ -28,6 +28,13 @@ module _ (out : List ℕ) (at : ℕ) (bytes : List ℕ) (room : at + length byte
       let both : at + length bytes + length more ≡ at + length (bytes ++ more) = rw (length-append bytes more) (omega arith) in
       rw (take-at (take at out ++ bytes) (drop (at + length bytes) out) (at + length bytes) head-length, behind, append-assoc (take at out) bytes more, both)
 
+-- what stands before the place behind bytes that were put
+pub put-taken : {out bytes after : List ℕ} {at next : ℕ} → Put out at bytes after next → take next after ≡ take at out ++ bytes
+unfolding put
+put-taken {out} {bytes} {after} {at} {next} p =
+    ap (take next) (p .contents)
+    ∙ take-at (take at out ++ bytes) (drop (at + length bytes) out) next (head-length out at bytes (p .room) ∙ sym (p .place))
+
 -- nothing leaves the buffer as it is
 pub put-none : (out : List ℕ) (at : ℕ) → at ≤ length out → Put out at [] out at
 unfolding put

@@ -7,7 +7,7 @@ use Prim.Native.Nat.{ℕ, _+_, _/_}
 use lib.ListN.{take, length-take}
 use lib.Seq.{length-take-le}
 use Rattle.file.proofs.Walking.{records-length}
-use Rattle.export.proofs.Blocks.{put-taken}
+use Rattle.text.proofs.Putting.{put-taken}
 use Rattle.export.proofs.put_block.Statement.{statement}
 use Rattle.export.proofs.put_block.Tie as tie
 

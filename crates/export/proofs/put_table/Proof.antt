@@ -1,6 +1,7 @@
 -- `export::put_table` meets its contract: the first line waits in the buffer before the records' lines. Assumes nothing.
 use borrow.Author.Needs.{needs}
-use Rattle.export.proofs.Blocks.{put-taken, table-written}
+use Rattle.text.proofs.Putting.{put-taken}
+use Rattle.export.proofs.Blocks.{table-written}
 use Rattle.export.proofs.put_table.Statement.{statement}
 use Rattle.export.proofs.put_table.Tie as tie
 

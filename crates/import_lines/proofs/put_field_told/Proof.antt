@@ -2,7 +2,7 @@
 use borrow.Author.Needs.{needs}
 use mathlib.Core.Path.{sym}
 use lib.Seq.{length-take-le}
-use Rattle.import_lines.proofs.Showing.{put-taken}
+use Rattle.text.proofs.Putting.{put-taken}
 use Rattle.import_lines.proofs.put_field_told.Statement.{statement}
 use Rattle.import_lines.proofs.put_field_told.Tie as tie
 
