@@ -5,4 +5,4 @@ use Rattle.sheet.proofs.input_buffer.Statement.{statement}
 use Rattle.sheet.proofs.input_buffer.Tie as tie
 
 pub input-buffer-spec : {M : Type 1} → statement M
-input-buffer-spec = tie.close (tie.spec (λ c. length-replicate {A = ℕ} 40960 0))
+input-buffer-spec = tie.close (tie.spec (λ c. length-replicate {A = ℕ} _ 0))

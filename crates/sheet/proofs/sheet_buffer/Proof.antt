@@ -5,4 +5,4 @@ use Rattle.sheet.proofs.sheet_buffer.Statement.{statement}
 use Rattle.sheet.proofs.sheet_buffer.Tie as tie
 
 pub sheet-buffer-spec : {M : Type 1} → statement M
-sheet-buffer-spec = tie.close (tie.spec (λ c. length-replicate {A = ℕ} 400000 0))
+sheet-buffer-spec = tie.close (tie.spec (λ c. length-replicate {A = ℕ} _ 0))
