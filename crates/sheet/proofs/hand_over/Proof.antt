@@ -1,5 +1,4 @@
 -- `sheet::hand_over` meets its contract: the sheet is printed where the input ended. Assumes nothing.
-use borrow.Author.Needs.{needs}
 use mathlib.Core.Path.{sym, _∙_}
 use mathlib.Core.List.{[]}
 use mathlib.Core.Bool.{false≢true}
