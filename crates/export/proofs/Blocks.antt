@@ -3,7 +3,7 @@ use Prim.Native.Nat.{ℕ, _+_, _/_, _%_}
 use native.Mathlib.Omega.{arith}
 use mathlib.Core.List.{List, [], _∷_, _++_, append-assoc, append-nil}
 use mathlib.Core.Path.{_≡_, refl, sym, ap, _∙_}
-use lib.ListN.{length, take, drop}
+use lib.ListN.{length, length-append}
 use Rattle.file.specs.Records.{recordsOf}
 use Rattle.file.proofs.Walking.{no-records, records-append}
 use Rattle.table_lines.specs.Exported.{nameLine, recordLines, exported}

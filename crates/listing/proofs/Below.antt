@@ -7,7 +7,6 @@ use mathlib.Core.Path.{_≡_, refl, sym, ap, ap₂, _∙_}
 use lib.ListN.{length, getD, take}
 use lib.Seq.{take-suc}
 use Rattle.plain.specs.Lists.{sumBelow}
-use Rattle.plain.proofs.Sums.{sum-suc}
 use Rattle.listing.specs.InOrder.{eachBelow, eachOf}
 
 module _ {A : Type 0} where

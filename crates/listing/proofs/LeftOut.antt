@@ -5,7 +5,7 @@ use mathlib.Core.Bool.{Bool, true, false, false≢true}
 use mathlib.Core.List.{List, [], _∷_}
 use mathlib.Core.Path.{_≡_, refl}
 use borrow.Author.Tests.{eqb-true}
-use Rattle.plain.specs.Lists.{_is_, _isNot_, some, Each}
+use Rattle.plain.specs.Lists.{_is_, some, Each}
 use Rattle.rulebook.specs.Ledger.{Ledger, admitted}
 use Rattle.rulebook.specs.Premise.{Premise, SecurityFits, AccountFits}
 use Rattle.rulebook.specs.Ranges.{AccountInRange}
@@ -13,7 +13,7 @@ use Rattle.rulebook.specs.declared.Account.{Account}
 use Rattle.rulebook.specs.declared.Security.{Security}
 use Rattle.rulebook.proofs.Types.{type-fits}
 use Rattle.requests.specs.Packed.{ReferenceInRange}
-use Rattle.listing.specs.Listed.{isListed, hasOpen}
+use Rattle.listing.specs.Listed.{hasOpen}
 use Rattle.listing.specs.Complete.{NothingLeftOut}
 use Rattle.listing.proofs.Complete.{accounts-complete, cash-complete, requests-complete}
 use Rattle.listing.proofs.HeldBack.{not-none, has-balance}

@@ -75,7 +75,9 @@ module _ {A : Type 0} (xs : List A) (none : A) where
   pub all-placed : eachBelow (length xs) placed ≡ xs
   all-placed = first-placed (length xs) (omega arith) ∙ take-length xs
 
-  pub put-placed : (w : A → List ℕ) {out after : List ℕ} {at next : ℕ} (i : ℕ) → Put out at (w (getD xs i none)) after next → Put out at (eachOf w (placed i)) after next
+  pub put-placed :
+      (w : A → List ℕ) {out after : List ℕ} {at next : ℕ} (i : ℕ) → Put out at (w (getD xs i none)) after next
+      → Put out at (eachOf w (placed i)) after next
   put-placed w i put = rw (of-one w (getD xs i none)) put
 
 -- ---- a walk from number to number

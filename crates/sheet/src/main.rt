@@ -1,7 +1,7 @@
 // The handover sheet: calls the records of standard input one after the other on a fresh book, and prints the book that they lead to; with the word
 // `html` as a page. What it cannot do it tells in one line on standard error.
 ghost use mathlib.Core.Path.{_≡_};
-ghost use Prim.Native.Nat.{_+_, _^_, _≤_, _<_};
+ghost use Prim.Native.Nat.{_+_, _^_, _<_};
 ghost use lib.ListN.{length};
 ghost use Rattle.book.specs.Meaning.{ledgerOf};
 ghost use Rattle.book.specs.Stored.{Kept};

@@ -1,6 +1,5 @@
 -- The heading, and the day's line (RULES 18.3).
 use Prim.Native.Nat.{ℕ}
-use Prim.Native.String.{String}
 use mathlib.Core.Bool.{Bool}
 use mathlib.Core.List.{List, [], _∷_, _++_}
 use Rattle.plain.specs.Lists.{if_then_else_}

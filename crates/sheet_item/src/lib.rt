@@ -1,7 +1,4 @@
 // A waiting item's line.
-mod marks;
-mod state;
-
 ghost use mathlib.Core.List.{[]};
 ghost use Prim.Native.Nat.{_+_, _≤_};
 ghost use lib.ListN.{length};
@@ -59,9 +56,9 @@ pub fn put_item(out: &mut [u8], at: usize, page: bool, item: Item) -> usize
     ensures { λ r. ⌜ Put (now (out .entry)) at (itemLine page item) (now (out .exit)) r ⌝ }
     ensures { λ r. ⌜ r ≤ at + 1700 ⌝ }
 {
-    let now = item.state;
-    let mut next = state::put_state(out, at, page, now);
+    let state = item.state;
+    let mut next = sheet_state::put_state(out, at, page, state);
     next = put_terms(out, next, page, item);
-    next = marks::put_marks(out, next, page, now);
+    next = sheet_state::put_marks(out, next, page, state);
     put_end(out, next, page)
 }

@@ -2,9 +2,9 @@
 use crate::line;
 ghost use mathlib.Core.Bool.{true};
 ghost use mathlib.Core.Path.{_≡_};
-ghost use Prim.Native.Nat.{_+_, _≤_, _<_};
+ghost use Prim.Native.Nat.{_+_, _≤_};
 ghost use lib.ListN.{length};
-ghost use Rattle.book.specs.Keys.{requestLimit, isOpen};
+ghost use Rattle.book.specs.Keys.{isOpen};
 ghost use Rattle.book.specs.Meaning.{ledgerOf};
 ghost use Rattle.book.specs.Stored.{Kept};
 ghost use Rattle.listing.specs.InOrder.{eachOf};

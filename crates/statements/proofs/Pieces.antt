@@ -3,7 +3,7 @@ use Prim.Native.Nat.{ℕ, _+_, _≤_}
 use native.Mathlib.Omega.{arith}
 use mathlib.Core.List.{List, [], _∷_, _++_, append-assoc, append-nil}
 use mathlib.Core.Path.{_≡_, refl, sym, ap, _∙_}
-use lib.ListN.{length, take, drop}
+use lib.ListN.{length, take, length-append}
 use Rattle.book.specs.Meaning.{ledgerOf}
 use Rattle.book.specs.Stored.{Kept}
 use Rattle.text.proofs.Putting.{put-taken}

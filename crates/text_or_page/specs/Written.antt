@@ -2,7 +2,7 @@
 use Prim.Native.Nat.{ℕ, _/_, _%_}
 use Prim.Native.String.{String}
 use mathlib.Core.Bool.{Bool}
-use mathlib.Core.List.{List, [], _∷_, _++_}
+use mathlib.Core.List.{List, [], _∷_}
 use Rattle.plain.specs.Lists.{if_then_else_}
 use Rattle.text.specs.Text.{text}
 use Rattle.wording.specs.Fill.{fill}

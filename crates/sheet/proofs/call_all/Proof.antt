@@ -108,5 +108,10 @@ pub call-all-spec : {M : Type 1} → statement M
 call-all-spec =
     tie.close
     (tie.spec
-    Inv-loop μ-loop loop-holds call-block-requires (λ c. search needs) (λ c. search needs) (λ c. search needs) (λ c. search needs)
-    returns loop-less loop-again (λ c. search needs) (λ c. search needs) (λ c. search needs) (λ c. search needs) returns-2)
+    Inv-loop μ-loop loop-holds call-block-requires
+    (λ c. let p = ended c in p .call-block .kept .0 ∙ turn p .loop .inv .1)
+    (λ c. let p = ended c in p .call-block .kept .1 .0 ∙ turn p .loop .inv .2)
+    (λ c. let p = ended c in p .call-block .kept .1 .1 .0 ∙ turn p .loop .inv .3)
+    (λ c. let p = ended c in p .call-block .kept .1 .1 .1 .0 ∙ turn p .loop .inv .4)
+    returns loop-less loop-again
+    (λ c. c .before .loop .inv .1) (λ c. c .before .loop .inv .2) (λ c. c .before .loop .inv .3) (λ c. c .before .loop .inv .4) returns-2)

@@ -8,6 +8,15 @@ use native.Mathlib.Omega.{arith}
 use Rattle.sheet.proofs.call_block.Statement.{statement}
 use Rattle.sheet.proofs.call_block.Tie as tie
 
+-- ---- places
+
+-- where the records of the block were called, and where it was read
+abbrev called : tie.After-slice-known8 → tie.After-put-block
+called c = c .before .before .before .before .before .before
+
+abbrev filled : tie.After-put-block → tie.After-fill-records
+filled c = let behind = c .before .before .before .before .before .before in behind .before .before
+
 slice-aggregate-put-block : tie.Need-slice-aggregate-put-block
 slice-aggregate-put-block c =
     let fill = c .before .before .before .before .before .before .fill-records in
@@ -25,13 +34,11 @@ put-block-requires c κs =
 
 returns : tie.Need-returns
 returns c =
-    let put = c .before .before .before .before .before .before in
-    let behind = put .before .before .before .before .before .before in
-    let filled = behind .before .before in
-    let lent = filled .before .before .before .before .before .before in
+    let read = filled (called c) in
+    let lent = read .before .before .before .before .before .before in
     record {
-      called = block-called (put .put-block .ensures);
-      whole = λ e. filled .fill-records .ensures .within .full e ∙ lent .before .pre .1;
+      called = block-called (called c .put-block .ensures);
+      whole = λ e. read .fill-records .ensures .within .full e ∙ lent .before .pre .1;
     }
 
 pub call-block-spec : {M : Type 1} → statement M
@@ -39,4 +46,5 @@ call-block-spec =
     tie.close
     (tie.spec
     (λ c. search needs) (λ c κs. search needs) (λ c. search needs) slice-aggregate-put-block put-block-requires
-    (λ c. search needs) (λ c. search needs) (λ c. search needs) (λ c. search needs) returns)
+    (λ c. called c .put-block .kept .1 .1 .0) (λ c. called c .put-block .kept .1 .1 .1 .1 .0) (λ c. filled (called c) .fill-records .kept .0)
+    (λ c. called c .put-block .kept .0) returns)

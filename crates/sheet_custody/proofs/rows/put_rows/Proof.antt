@@ -13,7 +13,8 @@ use Rattle.sheet_custody.proofs.rows.put_rows.Statement.{statement}
 use Rattle.sheet_custody.proofs.rows.put_rows.Tie as tie
 
 abbrev Inv-loop : tie.InvT-loop
-Inv-loop out₀ at page book n next₀ i₀ out next i = (i ≤ n) × Counted (securityLine page) (placed (ledgerOf book .holdings .securities) noSecurity) 500 out₀ at out next i
+Inv-loop out₀ at page book n next₀ i₀ out next i =
+    (i ≤ n) × Counted (securityLine page) (placed (ledgerOf book .holdings .securities) noSecurity) 500 out₀ at out next i
 
 abbrev μ-loop : tie.MeasureT-loop
 μ-loop out₀ at page book n next₀ i₀ out next i = n - i

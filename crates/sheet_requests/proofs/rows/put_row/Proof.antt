@@ -3,7 +3,7 @@ use borrow.Author.Needs.{needs}
 use Rattle.book.specs.Keys.{memberOf, referenceOf}
 use Rattle.book.specs.Meaning.{ledgerOf}
 use Rattle.sheet_requests.specs.Rows.{requestRow}
-use Rattle.listing.proofs.Rows.{put-listed, put-unlisted}
+use Rattle.listing.proofs.Rows.{put-listed}
 use Rattle.sheet_requests.proofs.rows.put_row.Statement.{statement}
 use Rattle.sheet_requests.proofs.rows.put_row.Tie as tie
 

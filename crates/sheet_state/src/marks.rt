@@ -5,7 +5,7 @@ ghost use lib.ListN.{length};
 ghost use Rattle.plain.specs.Lists.{if_then_else_};
 ghost use Rattle.text.specs.Text.{Put};
 ghost use Rattle.wording.specs.Fill.{fill};
-ghost use Rattle.sheet_item.specs.ItemLine.{halvesOf, marksOf};
+ghost use Rattle.sheet_state.specs.State.{halvesOf, marksOf};
 use rulebook::State;
 
 // Words where there is a mark.

@@ -1,9 +1,9 @@
--- `sheet_item::state::put_single` meets its contract. Assumes nothing.
+-- `sheet_state::state::put_single` meets its contract. Assumes nothing.
 use borrow.Author.Needs.{needs}
-use Rattle.sheet_item.specs.ItemLine.{stateOf}
+use Rattle.sheet_state.specs.State.{stateOf}
 use native.Mathlib.Omega.{arith}
-use Rattle.sheet_item.proofs.state.put_single.Statement.{statement}
-use Rattle.sheet_item.proofs.state.put_single.Tie as tie
+use Rattle.sheet_state.proofs.state.put_single.Statement.{statement}
+use Rattle.sheet_state.proofs.state.put_single.Tie as tie
 
 returns : tie.Need-returns
 unfolding stateOf

@@ -2,7 +2,7 @@
 ghost use Prim.Native.Nat.{_+_, _≤_};
 ghost use lib.ListN.{length};
 ghost use Rattle.text.specs.Text.{Put};
-ghost use Rattle.sheet_item.specs.ItemLine.{stateOf};
+ghost use Rattle.sheet_state.specs.State.{stateOf};
 use rulebook::State;
 
 fn put_single(out: &mut [u8], at: usize, page: bool, delivers: bool, reference: u64) -> usize

@@ -1,9 +1,9 @@
--- `sheet_item::marks::put_mark` meets its contract. Assumes nothing.
+-- `sheet_state::marks::put_mark` meets its contract. Assumes nothing.
 use borrow.Author.Needs.{needs}
 use Rattle.text.proofs.Putting.{put-none}
 use native.Mathlib.Omega.{arith}
-use Rattle.sheet_item.proofs.marks.put_mark.Statement.{statement}
-use Rattle.sheet_item.proofs.marks.put_mark.Tie as tie
+use Rattle.sheet_state.proofs.marks.put_mark.Statement.{statement}
+use Rattle.sheet_state.proofs.marks.put_mark.Tie as tie
 
 returns : tie.Need-returns
 returns c = let put = c .before .before .put-words .ensures in rw (c .before .before .before .before .if1 .taken) (put .0, omega (arith, put .1))

@@ -1,9 +1,9 @@
--- `sheet_item::state::put_state` meets its contract. Assumes nothing.
+-- `sheet_state::state::put_state` meets its contract. Assumes nothing.
 use borrow.Author.Needs.{needs}
-use Rattle.sheet_item.specs.ItemLine.{stateOf}
+use Rattle.sheet_state.specs.State.{stateOf}
 use native.Mathlib.Omega.{arith}
-use Rattle.sheet_item.proofs.state.put_state.Statement.{statement}
-use Rattle.sheet_item.proofs.state.put_state.Tie as tie
+use Rattle.sheet_state.proofs.state.put_state.Statement.{statement}
+use Rattle.sheet_state.proofs.state.put_state.Tie as tie
 
 returns : tie.Need-returns
 returns c =

@@ -1,9 +1,9 @@
--- `sheet_item::marks::put_halves` meets its contract. Assumes nothing.
+-- `sheet_state::marks::put_halves` meets its contract. Assumes nothing.
 use borrow.Author.Needs.{needs}
 use Rattle.text.proofs.Putting.{put-then}
 use native.Mathlib.Omega.{arith}
-use Rattle.sheet_item.proofs.marks.put_halves.Statement.{statement}
-use Rattle.sheet_item.proofs.marks.put_halves.Tie as tie
+use Rattle.sheet_state.proofs.marks.put_halves.Statement.{statement}
+use Rattle.sheet_state.proofs.marks.put_halves.Tie as tie
 
 returns : tie.Need-returns
 returns c =

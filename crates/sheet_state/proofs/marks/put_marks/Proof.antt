@@ -1,10 +1,10 @@
--- `sheet_item::marks::put_marks` meets its contract. Assumes nothing.
+-- `sheet_state::marks::put_marks` meets its contract. Assumes nothing.
 use borrow.Author.Needs.{needs}
-use Rattle.sheet_item.specs.ItemLine.{marksOf}
+use Rattle.sheet_state.specs.State.{marksOf}
 use Rattle.text.proofs.Putting.{put-none}
 use native.Mathlib.Omega.{arith}
-use Rattle.sheet_item.proofs.marks.put_marks.Statement.{statement}
-use Rattle.sheet_item.proofs.marks.put_marks.Tie as tie
+use Rattle.sheet_state.proofs.marks.put_marks.Statement.{statement}
+use Rattle.sheet_state.proofs.marks.put_marks.Tie as tie
 
 returns : tie.Need-returns
 unfolding marksOf

@@ -1,0 +1,2 @@
+-- What a waiting item's line says of its state.
+pub mod State
