@@ -12,11 +12,11 @@ use Rattle.plain.proofs.Tests.{neither}
 use Rattle.rulebook.specs.declared.Order.{Order}
 use Rattle.rulebook.specs.declared.Day.{Day}
 use Rattle.rulebook.specs.declared.Read.{Read}
-use Rattle.plain.specs.Lists.{_is_, _below_, total, first}
+use Rattle.plain.specs.Lists.{if_then_else_, _is_, _below_, total, first}
 use Rattle.plain.proofs.Lists.{total-append}
 use Rattle.rulebook.specs.Ledger.{Ledger}
 use Rattle.rulebook.specs.Record.{readOf}
-use Rattle.rulebook.specs.Forms.{Outcome, Form, forms, noRow, rowOf, windowOf, effect}
+use Rattle.rulebook.specs.Forms.{Outcome, Form, forms, noRow, rowOf, windowOf, effect, confirm, decline, answerCycle}
 use Rattle.rulebook.specs.Refusals.{refusals}
 use Rattle.rulebook.specs.Call.{Result, putMinute, accepted, refused, orderCall, readCall, callOf}
 use Rattle.rulebook.specs.Calls.{Call, call, Made, resultOf, recordIn, callsOn, bookAfter, Accepted, acceptedOf, acceptedCalls, sum}
@@ -38,6 +38,15 @@ effect-at n b o e = ap (λ (k : ℕ). rowOf k .effect b o) e
 pub window-at : (n : ℕ) (d : Day) (o : Order) → o.form ≡ n → windowOf d o ≡ rowOf n .window d o
 unfolding windowOf
 window-at n d o e = ap (λ (k : ℕ). rowOf k .window d o) e
+
+-- an answer to a cycle confirms or declines
+pub either-answer : (P : Outcome → Type 0) (b : Ledger) (o : Order) → P (confirm b) → P (decline b) → P (answerCycle b o)
+unfolding answerCycle
+either-answer P b o confirmed declined = go (o.quantity.0 is 1)
+  where
+    go : (t : Bool) → P (if t then confirm b else decline b)
+    go true = confirmed
+    go false = declined
 
 -- a number that a row has
 abbrev pub HasForm : ℕ → Type 0

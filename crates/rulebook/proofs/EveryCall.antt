@@ -1,6 +1,6 @@
 -- The premise: the fresh book meets it, and every call keeps it, accepted or refused. Assumes nothing.
 -- its parts: the number of accounts; who has a balance or cash; waiting items; their references; the day; what an order brings in; all forms; the rate;
--- the requests
+-- the requests; what a sent cycle has fixed
 pub mod Counting
 pub mod Owners
 pub mod Items
@@ -10,6 +10,7 @@ pub mod NewItems
 pub mod Keeping
 pub mod Rated
 pub mod Requested
+pub mod Fixed
 use mathlib.Core.Path.{_≡_, refl, subst}
 use mathlib.Core.Bool.{Bool, true, false}
 use mathlib.Core.List.{List, [], _∷_}
@@ -39,6 +40,7 @@ use Rattle.rulebook.proofs.EveryCall.Days.{fresh-day}
 use Rattle.rulebook.proofs.EveryCall.Keeping.{effect-keeps as form-keeps}
 use Rattle.rulebook.proofs.EveryCall.Rated.{order-rate}
 use Rattle.rulebook.proofs.EveryCall.Requested.{fresh-requested, order-requested}
+use Rattle.rulebook.proofs.EveryCall.Fixed.{none-fixed, order-fixed}
 
 pub fresh-premise : Premise fresh
 unfolding fresh
@@ -56,6 +58,8 @@ fresh-premise = record {
   references = λ s r. omega arith;
   halves = tt;
   day = fresh-day;
+  sent = tt;
+  covered = none-fixed _ [] tt;
   rate = record { least = omega arith; most = omega arith };
   sixteen = fresh-requested .sixteen;
   numbered = fresh-requested .numbered;
@@ -128,6 +132,7 @@ order-premise b o bytes p e z =
     let t = order-step b o bytes p e z in
     let k = form-keeps b o p a in
     let r = order-requested b o p a t in
+    let f = order-fixed b o p a t in
     record {
       sizes = unfold putMinute putDay in minute-sizes o.minute (effect b o .after) (space-sizes b o a.space);
       counted = step-counted o.form b o (effect b o) t p.counted;
@@ -142,6 +147,8 @@ order-premise b o bytes p e z =
       references = k.references;
       halves = k.halves;
       day = k.day;
+      sent = f .sent;
+      covered = f .covered;
       rate = order-rate b o p.rate a;
       sixteen = r .sixteen;
       numbered = r .numbered;

@@ -26,7 +26,7 @@ pub mod EveryCall
 -- movements: what they do to each place (`booked-exact`), and what each change that they make keeps (`booked-puts`)
 pub mod Places
 pub mod Booking
--- the cycle: nothing is short once its rounds end (`settling-done`), so no debit of a settlement is cut off at 0 (`Steps.Settling.cycle-exact`)
+-- the cycle: nothing is short once its rounds end (`selection-done`), so no debit of a settlement is cut off at 0 (`Steps.Settling.cycle-exact`)
 pub mod Rounds
 -- refusal 18: forms that never get it (`never-grows`), a cycle among them (`cycle-space`); for the others a test on the book before the call
 pub mod Sizes

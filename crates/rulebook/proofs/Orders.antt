@@ -20,9 +20,10 @@ use Rattle.rulebook.proofs.ByCall.{by-test}
 use Rattle.rulebook.specs.Forms.{Form, endedRequest, forms, used, least, most, windowOf}
 use Rattle.rulebook.specs.Record.{orderOf, fieldsIn, noForm, unusedNotZero, usedOutOfRange, fieldTests, readRefusal, readOf}
 use Rattle.rulebook.specs.Ledger.{Ledger, accountOf, sameAccount, admitted, outsideOf}
-use Rattle.rulebook.specs.Windows.{cycleMinutes}
+use Rattle.rulebook.specs.Windows.{cycleMinutes, allRun}
 use Rattle.rulebook.specs.Waiting.{senderOf, sentBy}
-use Rattle.rulebook.specs.Refusals.{wrongDay, wrongCycle, goesBack, outsideWindow, wrongSecurity, wrongPair, wrongParties, wrongDays, wrongReference, wrongCancel, wrongRequest, endsTooSoon, tooManyRequests, asksSecurity, debitsShares, tooLittle, overCeiling, noSpace, dayTests, orderTests, itemTests, requestTests, roomTests, refusals}
+use Rattle.rulebook.specs.Cycle.{offers}
+use Rattle.rulebook.specs.Refusals.{wrongDay, wrongCycle, awaitsAnswer, nothingSent, goesBack, outsideWindow, wrongSecurity, wrongPair, wrongParties, wrongDays, wrongReference, wrongCancel, cancelsSent, wrongRequest, endsTooSoon, tooManyRequests, asksSecurity, debitsShares, tooLittle, overCeiling, noSpace, dayTests, orderTests, itemTests, requestTests, roomTests, refusals}
 use Rattle.rulebook.proofs.Checking.{none-applies}
 use Rattle.rulebook.specs.Ranges.{PartyInRange}
 
@@ -202,6 +203,8 @@ pub record Accepted (b : Ledger) (o : Order) : Type 0 where
   pub ranges : Ranges o
   pub right-day : wrongDay b.day o ≡ false
   pub cycle : wrongCycle b.day o ≡ false
+  pub answered : awaitsAnswer b.day o ≡ false
+  pub sent : nothingSent b.day o ≡ false
   pub back : goesBack b.day o ≡ false
   pub window : outsideWindow b.day o ≡ false
   pub security : wrongSecurity b.holdings o ≡ false
@@ -210,10 +213,11 @@ pub record Accepted (b : Ledger) (o : Order) : Type 0 where
   pub days : wrongDays b.day.number o ≡ false
   pub reference : wrongReference b.waiting o ≡ false
   pub cancel : wrongCancel b.waiting o ≡ false
+  pub not-sent : cancelsSent b.waiting o ≡ false
   pub request : wrongRequest b.requests o ≡ false
   pub too-soon : endsTooSoon b.day.number b.requests o ≡ false
   pub sixteen : tooManyRequests b.requests o ≡ false
-  pub little : tooLittle b.holdings o ≡ false
+  pub little : tooLittle b.holdings b.waiting o ≡ false
   pub ceiling : overCeiling b.holdings o ≡ false
   pub space : noSpace b o ≡ false
 
@@ -226,6 +230,8 @@ accepted b o bytes e z =
       ranges = read-ranges bytes o e;
       right-day = passed 6;
       cycle = passed 7;
+      answered = passed 22;
+      sent = passed 23;
       back = passed 8;
       window = passed 9;
       security = passed 10;
@@ -234,6 +240,7 @@ accepted b o bytes e z =
       days = passed 13;
       reference = passed 14;
       cancel = passed 15;
+      not-sent = passed 24;
       request = passed 19;
       too-soon = passed 20;
       sixteen = passed 21;
@@ -267,12 +274,22 @@ module _ (b : Ledger) (o : Order) where
 
   -- 7
   pub cycles-left : o.form ≡ 16 → wrongCycle b.day o ≡ false → b.day.cycles < length (cycleMinutes b.day.kind)
-  unfolding wrongCycle
-  cycles-left e w = leb-false _ _ (go (length (cycleMinutes b.day.kind) atMost b.day.cycles) (simp e at w))
+  unfolding wrongCycle allRun
+  cycles-left e w = leb-false _ _ (go (allRun b.day) (simp e at w))
     where
       go : (x : Bool) → (x || false) ≡ false → x ≡ false
       go true p = p
       go false p = refl
+
+  -- 22: cash, cycles and the close come only where no cycle is sent
+  pub none-sent : (n : ℕ) → o.form ≡ n → (n oneOf (10 ∷ 11 ∷ 16 ∷ 17 ∷ [])) ≡ true → awaitsAnswer b.day o ≡ false → b.day.sent ≡ false
+  unfolding awaitsAnswer
+  none-sent n e t w = simp (e, t) at w
+
+  -- 23: an answer only where one is
+  pub one-sent : o.form ≡ 21 → nothingSent b.day o ≡ false → b.day.sent ≡ true
+  unfolding nothingSent
+  one-sent e w = not-false _ (simp e at w)
 
   -- 9
   pub in-window : outsideWindow b.day o ≡ false → o.minute ≤ windowOf b.day o .1
@@ -382,20 +399,28 @@ none-of false false z e = (refl, refl, e)
 
 -- test 16, its three parts
 pub little-parts :
-    (b : Ledger) (o : Order) → tooLittle b.holdings o ≡ false
+    (b : Ledger) (o : Order) → tooLittle b.holdings b.waiting o ≡ false
     → ((o.form is 3 && outsideOf o.security b.holdings below o.quantity.0) ≡ false)
-    × ((debitsShares o.form && b.holdings.balance (accountOf o.security o.debited) below o.quantity.0) ≡ false)
+    × ((debitsShares o.form && offers b.holdings b.waiting (accountOf o.security o.debited) below o.quantity.0) ≡ false)
     × ((o.form is 11 && b.holdings.cash o.debited.member o.currency below o.amount.0) ≡ false)
 unfolding tooLittle
 little-parts b o e =
     none-of (o.form is 3 && outsideOf o.security b.holdings below o.quantity.0)
-    (debitsShares o.form && b.holdings.balance (accountOf o.security o.debited) below o.quantity.0)
+    (debitsShares o.form && offers b.holdings b.waiting (accountOf o.security o.debited) below o.quantity.0)
     (o.form is 11 && b.holdings.cash o.debited.member o.currency below o.amount.0)
     e
 
+-- what is debited is offered, and so it is there
+pub debit-offered :
+    (b : Ledger) (o : Order) → tooLittle b.holdings b.waiting o ≡ false → debitsShares o.form ≡ true
+    → o.quantity.0 ≤ offers b.holdings b.waiting (accountOf o.security o.debited)
+debit-offered b o e w = ltb-false _ _ (simp w at (little-parts b o e .1))
+
 pub debit-enough :
-    (b : Ledger) (o : Order) → tooLittle b.holdings o ≡ false → debitsShares o.form ≡ true → o.quantity.0 ≤ b.holdings.balance (accountOf o.security o.debited)
-debit-enough b o e w = ltb-false _ _ (simp w at (little-parts b o e .1))
+    (b : Ledger) (o : Order) → tooLittle b.holdings b.waiting o ≡ false → debitsShares o.form ≡ true
+    → o.quantity.0 ≤ b.holdings.balance (accountOf o.security o.debited)
+unfolding offers
+debit-enough b o e w = omega (arith, debit-offered b o e w)
 
 pub right-types : (n : ℕ) (b : Ledger) (o : Order) → o.form ≡ n → wrongPair o ≡ false → wrongTypes n o.debited.typ o.credited.typ ≡ false
 unfolding wrongPair

@@ -14,7 +14,7 @@ use Rattle.rulebook.specs.Matching.{tolerance, sameTerms, agree, pairsWi
 use Rattle.rulebook.specs.Forms.{counts, outcome, silent, instruct, setRate, forms, rowOf, effect}
 use Rattle.rulebook.specs.Rows.{rowsBytes}
 use Rattle.rulebook.specs.AccountTypes.{wrongTypes}
-use Rattle.rulebook.specs.Refusals.{wrongCycle, wrongSecurity, wrongPair, wrongParties, wrongDays, wrongReference, wrongCancel, wrongRequest, endsTooSoon, tooManyRequests, tooLittle, overCeiling, dayTests, orderTests, itemTests, requestTests, roomTests, refusals}
+use Rattle.rulebook.specs.Refusals.{wrongCycle, awaitsAnswer, nothingSent, wrongSecurity, wrongPair, wrongParties, wrongDays, wrongReference, wrongCancel, cancelsSent, wrongRequest, endsTooSoon, tooManyRequests, tooLittle, overCeiling, dayTests, orderTests, itemTests, requestTests, roomTests, refusals}
 use Rattle.rulebook.specs.Call.{putMinute, accepted, orderCall}
 use Rattle.rulebook.specs.Calls.{Call, Accepted, resultOf, recordIn, callsOn, bookAfter, acceptedOf, acceptedCalls, lastRate}
 use Rattle.rulebook.specs.Rates.{RateOfCalls, deliverOf, receiveOf, Facing, PairsWithin, Tolerances, RateAlone, RateRefusals}
@@ -116,6 +116,6 @@ rate-alone b o area e z = rw (z, effect-at 18 b o e) (unfold forms rowOf setRate
 
 pub rate-refusals : RateRefusals
 unfolding
-    RateRefusals refusals dayTests orderTests itemTests requestTests roomTests wrongCycle wrongSecurity wrongPair wrongTypes wrongParties wrongDays
-    wrongReference wrongCancel wrongRequest endsTooSoon tooManyRequests tooLittle overCeiling
+    RateRefusals refusals dayTests orderTests itemTests requestTests roomTests wrongCycle awaitsAnswer nothingSent wrongSecurity wrongPair wrongTypes wrongParties wrongDays
+    wrongReference wrongCancel cancelsSent wrongRequest endsTooSoon tooManyRequests tooLittle overCeiling
 rate-refusals b o e p = simp (e, never-grows b o (simp e) (p .sizes))

@@ -12,7 +12,7 @@ use Rattle.plain.proofs.Tests.{both, neither, not-second}
 use Rattle.rulebook.specs.Ledger.{Ledger, Requests, fresh, requestAccount, putDay, putRequest}
 use Rattle.rulebook.specs.Record.{fieldsOf, noForm, unusedNotZero, usedOutOfRange, readOf, writeRefusal}
 use Rattle.rulebook.specs.Forms.{endedRequest, forms, rowOf, used, least, most, windowOf, effect}
-use Rattle.rulebook.specs.Refusals.{wrongDay, wrongCycle, goesBack, outsideWindow, wrongSecurity, wrongPair, wrongParties, wrongDays, wrongReference, wrongCancel, wrongRequest, endsTooSoon, tooManyRequests, tooLittle, overCeiling, noSpace, dayTests, orderTests, itemTests, requestTests, roomTests, refusals}
+use Rattle.rulebook.specs.Refusals.{wrongDay, wrongCycle, awaitsAnswer, nothingSent, goesBack, outsideWindow, wrongSecurity, wrongPair, wrongParties, wrongDays, wrongReference, wrongCancel, cancelsSent, wrongRequest, endsTooSoon, tooManyRequests, tooLittle, overCeiling, noSpace, dayTests, orderTests, itemTests, requestTests, roomTests, refusals}
 use Rattle.rulebook.specs.TypeTable.{requested, outside, onPaperAs, typeTable, typeRow}
 use Rattle.rulebook.specs.AccountTypes.{isOutside, listed, become, isPaper, ends, wrongTypes}
 use Rattle.rulebook.specs.Call.{Result, answerNumber, putMinute, accepted as acceptedResult, orderCall, readCall, callOf}
@@ -108,13 +108,13 @@ request-stays b calls m n = calls-keep m n b calls
 
 pub request-refusals : RequestRefusals
 unfolding
-    RequestRefusals refusals dayTests orderTests itemTests requestTests roomTests wrongCycle wrongParties wrongDays wrongReference wrongCancel endsTooSoon
+    RequestRefusals refusals dayTests orderTests itemTests requestTests roomTests wrongCycle awaitsAnswer nothingSent wrongParties wrongDays wrongReference wrongCancel cancelsSent endsTooSoon
     overCeiling
 request-refusals b o e = simp e
 
 pub ending-refusals : EndingRefusals
 unfolding
-    EndingRefusals refusals dayTests orderTests itemTests requestTests roomTests wrongCycle wrongSecurity wrongParties wrongDays wrongReference wrongCancel
+    EndingRefusals refusals dayTests orderTests itemTests requestTests roomTests wrongCycle awaitsAnswer nothingSent wrongSecurity wrongParties wrongDays wrongReference wrongCancel cancelsSent
     tooManyRequests tooLittle overCeiling
 ending-refusals b o e = simp e
 

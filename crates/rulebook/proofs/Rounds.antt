@@ -1,6 +1,6 @@
 -- What the rounds of a cycle do: they end with nothing short, and each item settles or is left waiting. Assumes nothing.
 use mathlib.Core.Path.{_≡_, refl, sym, ap, _∙_}
-use mathlib.Core.Bool.{Bool, true, false, not, _&&_, false≢true, or-true}
+use mathlib.Core.Bool.{Bool, true, false, not, _&&_, false≢true, or-true, and-false}
 use mathlib.Core.List.{List, [], _∷_, map}
 use Prim.Native.Nat.{ℕ, zero, suc, _+_, _≤_, _<_, zero-le}
 use native.Mathlib.Omega.{arith}
@@ -13,8 +13,9 @@ use Rattle.plain.specs.Lists.{if_then_else_, _is_, _isNot_, _atMost_, some, tot
 use Rattle.plain.proofs.Tests.{both}
 use Rattle.plain.proofs.Lists.{keep-split, total-map, length-total, each-map, each-kept}
 use Rattle.rulebook.specs.Ledger.{Ledger, Holdings, sameAccount}
-use Rattle.rulebook.specs.Waiting.{isTrade}
-use Rattle.rulebook.specs.Cycle.{Marked, due, taken, over, seller, sharesTaken, sharesBrought, cashTaken, cashBrought, takesShares, takesCash, sharesMissing, cashMissing, debitsShort, anyShort, dropLast, rounds, settlingOf, settling, withMark, withoutMark, settled, notSettled}
+use Rattle.rulebook.specs.Waiting.{isTrade, withSent}
+use Rattle.rulebook.specs.Premise.{SentFits}
+use Rattle.rulebook.specs.Cycle.{Marked, NothingShort, due, taken, over, seller, sharesTaken, sharesBrought, cashTaken, cashBrought, takesShares, takesCash, sharesMissing, cashMissing, debitsShort, anyShort, dropLast, rounds, selectionOf, selection, withMark, withoutMark, fixing, fixed, settled, notSettled}
 
 -- ---- nothing is short at the end
 
@@ -74,9 +75,9 @@ marks-most test [] = zero-le
 marks-most test (i ∷ rest) = marks-step (test i) i (map (λ i. (test i, i)) rest) (length rest) (marks-most test rest)
 
 -- what a cycle settles makes nothing short
-pub settling-done : (day : ℕ) (h : Holdings) (waiting : List Item) → anyShort h (settlingOf day h waiting) ≡ false
-unfolding settlingOf taken
-settling-done day h waiting = rounds-done h (length waiting) (taken day waiting) (marks-most _ waiting)
+selection-done : (day : ℕ) (h : Holdings) (waiting : List Item) → anyShort h (selectionOf day h waiting) ≡ false
+unfolding selectionOf taken
+selection-done day h waiting = rounds-done h (length waiting) (taken day waiting) (marks-most _ waiting)
 
 -- a test that follows from another passes where the other does
 passes-step :
@@ -162,6 +163,32 @@ module _ (h : Holdings) (ms : List Marked) where
           let p = over-passes (λ t. t.credited.member is m && t.currency is c) (λ t. t.amount.0) ms l in
           absurd (false≢true (sym none ∙ passes-more _ (debitsShort h ms) (debits-cash m c (ap not e)) ms p))
 
+-- ---- nothing is short exactly where no marked trade draws on what is short
+
+pub short-found : (h : Holdings) (marked : List Marked) → anyShort h marked ≡ false → NothingShort h marked
+unfolding sharesMissing cashMissing
+short-found h marked e = record {
+  shares = λ a. omega (arith, enough-shares h marked e a);
+  cash = λ m c. omega (arith, enough-cash h marked e m c);
+}
+
+-- where nothing is short no trade draws on what is
+pub none-found : (h : Holdings) (marked : List Marked) → NothingShort h marked → anyShort h marked ≡ false
+unfolding anyShort debitsShort
+none-found h marked n = go marked
+  where
+    draws : (t : Item) → debitsShort h marked t ≡ false
+    draws t = rw (n .shares (seller t), n .cash t.credited.member t.currency)
+
+    go : (ms : List Marked) → some (λ m. m .0 && debitsShort h marked (m .1)) ms ≡ false
+    go [] = refl
+    go (m ∷ rest) = simp (draws (m .1), and-false, go rest)
+
+-- what a cycle fixes makes nothing short
+pub nothing-short : (book : Ledger) → NothingShort book.holdings (selection book)
+unfolding selection
+nothing-short book = short-found book.holdings (selection book) (selection-done book.day.number book.holdings book.waiting)
+
 -- ---- what each round keeps, the rounds keep
 
 rounds-keep :
@@ -200,17 +227,26 @@ module _ (figure : Item → ℕ) where
       let b = total-map figure (λ (m : Marked). figure (m .1)) (λ (m : Marked). m .1) (λ x. refl) (keep (λ m. not (m .0)) ms) in
       omega (arith, a, b, keep-split (λ (m : Marked). figure (m .1)) (λ m. m .0) ms)
 
-  pub cycle-total : (book : Ledger) → total figure (settled book) + total figure (notSettled book) ≡ total figure book.waiting
-  unfolding settled notSettled settling settlingOf taken
-  cycle-total book =
+  pub settled-total : (book : Ledger) → total figure (settled book) + total figure (notSettled book) ≡ total figure book.waiting
+  unfolding settled notSettled fixed
+  settled-total book = with-total (fixed book.waiting) ∙ total-map (λ (m : Marked). figure (m .1)) figure _ (λ x. refl) book.waiting
+
+  -- a figure that does not ask whether an item is fixed is the same over the list that a cycle leaves
+  pub fixing-total :
+      ((b : Bool) (i : Item) → figure (withSent b i) ≡ figure i) → (book : Ledger) → total figure (fixing (selection book)) ≡ total figure book.waiting
+  unfolding fixing selection selectionOf taken
+  fixing-total same book =
       let marked = taken book.day.number book.waiting in
-      with-total (settling book)
+      total-map figure (λ (m : Marked). figure (m .1)) (λ (m : Marked). withSent (m .0) (m .1)) (λ m. same (m .0) (m .1)) (selection book)
       ∙ rounds-keep (λ ms. inMarked ms ≡ inMarked marked) (λ test ms e. drop-total test ms ∙ e) (length book.waiting) book.holdings marked refl
       ∙ total-map (λ (m : Marked). figure (m .1)) figure _ (λ x. refl) book.waiting
 
-pub cycle-length : (book : Ledger) → length (settled book) + length (notSettled book) ≡ length book.waiting
-cycle-length book =
-    omega (arith, cycle-total (λ i. 1) book, length-total (settled book), length-total (notSettled book), length-total book.waiting)
+pub settled-length : (book : Ledger) → length (settled book) + length (notSettled book) ≡ length book.waiting
+settled-length book =
+    omega (arith, settled-total (λ i. 1) book, length-total (settled book), length-total (notSettled book), length-total book.waiting)
+
+pub fixing-length : (book : Ledger) → length (fixing (selection book)) ≡ length book.waiting
+fixing-length book = length-total (fixing (selection book)) ∙ fixing-total (λ i. 1) (λ b i. refl) book ∙ sym (length-total book.waiting)
 
 -- ---- what holds of each marked item, where a mark may be dropped
 
@@ -227,40 +263,67 @@ module _ (P : Marked → Type 0) (unmark : (b : Bool) (i : Item) → P (b, i) �
       go false p true q ih = simp (p, q) (unmark (m .0) (m .1) (e .0), e .1)
       go false p false q ih = simp (p, q) (e .0, e .1)
 
-  settling-each : (book : Ledger) → Each P (taken book.day.number book.waiting) → Each P (settling book)
-  unfolding settling settlingOf
-  settling-each book e = rounds-keep (Each P) drop-each (length book.waiting) book.holdings (taken book.day.number book.waiting) e
+  selection-each : (book : Ledger) → Each P (taken book.day.number book.waiting) → Each P (selection book)
+  unfolding selection selectionOf
+  selection-each book e = rounds-keep (Each P) drop-each (length book.waiting) book.holdings (taken book.day.number book.waiting) e
 
--- what each waiting item is, each that settles and each that is left is
+-- what each waiting item is, each is that a cycle fixes or passes over
 module _ (P : Item → Type 0) where
   abbrev Of : Marked → Type 0
   Of m = P (m .1)
 
-  settling-fits : (book : Ledger) → Each P book.waiting → Each Of (settling book)
+  selection-fits : (book : Ledger) → Each P book.waiting → Each Of (selection book)
   unfolding taken
-  settling-fits book e = settling-each Of (λ b i p. p) book (each-map P Of _ (λ i p. p) book.waiting e)
+  selection-fits book e = selection-each Of (λ b i p. p) book (each-map P Of _ (λ i p. p) book.waiting e)
 
-  part-fits : (test : Marked → Bool) (book : Ledger) → Each P book.waiting → Each P (map (λ m. m .1) (keep test (settling book)))
-  part-fits test book e =
-      each-map Of P (λ m. m .1) (λ m p. p) (keep test (settling book)) (each-kept Of Of test (λ m t p. p) (settling book) (settling-fits book e))
+  pub fixing-fits :
+      ((b : Bool) (i : Item) → P i → P (withSent b i)) → (book : Ledger) → Each P book.waiting → Each P (fixing (selection book))
+  unfolding fixing
+  fixing-fits same book e = each-map Of P _ (λ m p. same (m .0) (m .1) p) (selection book) (selection-fits book e)
 
+  part-fits : (test : Marked → Bool) (waiting : List Item) → Each P waiting → Each P (map (λ m. m .1) (keep test (fixed waiting)))
+  unfolding fixed
+  part-fits test waiting e =
+      each-map Of P (λ m. m .1) (λ m p. p) (keep test (fixed waiting))
+      (each-kept Of Of test (λ m t p. p) (fixed waiting) (each-map P Of _ (λ i p. p) waiting e))
+
+  -- and each is that settles or waits on
   pub settled-fits : (book : Ledger) → Each P book.waiting → Each P (settled book)
   unfolding settled withMark
-  settled-fits = part-fits (λ m. m .0)
+  settled-fits book = part-fits (λ m. m .0) book.waiting
 
   pub notSettled-fits : (book : Ledger) → Each P book.waiting → Each P (notSettled book)
   unfolding notSettled withoutMark
-  notSettled-fits = part-fits (λ m. not (m .0))
+  notSettled-fits book = part-fits (λ m. not (m .0)) book.waiting
 
--- what settles is a pair or an exchange trade whose settlement day has come
+-- what is fixed is a pair or an exchange trade whose settlement day has come
 abbrev pub Due : ℕ → Item → Type 0
 Due day i = (isTrade i.state ≡ true) × (i.«settlement_day» ≤ day)
 
-pub settled-due : (book : Ledger) → Each (Due book.day.number) (settled book)
-unfolding settled withMark taken due
-settled-due book =
-    each-map IsDue (Due day) (λ m. m .1) (λ m p. p) (keep (λ m. m .0) (settling book))
-    (each-kept IfMarked IsDue (λ m. m .0) (λ m t p. p t) (settling book) (settling-each IfMarked (λ b i p f. absurd (false≢true f)) book (marked book.waiting)))
+pub is-due : (day : ℕ) (i : Item) → due day i ≡ true → Due day i
+unfolding due
+is-due day i e = let p = both (isTrade i.state) (i.«settlement_day» atMost day) e in (p .0, leb-true _ _ (p .1))
+
+abbrev pub IfMarked : (day : ℕ) → Marked → Type 0
+IfMarked day m = m .0 ≡ true → due day (m .1) ≡ true
+
+pub selection-due : (book : Ledger) → Each (IfMarked book.day.number) (selection book)
+unfolding taken
+selection-due book = selection-each (IfMarked day) (λ b i p f. absurd (false≢true f)) book (marked book.waiting)
+  where
+    day : ℕ
+    day = book.day.number
+
+    marked : (ws : List Item) → Each (IfMarked day) (taken day ws)
+    marked [] = tt
+    marked (w ∷ rest) = ((λ e. e), marked rest)
+
+pub settled-due : (book : Ledger) → Each (SentFits book.day) book.waiting → Each (Due book.day.number) (settled book)
+unfolding settled withMark fixed
+settled-due book e =
+    each-map IsDue (Due day) (λ m. m .1) (λ m p. p) (keep (λ m. m .0) (fixed book.waiting))
+    (each-kept If IsDue (λ m. m .0) (λ m t p. is-due day (m .1) (p t)) (fixed book.waiting)
+    (each-map (SentFits book.day) If _ (λ i f t. f t .1) book.waiting e))
   where
     day : ℕ
     day = book.day.number
@@ -268,9 +331,5 @@ settled-due book =
     IsDue : Marked → Type 0
     IsDue m = Due day (m .1)
 
-    IfMarked : Marked → Type 0
-    IfMarked m = m .0 ≡ true → Due day (m .1)
-
-    marked : (ws : List Item) → Each IfMarked (taken day ws)
-    marked [] = tt
-    marked (w ∷ rest) = ((λ e. let p = both (isTrade w.state) (w.«settlement_day» atMost day) e in (p .0, leb-true _ _ (p .1))), marked rest)
+    If : Marked → Type 0
+    If m = m .0 ≡ true → due day (m .1) ≡ true

@@ -14,10 +14,10 @@ use Rattle.rulebook.specs.Rows.{postingRows}
 use Rattle.rulebook.specs.Waiting.{senderOf, marking, cancelled, bothMarked}
 use Rattle.rulebook.specs.Cycle.{legs, settled}
 use Rattle.rulebook.specs.Close.{leaves}
-use Rattle.rulebook.specs.Forms.{outcome, moving, silent, openDay, admit, deposit, withdraw, transfer, payIn, payOut, instruct, trade, cancel, cycle, close, forms, effect, setRate, requestPaper, endRequest}
+use Rattle.rulebook.specs.Forms.{outcome, moving, silent, openDay, admit, deposit, withdraw, transfer, payIn, payOut, instruct, trade, cancel, cycle, confirm, decline, close, forms, effect, setRate, requestPaper, endRequest}
 use Rattle.rulebook.specs.Premise.{Sizes}
-use Rattle.rulebook.proofs.ByCall.{Effect, AllForms, by-form}
-use Rattle.rulebook.proofs.Rounds.{cycle-length}
+use Rattle.rulebook.proofs.ByCall.{Effect, AllForms, either-answer, by-form}
+use Rattle.rulebook.proofs.Rounds.{settled-length}
 
 pub posting-length : (ms : List Movement) → length (postingRows ms) ≡ 2 * length ms
 unfolding postingRows
@@ -51,7 +51,11 @@ cancel-rows b o s =
 
 cycle-rows : Writes cycle
 unfolding cycle outcome
-cycle-rows b o s = omega (arith, posting-length (legs (settled b)), legs-length (settled b), cycle-length b, s.items)
+cycle-rows b o s = omega arith
+
+confirm-rows : (b : Ledger) → Sizes b → length (confirm b .rows) ≤ 256
+unfolding confirm outcome
+confirm-rows b s = omega (arith, posting-length (legs (settled b)), legs-length (settled b), settled-length b, s.items)
 
 close-rows : Writes close
 unfolding close outcome
@@ -69,7 +73,8 @@ forms-write =
     and (λ b o s. moving-rows _ (omega arith) _) and (λ b o s. moving-rows _ (omega arith) _) and (λ b o s. moving-rows _ (omega arith) _)
     and (λ b o s. moving-rows _ (omega arith) _)
     and (λ b o. silent-rows _) and (λ b o. silent-rows _) and (λ b o. silent-rows _) and cancel-rows and cycle-rows and close-rows
-    and (λ b o. silent-rows _) and (λ b o s. moving-rows _ (omega arith) _) and (λ b o s. moving-rows _ (omega arith) _) and tt
+    and (λ b o. silent-rows _) and (λ b o s. moving-rows _ (omega arith) _) and (λ b o s. moving-rows _ (omega arith) _)
+    and (λ b o s. either-answer (λ x. length (x .rows) ≤ 256) b o (confirm-rows b s) (unfold decline in silent-rows _ s)) and tt
 
 pub effect-rows : (b : Ledger) (o : Order) → Sizes b → length (effect b o .rows) ≤ 256
 unfolding effect

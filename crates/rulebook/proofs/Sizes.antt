@@ -13,15 +13,15 @@ use Rattle.plain.specs.Lists.{if_then_else_, _is_, _below_, _oneOf_, total, kee
 use Rattle.plain.proofs.Lists.{_and_, keep-length}
 use Rattle.rulebook.specs.Ledger.{Ledger, Holdings, fresh, counted, putBalance, putCash, putSecurities, putOutside, putHeld, putDay, putHoldings, putWaiting, putRate}
 use Rattle.rulebook.specs.Movements.{Place, account, type91, type90, cashOf, member0, Movement, credit, debit, credits, debits, booked}
-use Rattle.rulebook.specs.Waiting.{senderOf, marking, staying, unmarked}
-use Rattle.rulebook.specs.Cycle.{settled, legs}
+use Rattle.rulebook.specs.Waiting.{senderOf, marking, staying, unmarked, withSent}
+use Rattle.rulebook.specs.Cycle.{settled, declined, legs}
 use Rattle.rulebook.specs.Close.{leaves}
-use Rattle.rulebook.specs.Forms.{outcome, moving, silent, openDay, withdraw, payIn, payOut, cancel, cycle, close, forms, effect, setRate}
+use Rattle.rulebook.specs.Forms.{outcome, moving, silent, openDay, withdraw, payIn, payOut, cancel, cycle, confirm, decline, answerCycle, close, forms, effect, setRate}
 use Rattle.rulebook.specs.Refusals.{noSpace}
 use Rattle.rulebook.specs.Premise.{Sizes}
-use Rattle.rulebook.proofs.ByCall.{Effect, AllForms, by-form}
+use Rattle.rulebook.proofs.ByCall.{Effect, AllForms, either-answer, by-form}
 use Rattle.rulebook.proofs.Booking.{recounted-beside, booked-puts}
-use Rattle.rulebook.proofs.Rounds.{cycle-length}
+use Rattle.rulebook.proofs.Rounds.{settled-length, fixing-length}
 
 pub fresh-sizes : Sizes fresh
 unfolding fresh
@@ -92,7 +92,7 @@ debit-accounts (type90 s) n h = omega arith
 debit-accounts (cashOf m c) n h = omega arith
 debit-accounts (member0 c) n h = omega arith
 
--- also before the debits, so that a cycle has room for its buyers' accounts at any time
+-- also before the debits, so that a confirmed cycle has room for its buyers' accounts at any time
 pub credits-accounts : (ms : List Movement) (h : Holdings) → credits ms h .accounts ≤ h.accounts + opened ms
 unfolding credits
 credits-accounts [] h = omega arith
@@ -119,10 +119,10 @@ unfolding legs
 legs-opened [] = refl
 legs-opened (t ∷ rest) = omega (arith, legs-opened rest)
 
--- the forms that never lack space: a cycle never gets 18, as each item can open only one account
+-- the forms that never lack space: the answer to a cycle never gets 18, as each item can open only one account
 
 abbrev pub neverGrows : List ℕ
-neverGrows = 1 ∷ 4 ∷ 10 ∷ 11 ∷ 15 ∷ 16 ∷ 17 ∷ 18 ∷ []
+neverGrows = 1 ∷ 4 ∷ 10 ∷ 11 ∷ 15 ∷ 16 ∷ 17 ∷ 18 ∷ 21 ∷ []
 
 abbrev Stays : ℕ → Effect → Type 0
 Stays n f = (n oneOf neverGrows) ≡ true → (b : Ledger) (o : Order) → Sizes b → Sizes (f b o .after)
@@ -151,16 +151,29 @@ cancel-stays b o s =
     let l = cancel-length (senderOf o) o.reference b.waiting in
     record { securities = s.securities; items = omega (arith, l, s.items); accounts = omega (arith, l, s.accounts) }
 
+-- a cycle leaves as many items as there were
 cycle-stays : (b : Ledger) (o : Order) → Sizes b → Sizes (cycle b o .after)
-unfolding cycle outcome putDay putHoldings putWaiting
+unfolding cycle outcome putDay putWaiting
 cycle-stays b o s =
+    let l = fixing-length b in
+    record { securities = s.securities; items = omega (arith, l, s.items); accounts = omega (arith, l, s.accounts) }
+
+confirm-stays : (b : Ledger) → Sizes b → Sizes (confirm b .after)
+unfolding confirm outcome putDay putHoldings putWaiting
+confirm-stays b s =
     let ms = legs (settled b) in
-    let l = cycle-length b in
+    let l = settled-length b in
     record {
       securities = omega (arith, booked-listed ms b.holdings, s.securities);
       items = omega (arith, l, s.items);
       accounts = omega (arith, booked-accounts ms b.holdings, legs-opened (settled b), l, s.accounts);
     }
+
+decline-stays : (b : Ledger) → Sizes b → Sizes (decline b .after)
+unfolding decline silent outcome putDay putWaiting declined
+decline-stays b s =
+    let l = length-map b.waiting (withSent false) in
+    record { securities = s.securities; items = omega (arith, l, s.items); accounts = omega (arith, l, s.accounts) }
 
 close-stays : (b : Ledger) (o : Order) → Sizes b → Sizes (close b o .after)
 unfolding close outcome putDay putWaiting
@@ -187,12 +200,16 @@ forms-stay =
     and (λ e b o s. grows e) and (λ e b o s. grows e) and (λ e b o s. grows e) and (λ e b o s. grows e) and (λ e b o s. grows e)
     and (λ _ b o s. moving-stays _ refl b s) and (λ _ b o s. moving-stays _ refl b s) and (λ e b o s. grows e) and (λ e b o s. grows e) and (λ e b o s. grows e)
     and (λ _ b o s. cancel-stays b o s) and (λ _ b o s. cycle-stays b o s) and (λ _ b o s. close-stays b o s)
-    and (λ _ b o s. same-stays b (setRate b o .after) refl refl s) and (λ e b o s. grows e) and (λ e b o s. grows e) and tt
+    and (λ _ b o s. same-stays b (setRate b o .after) refl refl s) and (λ e b o s. grows e) and (λ e b o s. grows e)
+    and (λ _ b o s. either-answer (λ x. Sizes (x .after)) b o (confirm-stays b s) (decline-stays b s)) and tt
 
 pub never-grows : (b : Ledger) (o : Order) → (o.form oneOf neverGrows) ≡ true → Sizes b → noSpace b o ≡ false
 unfolding effect
 never-grows b o e s = sizes-space b o (by-form (λ n f. Stays n f.effect) forms-stay (λ m no e b o s. unfold silent outcome in s) o.form e b o s)
 
--- A cycle never gets 18
+-- A cycle never gets 18, nor does its answer
 pub cycle-space : (b : Ledger) (o : Order) → o.form ≡ 16 → Sizes b → noSpace b o ≡ false
 cycle-space b o e = never-grows b o (simp e)
+
+pub answer-space : (b : Ledger) (o : Order) → o.form ≡ 21 → Sizes b → noSpace b o ≡ false
+answer-space b o e = never-grows b o (simp e)

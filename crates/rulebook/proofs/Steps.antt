@@ -18,17 +18,17 @@ use Rattle.rulebook.specs.Record.{readOf}
 use Rattle.rulebook.specs.Ledger.{Ledger, Holdings, putDay, putWaiting, putSecurities, putRate}
 use Rattle.rulebook.specs.Movements.{booked, credits, debits, recounted, bookHas}
 use Rattle.rulebook.specs.Rows.{postingRows}
-use Rattle.rulebook.specs.Forms.{Outcome, outcome, counts, silent, openDay, instruct, trade, cancel, close, forms, rowOf, effect, setRate}
+use Rattle.rulebook.specs.Forms.{Outcome, outcome, counts, silent, openDay, instruct, trade, cancel, cycle, decline, close, forms, rowOf, effect, setRate}
 use Rattle.rulebook.specs.Refusals.{refusals}
 use Rattle.rulebook.specs.Premise.{Premise}
-use Rattle.rulebook.proofs.ByCall.{AllForms, not-read, by-form}
+use Rattle.rulebook.proofs.ByCall.{AllForms, either-answer, not-read, by-form}
 use Rattle.rulebook.proofs.Orders.{accepted}
-use Rattle.rulebook.proofs.Steps.OneCall.{writesAt, Figures, Recounts, admits-none, Step, Steps}
+use Rattle.rulebook.proofs.Steps.OneCall.{writesAt, Figures, Recounts, admits-none, Spares, Step, Steps}
 use Rattle.rulebook.proofs.Steps.Moving.{admit-steps, deposit-steps, withdraw-steps, transfer-steps, pledge-steps, release-steps, block-steps, unblock-steps, payIn-steps, payOut-steps}
-use Rattle.rulebook.proofs.Steps.Settling.{cycle-steps}
+use Rattle.rulebook.proofs.Steps.Settling.{confirm-step}
 use Rattle.rulebook.proofs.Steps.Requesting.{request-steps, end-steps}
 
--- ---- a form that moves nothing: 1, 12 to 15, 17 and 18
+-- ---- a form that moves nothing: 1, 12 to 18, and 21 where it declines
 
 each-off : (n : ℕ) (ks : List ℕ) → (n oneOf ks) ≡ false → Each (λ k. (n is k) ≡ false) ks
 each-off n [] e = tt
@@ -78,12 +78,13 @@ still n b o x p t e r l = record {
   counted = l;
   figures = no-figures n b o t;
   recounts = no-recounts n b o x t e;
+  spares = λ _ _. record { shares = λ a. omega arith; cash = λ m c. refl };
 }
 
 -- ---- all forms
 
 all-steps : AllForms (λ n f. Steps n f.effect) 1 forms
-unfolding forms rowOf openDay instruct trade cancel close setRate silent outcome counts putDay putWaiting putRate
+unfolding forms rowOf openDay instruct trade cancel cycle decline close setRate silent outcome counts putDay putWaiting putRate
 all-steps =
     (λ b o e p a. still 1 b o (openDay b o) p refl refl (λ _. refl) refl)
     and admit-steps and deposit-steps and withdraw-steps and transfer-steps and pledge-steps and release-steps and block-steps and unblock-steps
@@ -93,10 +94,11 @@ all-steps =
     and (λ b o e p a. still 14 b o (trade b o) p refl refl (λ _. refl) refl)
     -- the rows of 15 and 17 are notices
     and (λ b o e p a. still 15 b o (cancel b o) p refl refl (λ z. absurd (omega (arith, z))) refl)
-    and cycle-steps
+    and (λ b o e p a. still 16 b o (cycle b o) p refl refl (λ _. refl) refl)
     and (λ b o e p a. still 17 b o (close b o) p refl refl (λ z. absurd (omega (arith, z))) refl)
     and (λ b o e p a. still 18 b o (setRate b o) p refl refl (λ _. refl) refl)
-    and request-steps and end-steps and tt
+    and request-steps and end-steps
+    and (λ b o e p a. either-answer (Step 21 b o) b o (confirm-step b o p) (still 21 b o (decline b) p refl refl (λ _. refl) refl)) and tt
 
 -- an order that was read and that no test refuses makes a step; no order that was read has another form
 pub order-step : (b : Ledger) (o : Order) (bytes : List ℕ) → Premise b → readOf bytes ≡ Read.Order o → first (refusals b o) ≡ 0 → Step o.form b o (effect b o)

@@ -14,13 +14,13 @@ use Rattle.rulebook.specs.Ledger.{Holdings}
 use Rattle.bits.specs.Layout.{pack}
 use Rattle.rulebook.specs.Field.{widths}
 use Rattle.rulebook.specs.Record.{fieldsOf, readOf, recordOf, writeRefusal, writtenOf, areaWritten}
-use Rattle.rulebook.specs.Cycle.{Marked, NothingShort, anyShort, debitsShort, seller, settling, sharesMissing, cashMissing}
+use Rattle.rulebook.specs.Cycle.{Marked, NothingShort, anyShort, debitsShort, seller, selection, sharesMissing, cashMissing}
 use Rattle.rulebook.specs.declared.Item.{Item}
 use Rattle.rulebook.specs.Theorems.{Theorems}
 use Rattle.rulebook.specs.declared.Order.{Order}
 use Rattle.rulebook.specs.declared.Written.{Written}
 use Rattle.rulebook.proofs.RoundTrips.{write-read, read-write, read-writable, first-bytes}
-use Rattle.rulebook.proofs.Rounds.{settling-done, enough-shares, enough-cash}
+use Rattle.rulebook.proofs.Rounds.{short-found, none-found, nothing-short}
 use Rattle.rulebook.proofs.CheckingOrder.{checking-order}
 use Rattle.rulebook.proofs.Sizes.{cycle-space}
 use Rattle.rulebook.proofs.EveryCall.{fresh-premise, call-premise}
@@ -59,25 +59,6 @@ first-bytes-of o area f m w =
     let l : 2 ≤ length (recordOf o) = omega (arith, length-bytes 40 (pack 0 widths (fieldsOf o))) in
     rw e (take-append-le 2 (recordOf o) (drop 40 area) l) ∙ first-bytes o area e ∙ rw (f, m)
 
-short-found : (h : Holdings) (marked : List Marked) → anyShort h marked ≡ false → NothingShort h marked
-unfolding sharesMissing cashMissing
-short-found h marked e = record {
-  shares = λ a. omega (arith, enough-shares h marked e a);
-  cash = λ m c. omega (arith, enough-cash h marked e m c);
-}
-
--- where nothing is short no trade draws on what is
-none-found : (h : Holdings) (marked : List Marked) → NothingShort h marked → anyShort h marked ≡ false
-unfolding anyShort debitsShort
-none-found h marked n = go marked
-  where
-    draws : (t : Item) → debitsShort h marked t ≡ false
-    draws t = rw (n .shares (seller t), n .cash t.credited.member t.currency)
-
-    go : (ms : List Marked) → some (λ m. m .0 && debitsShort h marked (m .1)) ms ≡ false
-    go [] = refl
-    go (m ∷ rest) = simp (draws (m .1), and-false, go rest)
-
 pub theorems : Theorems
 theorems = record {
   writeRead = λ o area w. let e = wrote o area w in ap readOf (bytes-there o area e) ∙ write-read o area e;
@@ -86,7 +67,7 @@ theorems = record {
   checkingOrder = checking-order;
   shortFound = short-found;
   noneFound = none-found;
-  nothingShort = λ book. unfold settling in short-found book.holdings (settling book) (settling-done book.day.number book.holdings book.waiting);
+  nothingShort = nothing-short;
   cycleHasRoom = λ book o form p. cycle-space book o form (p .sizes);
   freshMeets = fresh-premise;
   callsKeep = call-premise;

@@ -1,4 +1,4 @@
--- The netted cycle (RULES 9).
+-- The netted cycle (RULES 9): which trades it fixes when it is sent, and what is booked when it is confirmed.
 use Prim.Native.Nat.{ℕ, zero, suc, _+_, _-_}
 use mathlib.Core.Bool.{Bool, false, not, _||_, _&&_}
 use mathlib.Core.List.{List, [], _∷_, map}
@@ -9,7 +9,7 @@ use Rattle.plain.specs.Lists.{if_then_else_, _is_, _isNot_, _atMost_, some, tot
 use Rattle.rulebook.specs.declared.Item.{Item}
 use Rattle.rulebook.specs.Ledger.{Ledger, Holdings, accountOf, sameAccount}
 use Rattle.rulebook.specs.Movements.{account, cashOf, Movement, move}
-use Rattle.rulebook.specs.Waiting.{isTrade}
+use Rattle.rulebook.specs.Waiting.{isTrade, withSent}
 
 -- the waiting list with a mark on each trade that is taken
 abbrev pub Marked : Type 0
@@ -97,11 +97,12 @@ rounds (suc more) h marked =
     if anyShort h marked then next else marked
 
 -- so as many rounds as there are items are enough
-unfoldable pub settlingOf : (day : ℕ) → Holdings → List Item → List Marked
-settlingOf day h waiting = rounds (length waiting) h (taken day waiting)
+unfoldable pub selectionOf : (day : ℕ) → Holdings → List Item → List Marked
+selectionOf day h waiting = rounds (length waiting) h (taken day waiting)
 
-unfoldable pub settling : Ledger → List Marked
-settling book = settlingOf book.day.number book.holdings book.waiting
+-- RULES 9.7: what a cycle fixes when it is sent
+unfoldable pub selection : Ledger → List Marked
+selection book = selectionOf book.day.number book.holdings book.waiting
 
 -- the items with a mark, and those without, in list order
 unfoldable pub withMark : List Marked → List Item
@@ -118,14 +119,30 @@ legs (trade ∷ rest) =
     ∷ move (cashOf trade.credited.member trade.currency) (cashOf trade.debited.member trade.currency) trade.amount.0
     ∷ legs rest
 
--- RULES 9.7
+-- RULES 9.12: how many trades a cycle drops
+unfoldable pub dropped : Ledger → ℕ
+dropped book = length (withMark (taken book.day.number book.waiting)) - length (withMark (selection book))
+
+-- RULES 9.19: the marks go onto the items, and so with them wherever their places are
+unfoldable pub fixing : List Marked → List Item
+fixing = map (λ m. withSent (m .0) (m .1))
+
+-- the waiting list with the marks that its items have
+unfoldable pub fixed : List Item → List Marked
+fixed waiting = map (λ item. (item.sent, item)) waiting
+
+-- RULES 9.20: what a confirmation settles, in list order, and what waits on
 unfoldable pub settled : Ledger → List Item
-settled book = withMark (settling book)
+settled book = withMark (fixed book.waiting)
 
 -- RULES 9.10
 unfoldable pub notSettled : Ledger → List Item
-notSettled book = withoutMark (settling book)
+notSettled book = withoutMark (fixed book.waiting)
 
--- RULES 9.12: how many trades a cycle drops
-unfoldable pub dropped : Ledger → ℕ
-dropped book = length (withMark (taken book.day.number book.waiting)) - length (settled book)
+-- RULES 9.21: no item is fixed any more
+unfoldable pub declined : List Item → List Item
+declined = map (withSent false)
+
+-- RULES 9.22: what an account offers: its balance, less what the fixed trades take from it net, which is nothing where they bring as much or more
+unfoldable pub offers : Holdings → List Item → Account → ℕ
+offers h waiting a = h.balance a - (sharesTaken a (fixed waiting) - sharesBrought a (fixed waiting))

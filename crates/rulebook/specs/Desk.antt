@@ -8,7 +8,7 @@ use lib.ListN.{take, drop, replicate}
 use Rattle.rulebook.specs.Ledger.{Ledger, fresh, outsideOf, heldOf}
 use Rattle.rulebook.specs.Record.{recordOf}
 use Rattle.rulebook.specs.Forms.{counts}
-use Rattle.rulebook.specs.Call.{Result}
+use Rattle.rulebook.specs.Call.{Result, answerNumber}
 use Rattle.rulebook.specs.Calls.{resultOf, callsOn, bookAfter, Call, call, withdrawals}
 use Rattle.rulebook.specs.declared.Order.{Order}
 use Rattle.rulebook.specs.declared.Answer.{Answer}
@@ -82,6 +82,20 @@ runs minute = order 16 minute 0 0 nobody nobody 0 0 0 0 0
 unfoldable pub closes : ℕ → Order
 closes minute = order 17 minute 0 0 nobody nobody 0 0 0 0 0
 
+-- the cycle that is sent is confirmed (1), or declined (2)
+unfoldable pub answers : (minute quantity : ℕ) → Order
+answers minute quantity = order 21 minute 0 0 nobody nobody quantity 0 0 0 0
+
+unfoldable pub cancels : (minute sender reference : ℕ) → Order
+cancels minute sender reference = order 15 minute 0 0 (party sender 0 0) nobody 0 0 0 0 reference
+
+-- a cycle that is sent and confirmed, and the end of a day, with all its cycles
+unfoldable pub cycles : (minute : ℕ) → List Order
+cycles minute = runs minute ∷ answers minute 1 ∷ []
+
+unfoldable pub dayEnd : List Order
+dayEnd = cycles 960 ++ (cycles 960 ++ (cycles 960 ++ (closes 960 ∷ [])))
+
 -- 7 asks for paper, and ends the request into a type
 unfoldable pub asksPaper : (minute quantity reference : ℕ) → Order
 asksPaper minute quantity reference = order 19 minute 101 0 (party 7 20 5) nobody quantity 0 0 0 reference
@@ -122,7 +136,7 @@ unfoldable pub asked : Ledger
 asked = calls started (deposits 510 7 400 ∷ asksPaper 520 100 9 ∷ [])
 
 unfoldable pub nextDay : Ledger
-nextDay = calls asked (runs 960 ∷ runs 960 ∷ runs 960 ∷ closes 960 ∷ opens 470 1 ∷ [])
+nextDay = calls asked (dayEnd ++ (opens 470 1 ∷ []))
 
 -- 7 deposits 400, pledges 50 of them and asks for paper of 100; then it withdraws 30; then the day ends, and the next opens
 unfoldable pub inCustody : Ledger
@@ -132,7 +146,7 @@ unfoldable pub withdrawn : Ledger
 withdrawn = calls inCustody (withdraws 513 7 30 ∷ [])
 
 unfoldable pub dayAfter : Ledger
-dayAfter = calls withdrawn (runs 960 ∷ runs 960 ∷ runs 960 ∷ closes 960 ∷ opens 470 1 ∷ [])
+dayAfter = calls withdrawn (dayEnd ++ (opens 470 1 ∷ []))
 
 -- the held and the outside count
 unfoldable pub custody : Ledger → ℕ × ℕ
@@ -142,11 +156,22 @@ custody book = (heldOf 101 book.holdings, outsideOf 101 book.holdings)
 unfoldable pub waits : Ledger → List (State × ℕ)
 waits book = map (λ item. (item.state, item.amount.0)) book.waiting
 
--- the answer of a cycle after some orders, and the quantities of what waits after it
-unfoldable pub cycled : List Order → Answer × List ℕ
+-- after some orders a cycle is sent, and confirmed: both answers, and the quantities of what waits after the second
+unfoldable pub cycled : List Order → Answer × Answer × List ℕ
 cycled orders =
-    let after : Result = result (calls started orders) (runs 585) in
-    (after.answer, map (λ item. item.quantity.0) after.book.waiting)
+    let sent : Result = result (calls started orders) (runs 585) in
+    let confirmed : Result = result (sent .book) (answers 590 1) in
+    (sent.answer, confirmed.answer, map (λ item. item.quantity.0) confirmed.book.waiting)
+
+-- 7 has 105 shares and has sold 100 to 8, who has 10 and has sold 100 to 9; the cycle with both trades is sent
+unfoldable pub awaiting : Ledger
+awaiting =
+    calls started
+    (deposits 540 7 105 ∷ deposits 540 8 10 ∷ paysIn 550 9 50 ∷ sells 7 8 100 50 1 ++ (sells 8 9 100 50 3 ++ (runs 585 ∷ [])))
+
+-- the answer to an order there, as a number
+unfoldable pub meanwhile : Order → ℕ
+meanwhile order = answerNumber (result awaiting order .answer)
 
 pub record Desk : Type 0 where
   -- A.1
@@ -174,13 +199,15 @@ pub record Desk : Type 0 where
   -- A.10: the last trades are dropped first
   pub p10 :
       cycled (deposits 540 7 100 ∷ paysIn 550 8 1_000 ∷ sells 7 8 60 100 1 ++ sells 7 8 50 100 3 ++ sells 7 8 30 100 5)
-      ≡ (Answer.Accepted (counts 4 2 0 0 0 2), 50 ∷ 30 ∷ [])
+      ≡ (Answer.Accepted (counts 0 0 0 0 0 2), Answer.Accepted (counts 4 2 0 0 0 0), 50 ∷ 30 ∷ [])
   -- A.11: positions are net
   pub p11 :
       cycled (deposits 540 7 100 ∷ paysIn 550 9 50 ∷ sells 7 8 100 50 1 ++ sells 8 9 100 50 3)
-      ≡ (Answer.Accepted (counts 8 4 0 0 0 0), [])
+      ≡ (Answer.Accepted (counts 0 0 0 0 0 0), Answer.Accepted (counts 8 4 0 0 0 0), [])
   -- A.12: and without cash neither settles
-  pub p12 : cycled (deposits 540 7 100 ∷ sells 7 8 100 50 1 ++ sells 8 9 100 50 3) ≡ (Answer.Accepted (counts 0 0 0 0 0 2), 100 ∷ 100 ∷ [])
+  pub p12 :
+      cycled (deposits 540 7 100 ∷ sells 7 8 100 50 1 ++ sells 8 9 100 50 3)
+      ≡ (Answer.Accepted (counts 0 0 0 0 0 2), Answer.Accepted (counts 0 0 0 0 0 0), 100 ∷ 100 ∷ [])
   -- A.13: there is no such pair
   pub p13 : result started (pledges 540 7 110 121 10) .answer ≡ Answer.Refused 11
   -- A.14: before any rate was set an LBP difference of 3,015,000 pairs
@@ -205,9 +232,19 @@ pub record Desk : Type 0 where
   -- A.19: then 300 are held, 100 withdrawn on paper
   pub p19 :
       withdrawals 101 (callsOn fresh (map send (opens 470 1 ∷ admits 500 1_000 ∷ deposits 510 7 400 ∷ asksPaper 520 100 9
-      ∷ runs 960 ∷ runs 960 ∷ runs 960 ∷ closes 960 ∷ opens 470 1 ∷ endsPaper 510 91 9 ∷ [])))
+      ∷ (dayEnd ++ (opens 470 1 ∷ endsPaper 510 91 9 ∷ [])))))
       ≡ 100
   -- A.20: a deposit is held, a pledge and a request leave it so, a withdrawal does not
   pub p20 : (custody started ≡ (0, 1_000)) × (custody inCustody ≡ (400, 600)) × (custody withdrawn ≡ (370, 630))
   -- A.21: and what ends outside is not held any more
   pub p21 : custody (calls dayAfter (endsPaper 510 91 1 ∷ [])) ≡ (270, 730)
+  -- A.22: while a cycle is sent cash stands still (22), 7 offers 5 of its 105, 8 all of its 10, and no sent trade can be cancelled (24)
+  pub p22 :
+      map meanwhile (
+      paysIn 586 9 1 ∷ withdraws 586 7 6 ∷ withdraws 586 7 5 ∷ withdraws 586 8 11 ∷ withdraws 586 8 10 ∷ cancels 586 7 1
+      ∷ runs 705 ∷ closes 960 ∷ answers 586 2 ∷ [])
+      ≡ 22 ∷ 16 ∷ 0 ∷ 16 ∷ 0 ∷ 24 ∷ 22 ∷ 7 ∷ 0 ∷ []
+  -- A.23: declined, all is as before, and there is nothing to answer any more
+  pub p23 :
+      (map (λ item. item.quantity.0) (calls awaiting (answers 586 2 ∷ []) .waiting) ≡ 100 ∷ 100 ∷ [])
+      × (result (calls awaiting (answers 586 2 ∷ [])) (answers 586 1) .answer ≡ Answer.Refused 23)

@@ -8,14 +8,14 @@ use Rattle.plain.specs.Lists.{if_then_else_, _is_, keep, some}
 use Rattle.rulebook.specs.Field.{Rule, from1, from1To, always, ruleIn, D, C, all, allBut, security, currency, debited-member, debited-type, credited-member, credited-type, quantity, amount, settlement-day, reference}
 use Rattle.rulebook.specs.TypeTable.{requested}
 use Rattle.rulebook.specs.AccountTypes.{isOutside}
-use Rattle.rulebook.specs.Ledger.{Ledger, Requests, noRequest, accountOf, requestAccount, putDay, putHoldings, putWaiting, putRate, putRequests, putRequest, putSecurities, oneMoreCycle, opening, closing, newSecurity}
+use Rattle.rulebook.specs.Ledger.{Ledger, Requests, noRequest, accountOf, requestAccount, putDay, putHoldings, putWaiting, putRate, putRequests, putRequest, putSecurities, cycleSent, cycleAnswered, opening, closing, newSecurity}
 use Rattle.rulebook.specs.declared.Day.{Day}
-use Rattle.rulebook.specs.Windows.{Window, openingHours, counterHours, officeHours, paymentHours, cycleHours, closingHours}
+use Rattle.rulebook.specs.Windows.{Window, openingHours, counterHours, officeHours, paymentHours, cycleHours, answerHours, closingHours}
 use Rattle.rulebook.specs.Movements.{Place, account, type90, type91, cashOf, member0, Movement, move, booked}
 use Rattle.rulebook.specs.Rows.{Row, notice, noticeOf, postingRows}
 use Rattle.rulebook.specs.Waiting.{itemOf, singleOf, sides, senderOf, marking, cancelled, staying, unmarked}
 use Rattle.rulebook.specs.Matching.{tolerance, arrive}
-use Rattle.rulebook.specs.Cycle.{settled, notSettled, dropped, legs}
+use Rattle.rulebook.specs.Cycle.{selection, dropped, fixing, settled, notSettled, declined, legs}
 use Rattle.rulebook.specs.Close.{deletedAtClose, suspendedAtClose, leaves, closeNotice}
 use Rattle.rulebook.specs.declared.Order.{Order}
 use Rattle.rulebook.specs.declared.Item.{Item}
@@ -107,12 +107,9 @@ cancel book order =
     now : List Item
     now = marking (senderOf order) order.reference book.waiting
 
--- RULES 6.16: the trades that nothing lacks are booked, with four rows each; those dropped are left waiting; one more cycle has run
+-- RULES 6.16: the trades that nothing lacks are fixed; those dropped are left; the cycle is sent, and counts as run. Nothing is booked
 unfoldable pub cycle : Ledger → Order → Outcome
-cycle book order =
-    settles (sides (settled book)) (dropped book)
-    (putDay (oneMoreCycle book.day) (putHoldings (booked (legs (settled book)) book.holdings) (putWaiting (notSettled book) book)))
-    (postingRows (legs (settled book)))
+cycle book order = settles 0 (dropped book) (putDay (cycleSent book.day) (putWaiting (fixing (selection book)) book)) []
 
 -- RULES 6.17: what leaves today is deleted or suspended, in list order, with a notice each; marks are dropped; the day is closed
 unfoldable pub close : Ledger → Order → Outcome
@@ -167,6 +164,21 @@ endRequest book order =
 
     request : Request
     request = endedRequest book order
+
+-- RULES 9.20: all fixed trades are booked, with four rows each, and leave
+unfoldable pub confirm : Ledger → Outcome
+confirm book =
+    settles (sides (settled book)) 0
+    (putDay (cycleAnswered book.day) (putHoldings (booked (legs (settled book)) book.holdings) (putWaiting (notSettled book) book)))
+    (postingRows (legs (settled book)))
+
+-- RULES 9.21: none is, and they wait on
+unfoldable pub decline : Ledger → Outcome
+decline book = silent (putDay (cycleAnswered book.day) (putWaiting (declined book.waiting) book))
+
+-- RULES 6.21: the sent cycle is confirmed where the quantity is 1, and declined where it is 2
+unfoldable pub answerCycle : Ledger → Order → Outcome
+answerCycle book order = if order.quantity.0 is 1 then confirm book else decline book
 
 -- Everything that the rules say of a form (RULES 2.2, 4.7, 6).
 pub record Form : Type 0 where
@@ -237,6 +249,8 @@ forms =
     ∷ row "request paper" (needs (security ∷ D ++ (quantity ∷ reference ∷ []))) counterHours requestPaper postings 0
     -- 20, RULES 6.20; the debited member is the one that made the request
     ∷ row "end request" (needs (debited-member ∷ credited-type ∷ reference ∷ [])) counterHours endRequest postings 0
+    -- 21, RULES 6.21; the quantity is the answer
+    ∷ row "answer cycle" (from1To 2 quantity ∷ []) answerHours answerCycle postings 0
     ∷ []
 
 -- what stands for a number that no form has

@@ -47,7 +47,7 @@ noRequest = record { security = 0; typ = 0; shareholder = 0; quantity = record {
 -- RULES 3.2
 unfoldable pub fresh : Ledger
 fresh = record {
-  day = record { opened = false; number = 0; kind = 0; cycles = 0; minute = 0 };
+  day = record { opened = false; number = 0; kind = 0; cycles = 0; minute = 0; sent = false };
   holdings = record { securities = []; balance = λ account. 0; accounts = 0; cash = λ member currency. 0 };
   waiting = [];
   rate = firstRate;
@@ -70,18 +70,22 @@ putRate rate book = record { day = book.day; holdings = book.holdings; waiting =
 unfoldable pub putRequests : Requests → Ledger → Ledger
 putRequests requests book = record { day = book.day; holdings = book.holdings; waiting = book.waiting; rate = book.rate; requests = requests }
 
--- RULES 4.1 to 4.6, 4.14: the day with another last minute, with one more cycle run, when it opens as a day of a kind, and when it closes
+-- RULES 4.1 to 4.6, 4.14: the day with another last minute, when it opens as a day of a kind, and when it closes
 abbrev pub withMinute : ℕ → Day → Day
-withMinute minute day = record { opened = day.opened; number = day.number; kind = day.kind; cycles = day.cycles; minute = minute }
-
-abbrev pub oneMoreCycle : Day → Day
-oneMoreCycle day = record { opened = day.opened; number = day.number; kind = day.kind; cycles = day.cycles + 1; minute = day.minute }
+withMinute minute day = record { opened = day.opened; number = day.number; kind = day.kind; cycles = day.cycles; minute = minute; sent = day.sent }
 
 abbrev pub opening : (kind : ℕ) → Day → Day
-opening kind day = record { opened = true; number = day.number + 1; kind = kind; cycles = 0; minute = day.minute }
+opening kind day = record { opened = true; number = day.number + 1; kind = kind; cycles = 0; minute = day.minute; sent = day.sent }
 
 abbrev pub closing : Day → Day
-closing day = record { opened = false; number = day.number; kind = day.kind; cycles = day.cycles; minute = day.minute }
+closing day = record { opened = false; number = day.number; kind = day.kind; cycles = day.cycles; minute = day.minute; sent = day.sent }
+
+-- RULES 4.16: with a cycle sent, which counts as run from then on, and with that cycle answered
+abbrev pub cycleSent : Day → Day
+cycleSent day = record { opened = day.opened; number = day.number; kind = day.kind; cycles = day.cycles + 1; minute = day.minute; sent = true }
+
+abbrev pub cycleAnswered : Day → Day
+cycleAnswered day = record { opened = day.opened; number = day.number; kind = day.kind; cycles = day.cycles; minute = day.minute; sent = false }
 
 -- a party's account in a security
 unfoldable pub accountOf : ℕ → Party → Account

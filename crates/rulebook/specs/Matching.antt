@@ -53,6 +53,7 @@ pairOf deliver receive = record {
   «trade_day» = deliver.«trade_day»;
   «settlement_day» = deliver.«settlement_day»;
   state = Pair (ownReference deliver.state) (ownReference receive.state) false false;
+  sent = false;
 }
 
 -- RULES 8.2, 8.7, 8.8: the first that agrees leaves its place, and the pair goes last; where none does, the single goes last

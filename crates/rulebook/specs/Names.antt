@@ -41,6 +41,9 @@ refusalNames =
     ∷ "the request is open already, or is not open, or does not end so"
     ∷ "the request was made today"
     ∷ "the book has sixteen requests already"
+    ∷ "a sent cycle has not been answered"
+    ∷ "no cycle is sent"
+    ∷ "the trade is in a sent cycle"
     ∷ []
 
 -- RULES 11.9: from 1

@@ -1,6 +1,6 @@
 -- What the fresh book meets and every call keeps, as `Theorems` says: the one premise of a call, which no caller has to show (RULES 12.15 to 12.17).
 use Prim.Native.Nat.{ℕ, _+_, _≤_, _<_, _^_}
-use mathlib.Core.Bool.{Bool, true, false}
+use mathlib.Core.Bool.{Bool, true, false, not, _||_}
 use mathlib.Core.List.{List}
 use mathlib.Core.Path.{_≡_}
 use lib.ListN.{length}
@@ -10,7 +10,8 @@ use Rattle.rulebook.specs.AccountTypes.{isFree, alike, accountType, hasP
 use Rattle.rulebook.specs.Ledger.{Holdings, Ledger, Requests, accountOf, sameAccount, counted, admitted, issuedOf, outsideOf, heldOf, askedOf, cashTotal, held}
 use Rattle.rulebook.specs.declared.Day.{Day}
 use Rattle.rulebook.specs.declared.Account.{Account}
-use Rattle.rulebook.specs.Windows.{cycleMinutes, officeEnd}
+use Rattle.rulebook.specs.Windows.{cycleMinutes, allRun, officeEnd}
+use Rattle.rulebook.specs.Cycle.{due, fixed, NothingShort}
 use Rattle.rulebook.specs.Waiting.{sentBy, bothMarked}
 use Rattle.rulebook.specs.declared.Party.{Party}
 use Rattle.rulebook.specs.declared.Security.{Security}
@@ -135,6 +136,10 @@ pub record ItemFits (number today : ℕ) (h : Holdings) (i : Item) : Type 0 wher
 abbrev pub today : Day → ℕ
 today day = if day.opened then day.number else day.number + 1
 
+-- RULES 9.23: an item is fixed only while a cycle is sent, and is then a trade whose day has come
+abbrev pub SentFits : Day → Item → Type 0
+SentFits day i = i.sent ≡ true → (day.sent ≡ true) × (due day.number i ≡ true)
+
 -- how many items wait under a sender's reference
 abbrev pub sent : (sender reference : ℕ) → List Item → ℕ
 sent sender reference items = total (λ item. if sentBy sender reference item then 1 else 0) items
@@ -148,7 +153,11 @@ pub record DayFits (d : Day) : Type 0 where
   -- while it is open
   pub number-least : d.opened ≡ true → 1 ≤ d.number
   pub kind-least : d.opened ≡ true → 1 ≤ d.kind
-  pub office : d.opened ≡ true → d.minute ≤ officeEnd d.kind
+  -- no minute behind the office as long as a cycle is sent or still to run, so that all that is left of the day can still come
+  pub office : d.opened ≡ true → (d.sent || not (allRun d)) ≡ true → d.minute ≤ officeEnd d.kind
+  -- a cycle is sent only in an open day, and has run
+  pub sent-open : d.sent ≡ true → d.opened ≡ true
+  pub sent-run : d.sent ≡ true → 1 ≤ d.cycles
 
 -- RULES 3.1: what the quantity of a record can be
 pub record RateFits (rate : ℕ) : Type 0 where
@@ -187,6 +196,9 @@ pub record Premise (b : Ledger) : Type 0 where
   -- no pair waits with both halves marked
   pub halves : Each (λ item. bothMarked item.state ≡ false) b.waiting
   pub day : DayFits b.day
+  -- RULES 9.23: what is fixed can be booked now, whatever came since the cycle was sent
+  pub sent : Each (SentFits b.day) b.waiting
+  pub covered : NothingShort b.holdings (fixed b.waiting)
   pub rate : RateFits b.rate
   -- RULES 3.1: at most sixteen requests; their number is the number of those that are open
   pub sixteen : b.requests.number ≤ 16

@@ -1,13 +1,14 @@
--- Refusals 6 to 21, in checking order (RULES 7).
+-- Refusals 6 to 24, in checking order (RULES 7).
 use Prim.Native.Nat.{ℕ, _+_}
 use mathlib.Core.Bool.{Bool, not, _||_, _&&_}
 use mathlib.Core.List.{List, [], _∷_, _++_}
 use lib.ListN.{length}
 use Rattle.plain.specs.Lists.{if_then_else_, _is_, _isNot_, _below_, _atMost_, _oneOf_, within, some}
 use Rattle.rulebook.specs.AccountTypes.{wrongTypes, ends}
-use Rattle.rulebook.specs.Windows.{cycleMinutes}
+use Rattle.rulebook.specs.Windows.{allRun}
 use Rattle.rulebook.specs.Ledger.{Ledger, Holdings, Requests, accountOf, sameAccount, admitted, outsideOf, cashTotal}
 use Rattle.rulebook.specs.Waiting.{senderOf, sentBy, notCancellable}
+use Rattle.rulebook.specs.Cycle.{offers}
 use Rattle.rulebook.specs.Forms.{requestOf, windowOf, effect}
 use Rattle.rulebook.specs.declared.Day.{Day}
 use Rattle.rulebook.specs.declared.Item.{Item}
@@ -20,10 +21,15 @@ wrongDay day order = if order.form is 1 then day.opened || day.number is 60_000 
 
 -- RULES 7.7: a cycle too many, or a close too early
 unfoldable pub wrongCycle : Day → Order → Bool
-wrongCycle day order = (order.form is 16 && allRun) || (order.form is 17 && not allRun)
-  where
-    allRun : Bool
-    allRun = length (cycleMinutes day.kind) atMost day.cycles
+wrongCycle day order = (order.form is 16 && allRun day) || (order.form is 17 && not (allRun day))
+
+-- RULES 7.22: cash, a further cycle or a close, while a cycle is sent
+unfoldable pub awaitsAnswer : Day → Order → Bool
+awaitsAnswer day order = order.form oneOf (10 ∷ 11 ∷ 16 ∷ 17 ∷ []) && day.sent
+
+-- RULES 7.23: an answer where no cycle is sent
+unfoldable pub nothingSent : Day → Order → Bool
+nothingSent day order = order.form is 21 && not day.sent
 
 -- RULES 7.8: the minute goes back
 unfoldable pub goesBack : Day → Order → Bool
@@ -80,6 +86,10 @@ wrongCancel waiting order =
     order.form is 15
     && some (λ item. sentBy (senderOf order) order.reference item && notCancellable (senderOf order) item) waiting
 
+-- RULES 7.24: the trade is fixed by a sent cycle
+unfoldable pub cancelsSent : List Item → Order → Bool
+cancelsSent waiting order = order.form is 15 && some (λ item. sentBy (senderOf order) order.reference item && item.sent) waiting
+
 -- a request of quantity 0 is none
 abbrev pub isOpen : Request → Bool
 isOpen request = request.quantity.0 isNot 0
@@ -98,11 +108,11 @@ endsTooSoon today requests order = order.form is 20 && requestOf requests order 
 unfoldable pub tooManyRequests : Requests → Order → Bool
 tooManyRequests requests order = order.form is 19 && 15 below requests.number
 
--- RULES 7.16: too little where the movement takes from
-unfoldable pub tooLittle : Holdings → Order → Bool
-tooLittle holdings order =
+-- RULES 7.16: too little where the movement takes from; an account keeps what fixed trades take from it
+unfoldable pub tooLittle : Holdings → List Item → Order → Bool
+tooLittle holdings waiting order =
     (order.form is 3 && outsideOf order.security holdings below order.quantity.0)
-    || (debitsShares order.form && holdings.balance (accountOf order.security order.debited) below order.quantity.0)
+    || (debitsShares order.form && offers holdings waiting (accountOf order.security order.debited) below order.quantity.0)
     || (order.form is 11 && holdings.cash order.debited.member order.currency below order.amount.0)
 
 -- RULES 7.17: above the ceiling of a currency's cash
@@ -120,6 +130,8 @@ unfoldable pub dayTests : Day → Order → List (ℕ × Bool)
 dayTests day order =
     (6, wrongDay day order)
     ∷ (7, wrongCycle day order)
+    ∷ (22, awaitsAnswer day order)
+    ∷ (23, nothingSent day order)
     ∷ (8, goesBack day order)
     ∷ (9, outsideWindow day order)
     ∷ []
@@ -138,6 +150,7 @@ unfoldable pub itemTests : List Item → Order → List (ℕ × Bool)
 itemTests waiting order =
     (14, wrongReference waiting order)
     ∷ (15, wrongCancel waiting order)
+    ∷ (24, cancelsSent waiting order)
     ∷ []
 
 -- what it says of an open request
@@ -151,7 +164,7 @@ requestTests requests today order =
 -- whether the book has enough, and room
 unfoldable pub roomTests : Ledger → Order → List (ℕ × Bool)
 roomTests book order =
-    (16, tooLittle book.holdings order)
+    (16, tooLittle book.holdings book.waiting order)
     ∷ (17, overCeiling book.holdings order)
     ∷ (18, noSpace book order)
     ∷ []

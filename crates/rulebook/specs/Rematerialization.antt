@@ -89,7 +89,7 @@ RequestRefusals =
     ∷ (11, wrongPair order)
     ∷ (19, wrongRequest book.requests order)
     ∷ (21, tooManyRequests book.requests order)
-    ∷ (16, tooLittle book.holdings order)
+    ∷ (16, tooLittle book.holdings book.waiting order)
     ∷ (18, noSpace book order)
     ∷ [])
 

@@ -7,7 +7,7 @@ use lib.ListN.{length, take}
 use Rattle.bits.specs.Bits.{Octets}
 use Rattle.rulebook.specs.Ledger.{Holdings, Ledger, fresh}
 use Rattle.rulebook.specs.Record.{readOf, writtenOf, areaWritten}
-use Rattle.rulebook.specs.Cycle.{Marked, NothingShort, anyShort, settling}
+use Rattle.rulebook.specs.Cycle.{Marked, NothingShort, anyShort, selection}
 use Rattle.rulebook.specs.Refusals.{noSpace}
 use Rattle.rulebook.specs.Checks.{CheckingOrder}
 use Rattle.rulebook.specs.Calls.{Call, resultOf, Demand3}
@@ -35,7 +35,7 @@ pub record Theorems : Type 0 where
   -- RULES 9.4, 9.7: the test on the trades that are taken finds whatever is short, and nothing is short when a cycle settles
   pub shortFound : (h : Holdings) (marked : List Marked) → anyShort h marked ≡ false → NothingShort h marked
   pub noneFound : (h : Holdings) (marked : List Marked) → NothingShort h marked → anyShort h marked ≡ false
-  pub nothingShort : (book : Ledger) → NothingShort book.holdings (settling book)
+  pub nothingShort : (book : Ledger) → NothingShort book.holdings (selection book)
   -- RULES 3.10: a cycle always has room
   pub cycleHasRoom : (book : Ledger) (o : Order) → o.form ≡ 16 → Premise book → noSpace book o ≡ false
   -- RULES 12.15 to 12.17: the fresh book meets the premise, and every call keeps it, so a caller never has to show it

@@ -19,6 +19,7 @@ itemOf state order = record {
   «trade_day» = order.«trade_day»;
   «settlement_day» = order.«settlement_day»;
   state = state;
+  sent = false;
 }
 
 -- RULES 6.12, 6.13: an instruction as a single
@@ -93,6 +94,22 @@ withState state item = record {
   «trade_day» = item.«trade_day»;
   «settlement_day» = item.«settlement_day»;
   state = state;
+  sent = item.sent;
+}
+
+-- RULES 9.19: fixed by a sent cycle, or not
+unfoldable pub withSent : Bool → Item → Item
+withSent sent item = record {
+  security = item.security;
+  currency = item.currency;
+  debited = item.debited;
+  credited = item.credited;
+  quantity = item.quantity;
+  amount = item.amount;
+  «trade_day» = item.«trade_day»;
+  «settlement_day» = item.«settlement_day»;
+  state = item.state;
+  sent = sent;
 }
 
 -- RULES 10.2: with the sender's mark

@@ -1,8 +1,9 @@
 -- Windows: minutes of the day, both ends inside (RULES 4.7).
 use Prim.Native.Nat.{ℕ}
+use mathlib.Core.Bool.{Bool}
 use mathlib.Core.List.{List, [], _∷_}
-use lib.ListN.{getD}
-use Rattle.plain.specs.Lists.{if_then_else_, _is_}
+use lib.ListN.{length, getD}
+use Rattle.plain.specs.Lists.{if_then_else_, _is_, _atMost_}
 use Rattle.rulebook.specs.declared.Day.{Day}
 use Rattle.rulebook.specs.declared.Order.{Order}
 
@@ -13,6 +14,10 @@ byKind kind one two = if kind is 1 then one else two
 -- RULES 4.9: the earliest minutes of a day's cycles
 unfoldable pub cycleMinutes : ℕ → List ℕ
 cycleMinutes kind = byKind kind (585 ∷ 705 ∷ 825 ∷ []) (585 ∷ 705 ∷ [])
+
+-- all cycles of the day have run
+unfoldable pub allRun : Day → Bool
+allRun day = length (cycleMinutes day.kind) atMost day.cycles
 
 -- when the office ends
 unfoldable pub officeEnd : ℕ → ℕ
@@ -41,6 +46,10 @@ paymentHours day order = if order.«settlement_day» is day.number then (480, by
 -- from the next cycle's minute on
 abbrev pub cycleHours : Window
 cycleHours day order = (getD (cycleMinutes day.kind) day.cycles 0, officeEnd day.kind)
+
+-- RULES 4.17: an answer to a sent cycle: all day, and until the day's end when no cycle is still to run
+abbrev pub answerHours : Window
+answerHours day order = (480, if allRun day then 1439 else officeEnd day.kind)
 
 -- after the office
 abbrev pub closingHours : Window

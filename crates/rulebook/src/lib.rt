@@ -72,13 +72,15 @@ pub enum Answer {
     Refused(u64),
 }
 
-// The day (RULES 4): its number, whether it is open, its kind, how many cycles have run, and the last minute.
+// The day (RULES 4): its number, whether it is open, its kind, how many cycles have run, the last minute, and whether a cycle is sent that nobody has
+// answered yet.
 pub struct Day {
     pub number: u64,
     pub opened: bool,
     pub kind: u64,
     pub cycles: u64,
     pub minute: u64,
+    pub sent: bool,
 }
 
 // An admitted security (RULES 3.1, 3.19): its code, how many shares of it are issued, are outside, and are held in its accounts.
@@ -115,7 +117,7 @@ pub enum State {
     },
 }
 
-// A waiting item.
+// A waiting item, and whether a sent cycle has fixed it (RULES 9.19).
 pub struct Item {
     pub security: u64,
     pub currency: u64,
@@ -126,6 +128,7 @@ pub struct Item {
     pub trade_day: u64,
     pub settlement_day: u64,
     pub state: State,
+    pub sent: bool,
 }
 
 // A posting row. `what` is the security or the currency, and `number` the quantity or the amount.

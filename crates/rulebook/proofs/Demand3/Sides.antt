@@ -6,8 +6,8 @@ use Prim.Native.Nat.{ℕ, zero, suc, _+_, _≤_, zero-le}
 use Rattle.rulebook.specs.Calls.{Call, Made, callsOn, bookAfter, Accepted, acceptedCalls, sum, sidesTaken, sidesSettled, sidesCancelled, sidesDeleted, sidesSuspended}
 use Rattle.plain.proofs.Lists.{_and_, keep-split, total-append, total-map}
 use Rattle.plain.specs.Lists.{if_then_else_, _is_, _atMost_, keep, total}
-use Rattle.rulebook.proofs.Rounds.{cycle-total}
-use Rattle.rulebook.proofs.ByCall.{Effect, AllForms, by-form, by-call}
+use Rattle.rulebook.proofs.Rounds.{settled-total, fixing-total}
+use Rattle.rulebook.proofs.ByCall.{Effect, AllForms, either-answer, by-form, by-call}
 use Rattle.rulebook.specs.Call.{putMinute}
 use native.Mathlib.Omega.{arith}
 use Rattle.rulebook.specs.declared.Item.{Item}
@@ -15,12 +15,12 @@ use Rattle.rulebook.specs.declared.Order.{Order}
 use Rattle.rulebook.specs.declared.State.{State}
 use Rattle.rulebook.specs.declared.State.the-variants.{Single, Pair, Trade}
 use Rattle.rulebook.specs.Ledger.{Ledger, fresh, putDay, putHoldings, putWaiting, putRate, putRequests}
-use Rattle.rulebook.specs.Waiting.{sidesOf, sides, isDeliver, isReceive, itemOf, senderOf, withState, marked, marking, cancelled, staying, unmarked, sentBy, singleOf}
+use Rattle.rulebook.specs.Waiting.{sidesOf, sides, isDeliver, isReceive, itemOf, senderOf, withState, marked, marking, cancelled, staying, unmarked, sentBy, singleOf, withSent}
 use Rattle.rulebook.specs.Matching.{tolerance, pairsWith, pairOf, arrive}
 use Rattle.rulebook.specs.Close.{closeKind, leaves, deletedAtClose, suspendedAtClose}
-use Rattle.rulebook.specs.Forms.{counts, outcome, moving, silent, openDay, admit, deposit, withdraw, transfer, payIn, payOut, instruct, trade, cancel, cycle, close, forms, effect, takesIn, setRate, requestPaper, endRequest}
+use Rattle.rulebook.specs.Forms.{counts, outcome, moving, silent, openDay, admit, deposit, withdraw, transfer, payIn, payOut, instruct, trade, cancel, cycle, confirm, decline, answerCycle, close, forms, effect, takesIn, setRate, requestPaper, endRequest}
 use Rattle.rulebook.specs.declared.Counts.{Counts}
-use Rattle.rulebook.specs.Cycle.{settled, notSettled}
+use Rattle.rulebook.specs.Cycle.{selection, fixing, settled, notSettled, declined}
 
 -- matching
 
@@ -80,9 +80,19 @@ cancel-sides ws = keep-split _ _ ws
 abbrev sidesAt : Item → ℕ
 sidesAt i = sidesOf i.state
 
-cycle-sides : (book : Ledger) → sides (settled book) + sides (notSettled book) ≡ sides book.waiting
+cycle-sides : (book : Ledger) → sides (fixing (selection book)) ≡ sides book.waiting
+unfolding sides withSent
+cycle-sides book = fixing-total sidesAt (λ t i. refl) book
+
+-- the answer
+
+confirm-sides : (book : Ledger) → sides (settled book) + sides (notSettled book) ≡ sides book.waiting
 unfolding sides
-cycle-sides book = cycle-total sidesAt book
+confirm-sides book = settled-total sidesAt book
+
+decline-sides : (ws : List Item) → sides (declined ws) ≡ sides ws
+unfolding sides declined withSent
+decline-sides ws = total-map sidesAt sidesAt (withSent false) (λ i. refl) ws
 
 -- close
 
@@ -161,8 +171,14 @@ cancel-keeps b o =
     omega (arith, cancel-sides now, marking-sides (senderOf o) o.reference b.waiting)
 
 cycle-keeps : Keeps 0 cycle
-unfolding cycle outcome counts putDay putHoldings putWaiting
+unfolding cycle outcome counts putDay putWaiting
 cycle-keeps b o = omega (arith, cycle-sides b)
+
+answer-keeps : Keeps 0 answerCycle
+unfolding confirm decline silent outcome counts putDay putHoldings putWaiting
+answer-keeps b o =
+    either-answer (λ x. 0 + sides b.waiting ≡ gone (x .counts) + sides (x .after .waiting)) b o (omega (arith, confirm-sides b))
+    (omega (arith, decline-sides b.waiting))
 
 close-keeps : Keeps 0 close
 unfolding close outcome counts putDay putWaiting
@@ -175,7 +191,7 @@ unfolding forms openDay admit deposit withdraw transfer payIn payOut setRate req
 forms-keep =
     (λ b o. refl) and (λ b o. refl) and (λ b o. refl) and (λ b o. refl) and (λ b o. refl) and (λ b o. refl) and (λ b o. refl) and (λ b o. refl)
     and (λ b o. refl) and (λ b o. refl) and (λ b o. refl) and instruct-keeps and instruct-keeps and trade-keeps and cancel-keeps and cycle-keeps
-    and close-keeps and (λ b o. refl) and (λ b o. refl) and (λ b o. refl) and tt
+    and close-keeps and (λ b o. refl) and (λ b o. refl) and (λ b o. refl) and answer-keeps and tt
 
 effect-keeps : (b : Ledger) (o : Order) → takesIn o + sides b.waiting ≡ gone (effect b o .counts) + sides (effect b o .after .waiting)
 unfolding effect takesIn

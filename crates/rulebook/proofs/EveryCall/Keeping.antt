@@ -10,29 +10,29 @@ use Rattle.rulebook.specs.declared.Request.{Request}
 use Rattle.rulebook.specs.declared.Security.{Security}
 use Rattle.rulebook.specs.declared.State.{State}
 use Rattle.rulebook.specs.declared.State.the-variants.{Single, Pair, Trade}
-use Rattle.plain.specs.Lists.{if_then_else_, _is_, within, keep, Each}
-use Rattle.plain.proofs.Lists.{_and_, total-append, each-so, each-both, each-append, each-kept}
+use Rattle.plain.specs.Lists.{if_then_else_, _is_, _oneOf_, within, keep, Each}
+use Rattle.plain.proofs.Lists.{_and_, total-append, each-so, each-both, each-append, each-kept, each-map}
 use Rattle.rulebook.specs.AccountTypes.{alike, isOutside, accountType, wrongTypes}
 use Rattle.rulebook.specs.Field as Field
 use Rattle.rulebook.specs.Ledger.{Ledger, Holdings, Requests, accountOf, requestAccount, admitted, putDay, putHoldings, putWaiting, putRequests, putSecurities, newSecurity, putRate}
 use Rattle.rulebook.specs.Movements.{account, type91, Movement, booked}
-use Rattle.rulebook.specs.Waiting.{isTrade, itemOf, senderOf, sentBy, marking, staying, bothMarked, singleOf}
+use Rattle.rulebook.specs.Waiting.{isTrade, itemOf, senderOf, sentBy, marking, staying, bothMarked, singleOf, withSent}
 use Rattle.rulebook.specs.Matching.{tolerance}
-use Rattle.rulebook.specs.Cycle.{buyer, settled, notSettled, legs}
+use Rattle.rulebook.specs.Cycle.{buyer, settled, notSettled, declined, legs}
 use Rattle.rulebook.specs.Close.{leaves}
-use Rattle.rulebook.specs.Forms.{outcome, moving, silent, openDay, admit, deposit, withdraw, transfer, payIn, payOut, instruct, trade, cancel, cycle, close, forms, rowOf, used, least, effect, setRate, endedRequest, requestPaper, endRequest}
+use Rattle.rulebook.specs.Forms.{outcome, moving, silent, openDay, admit, deposit, withdraw, transfer, payIn, payOut, instruct, trade, cancel, cycle, confirm, decline, answerCycle, close, forms, rowOf, used, least, effect, setRate, endedRequest, requestPaper, endRequest}
 use Rattle.rulebook.specs.Refusals.{asksSecurity}
 use Rattle.rulebook.specs.Call.{putMinute}
-use Rattle.rulebook.specs.Premise.{SecurityFits, AccountFits, StateFits, ItemFits, RequestFits, Premise, today}
-use Rattle.rulebook.proofs.ByCall.{Effect, AllForms, not-read, by-form}
-use Rattle.rulebook.proofs.Rounds.{settled-fits, notSettled-fits, Due, settled-due}
+use Rattle.rulebook.specs.Premise.{SecurityFits, AccountFits, StateFits, ItemFits, RequestFits, Premise, today, sent}
+use Rattle.rulebook.proofs.ByCall.{Effect, AllForms, either-answer, not-read, by-form}
+use Rattle.rulebook.proofs.Rounds.{fixing-fits, settled-fits, notSettled-fits, Due, settled-due}
 use Rattle.rulebook.proofs.Types.{free-type, pledged-type, requested-type, ends-free, alike-free, deposit-free, transfer-free, pledge-types, release-types, block-types, unblock-types}
 use Rattle.rulebook.proofs.Orders.{Accepted, needs, needed, is-admitted, right-types, is-open, opens-next, none-waits, is-ended}
 use Rattle.rulebook.proofs.EveryCall.Owners.{Owned, Gets, AllGet, still-admitted, booked-admitted, account-admitted, booked-owned}
-use Rattle.rulebook.proofs.EveryCall.References.{Once, arrive-sent, cancel-sent, close-sent, cycle-sent, new-once}
+use Rattle.rulebook.proofs.EveryCall.References.{Once, arrive-sent, cancel-sent, close-sent, cycle-sent, confirm-sent, decline-sent, new-once}
 use Rattle.rulebook.proofs.Halves.{Half, arrive-halves, kept-halves, closed-halves}
 use Rattle.rulebook.proofs.EveryCall.Items.{item-later, marking-fits, close-fits, arrive-fits}
-use Rattle.rulebook.proofs.EveryCall.Days.{DayAt, same-day, open-day, cycle-day, close-day}
+use Rattle.rulebook.proofs.EveryCall.Days.{DayAt, same-day, open-day, cycle-day, answer-day, close-day}
 use Rattle.rulebook.proofs.EveryCall.NewItems.{deliver-item, receive-item, trade-item, deliver-sender, receive-sender, trade-sender}
 
 abbrev Waiting : Ledger → List Item → Type 0
@@ -72,14 +72,14 @@ moving-kept b minute ms w i r v d g = record {
 
 -- whatever becomes of the requests
 moves-with :
-    (n : ℕ) → (n is 17) ≡ false → (b : Ledger) (o : Order) (r : Requests) (ms : List Movement) → o.form ≡ n → Premise b → Accepted b o → AllGet b.holdings ms
+    (n : ℕ) → (n oneOf (17 ∷ 21 ∷ [])) ≡ false → (b : Ledger) (o : Order) (r : Requests) (ms : List Movement) → o.form ≡ n → Premise b → Accepted b o → AllGet b.holdings ms
     → Kept o.minute (moving ms (putRequests r b) .after)
 unfolding putRequests putMinute putDay
 moves-with n l b o r ms e p a g =
     moving-kept (putRequests r b) o.minute ms (owned-of b p) p.items p.references p.halves (unfold putMinute putDay in same-day n b o e l p.day a) g
 
 moves :
-    (n : ℕ) → (n is 17) ≡ false → (b : Ledger) (o : Order) (ms : List Movement) → o.form ≡ n → Premise b → Accepted b o → AllGet b.holdings ms
+    (n : ℕ) → (n oneOf (17 ∷ 21 ∷ [])) ≡ false → (b : Ledger) (o : Order) (ms : List Movement) → o.form ≡ n → Premise b → Accepted b o → AllGet b.holdings ms
     → Kept o.minute (moving ms b .after)
 unfolding putRequests
 moves n l b o = moves-with n l b o b.requests
@@ -113,7 +113,7 @@ unfolding withdraw
 withdraw-keeps b o e p a = moves 4 refl b o _ e p a (tt, tt)
 
 transfer-keeps :
-    (n : ℕ) → (n is 17) ≡ false → asksSecurity n ≡ true → (n is 2) ≡ false → needs n Field.credited-member ≡ true
+    (n : ℕ) → (n oneOf (17 ∷ 21 ∷ [])) ≡ false → asksSecurity n ≡ true → (n is 2) ≡ false → needs n Field.credited-member ≡ true
     → needs n Field.credited-shareholder ≡ true
     → ((d c : ℕ) → wrongTypes n d c ≡ false → accountType c ≡ true) → Keeps n transfer
 unfolding transfer
@@ -168,7 +168,7 @@ unfolding putWaiting putMinute putDay
 waiting-kept b minute ws p d i r v = record { owned = owned-of b p; items = i; references = r; halves = v; day = d }
 
 instruct-keeps :
-    (n : ℕ) → (n is 17) ≡ false → within 12 14 n ≡ true → (n is 15) ≡ false
+    (n : ℕ) → (n oneOf (17 ∷ 21 ∷ [])) ≡ false → within 12 14 n ≡ true → (n is 15) ≡ false
     → ((b : Ledger) (o : Order) → Accepted b o → o.form ≡ n → ItemFits b.day.number (today b.day) b.holdings (singleOf o))
     → ((b : Ledger) (o : Order) → Accepted b o → o.form ≡ n → (s r : ℕ) → sentBy s r (singleOf o) ≡ true → (s ≡ senderOf o) × (r ≡ o.reference))
     → Keeps n instruct
@@ -228,7 +228,7 @@ close-keeps b o e p a =
       items = close-fits b.day.number b.holdings b.waiting (subst (λ (x : ℕ). Each (ItemFits b.day.number x b.holdings) b.waiting) t p.items);
       halves = closed-halves (keep (λ item. not (leaves b.day.number item)) b.waiting);
       references = λ s r. omega (arith, close-sent s r (λ item. not (leaves b.day.number item)) b.waiting, p.references s r);
-      day = unfold close outcome putDay putWaiting in close-day b o p.day a;
+      day = unfold close outcome putDay putWaiting in close-day b o e p.day a;
     }
 
 -- the cycle: its buyers are such accounts, its sellers members with cash
@@ -261,14 +261,35 @@ legs-get n t d h (i ∷ rest) e =
       ),
     )
 
+-- whether an item is fixed is no part of its terms
+fixed-fits : (n t : ℕ) (h : Holdings) (x : Bool) (i : Item) → ItemFits n t h i → ItemFits n t h (withSent x i)
+unfolding withSent
+fixed-fits n t h x i f = record { listed = f.listed; terms = f.terms; days = f.days; state = f.state; due = f.due }
+
+fixed-half : (x : Bool) (i : Item) → Half i → Half (withSent x i)
+unfolding withSent
+fixed-half x i f = f
+
 cycle-keeps : Keeps 16 cycle
-unfolding cycle outcome putDay putHoldings putWaiting
-cycle-keeps b o e p a =
+unfolding cycle outcome putDay putWaiting
+cycle-keeps b o e p a = record {
+  owned = owned-of b p;
+  items = fixing-fits (ItemFits b.day.number (today b.day) b.holdings) (fixed-fits b.day.number (today b.day) b.holdings) b p.items;
+  halves = fixing-fits Half fixed-half b p.halves;
+  references = λ s r. omega (arith, cycle-sent s r b, p.references s r);
+  day = unfold cycle outcome putDay putWaiting in cycle-day b o e p.day a;
+}
+
+-- the answer
+
+confirm-kept : (b : Ledger) (minute : ℕ) → Premise b → DayAt minute (confirm b .after) → Kept minute (confirm b .after)
+unfolding confirm outcome putDay putHoldings putWaiting
+confirm-kept b minute p d =
     let ms = legs (settled b) in
     let P : Item → Type 0 = ItemFits b.day.number (today b.day) b.holdings in
     let g =
     legs-get b.day.number (today b.day) b.day.number b.holdings (settled b)
-    (each-both P (Due b.day.number) (settled b) (settled-fits P b p.items) (settled-due b)) in
+    (each-both P (Due b.day.number) (settled b) (settled-fits P b p.items) (settled-due b p.sent)) in
     record {
       owned = booked-owned ms b.holdings g (owned-of b p);
       items =
@@ -278,9 +299,28 @@ cycle-keeps b o e p a =
           (notSettled b)
           (notSettled-fits P b p.items);
       halves = notSettled-fits Half b p.halves;
-      references = λ s r. omega (arith, cycle-sent s r b, p.references s r);
-      day = unfold cycle outcome putDay putHoldings putWaiting in cycle-day b o e p.day a;
+      references = λ s r. omega (arith, confirm-sent s r b, p.references s r);
+      day = unfold confirm outcome putDay putHoldings putWaiting in d;
     }
+
+decline-kept : (b : Ledger) (minute : ℕ) → Premise b → DayAt minute (decline b .after) → Kept minute (decline b .after)
+unfolding decline silent outcome putDay putWaiting declined
+decline-kept b minute p d =
+    let P : Item → Type 0 = ItemFits b.day.number (today b.day) b.holdings in
+    let same : (s r : ℕ) → sent s r (declined b.waiting) ≡ sent s r b.waiting = λ s r. decline-sent s r b.waiting in
+    record {
+      owned = owned-of b p;
+      items = each-map P P (withSent false) (fixed-fits b.day.number (today b.day) b.holdings false) b.waiting p.items;
+      halves = each-map Half Half (withSent false) (fixed-half false) b.waiting p.halves;
+      references = λ s r. omega (arith, same s r, p.references s r);
+      day = unfold decline silent outcome putDay putWaiting in d;
+    }
+
+answer-keeps : Keeps 21 answerCycle
+answer-keeps b o e p a = answer (answer-day b o e p.day a)
+  where
+    answer : DayAt o.minute (answerCycle b o .after) → Kept o.minute (answerCycle b o .after)
+    answer = either-answer (λ x. DayAt o.minute (x .after) → Kept o.minute (x .after)) b o (confirm-kept b o.minute p) (decline-kept b o.minute p)
 
 -- the rate
 
@@ -341,7 +381,7 @@ forms-keep =
     and transfer-keeps 8 refl refl refl refl refl (λ d c w. pledged-type c (block-types d c w .1))
     and transfer-keeps 9 refl refl refl refl refl (λ d c w. free-type c (unblock-types d c w .0))
     and payIn-keeps and payOut-keeps and instruct-keeps 12 refl refl refl deliver-item deliver-sender and instruct-keeps 13 refl refl refl receive-item
-    receive-sender and trade-keeps and cancel-keeps and cycle-keeps and close-keeps and rate-keeps and request-keeps and end-keeps and tt
+    receive-sender and trade-keeps and cancel-keeps and cycle-keeps and close-keeps and rate-keeps and request-keeps and end-keeps and answer-keeps and tt
 
 -- no order that was read has another form
 pub effect-keeps : (b : Ledger) (o : Order) → Premise b → Accepted b o → Kept o.minute (effect b o .after)

@@ -9,9 +9,9 @@ use Rattle.plain.proofs.Lists.{_and_}
 use Rattle.rulebook.specs.declared.Order.{Order}
 use Rattle.rulebook.specs.Field as Field
 use Rattle.rulebook.specs.Ledger.{Ledger, putDay, putHoldings, putWaiting, putRate, putRequests}
-use Rattle.rulebook.specs.Forms.{outcome, moving, silent, openDay, admit, deposit, withdraw, transfer, payIn, payOut, instruct, trade, cancel, cycle, close, setRate, requestPaper, endRequest, forms, rowOf, used, least, effect}
+use Rattle.rulebook.specs.Forms.{outcome, moving, silent, openDay, admit, deposit, withdraw, transfer, payIn, payOut, instruct, trade, cancel, cycle, confirm, decline, close, setRate, requestPaper, endRequest, forms, rowOf, used, least, effect}
 use Rattle.rulebook.specs.Premise.{RateFits}
-use Rattle.rulebook.proofs.ByCall.{Effect, AllForms, HasForm, by-form}
+use Rattle.rulebook.proofs.ByCall.{Effect, AllForms, HasForm, either-answer, by-form}
 use Rattle.rulebook.proofs.Orders.{Accepted, needed}
 
 -- what an order of a form makes of the rate
@@ -20,12 +20,13 @@ Rates n f = (b : Ledger) (o : Order) → f b o .after .rate ≡ (if n is 18 then
 
 all-rates : AllForms (λ n f. Rates n f.effect) 1 forms
 unfolding
-    forms openDay admit deposit withdraw transfer payIn payOut instruct trade cancel cycle close setRate requestPaper endRequest moving silent outcome putDay
+    forms openDay admit deposit withdraw transfer payIn payOut instruct trade cancel cycle confirm decline close setRate requestPaper endRequest moving silent outcome putDay
     putHoldings putWaiting putRate putRequests
 all-rates =
     (λ b o. refl) and (λ b o. refl) and (λ b o. refl) and (λ b o. refl) and (λ b o. refl) and (λ b o. refl) and (λ b o. refl) and (λ b o. refl)
     and (λ b o. refl) and (λ b o. refl) and (λ b o. refl) and (λ b o. refl) and (λ b o. refl) and (λ b o. refl) and (λ b o. refl) and (λ b o. refl)
-    and (λ b o. refl) and (λ b o. refl) and (λ b o. refl) and (λ b o. refl) and tt
+    and (λ b o. refl) and (λ b o. refl) and (λ b o. refl) and (λ b o. refl)
+    and (λ b o. either-answer (λ x. x .after .rate ≡ b.rate) b o refl refl) and tt
 
 pub effect-rate : (b : Ledger) (o : Order) → effect b o .after .rate ≡ (if o.form is 18 then o.quantity.0 else b.rate)
 unfolding effect silent outcome

@@ -10,11 +10,11 @@ use Rattle.rulebook.specs.declared.State.the-variants.{Single, Pair, Tra
 use Rattle.plain.specs.Lists.{if_then_else_, _is_, some, keep}
 use Rattle.plain.proofs.Lists.{keep-most, total-append, total-map}
 use Rattle.rulebook.specs.Ledger.{Ledger}
-use Rattle.rulebook.specs.Waiting.{isDeliver, isReceive, ownReference, sentBy, withState, marked, bothMarked, marking, staying, unmarked}
+use Rattle.rulebook.specs.Waiting.{isDeliver, isReceive, ownReference, sentBy, withState, withSent, marked, bothMarked, marking, staying, unmarked}
 use Rattle.rulebook.specs.Matching.{pairsWith, pairOf, arrive}
-use Rattle.rulebook.specs.Cycle.{notSettled}
+use Rattle.rulebook.specs.Cycle.{selection, fixing, notSettled, declined}
 use Rattle.rulebook.specs.Premise.{sent}
-use Rattle.rulebook.proofs.Rounds.{cycle-total}
+use Rattle.rulebook.proofs.Rounds.{settled-total, fixing-total}
 use Rattle.rulebook.proofs.EveryCall.Items.{Agreed, pairs}
 
 abbrev pub hit : Bool → ℕ
@@ -113,8 +113,20 @@ module _ (s r : ℕ) where
         keep-most (λ i. hit (sentBy s r i)) test ws,
       )
 
-  pub cycle-sent : (b : Ledger) → sent s r (notSettled b) ≤ sent s r b.waiting
-  cycle-sent b = omega (arith, cycle-total (λ i. hit (sentBy s r i)) b)
+  -- nor does it matter whether an item is fixed
+  pub fix-sent : (t : Bool) (i : Item) → sentBy s r (withSent t i) ≡ sentBy s r i
+  unfolding sentBy withSent
+  fix-sent t i = refl
+
+  pub cycle-sent : (b : Ledger) → sent s r (fixing (selection b)) ≡ sent s r b.waiting
+  cycle-sent b = fixing-total (λ i. hit (sentBy s r i)) (λ t i. ap hit (fix-sent t i)) b
+
+  pub confirm-sent : (b : Ledger) → sent s r (notSettled b) ≤ sent s r b.waiting
+  confirm-sent b = omega (arith, settled-total (λ i. hit (sentBy s r i)) b)
+
+  pub decline-sent : (ws : List Item) → sent s r (declined ws) ≡ sent s r ws
+  unfolding declined
+  decline-sent ws = total-map (λ i. hit (sentBy s r i)) (λ i. hit (sentBy s r i)) (withSent false) (λ i. ap hit (fix-sent false i)) ws
 
 -- one more item, under a reference that none waits under
 

@@ -12,12 +12,12 @@ use Rattle.rulebook.specs.TypeTable.{requested}
 use Rattle.rulebook.specs.Field as Field
 use Rattle.rulebook.specs.Ledger.{Ledger, Holdings, Requests, fresh, noRequest, requestAccount, sameAccount, counted, admitted, askedOf, putDay, putHoldings, putWaiting, putRate, putRequests, putRequest}
 use Rattle.rulebook.specs.Movements.{account}
-use Rattle.rulebook.specs.Forms.{outcome, moving, silent, openDay, admit, deposit, withdraw, transfer, payIn, payOut, instruct, trade, cancel, cycle, close, setRate, newRequest, requestPaper, endRequest, forms, rowOf, used, least, effect}
+use Rattle.rulebook.specs.Forms.{outcome, moving, silent, openDay, admit, deposit, withdraw, transfer, payIn, payOut, instruct, trade, cancel, cycle, confirm, decline, close, setRate, newRequest, requestPaper, endRequest, forms, rowOf, used, least, effect}
 use Rattle.rulebook.specs.Premise.{requestCount, RequestFits, Premise}
 use Rattle.rulebook.specs.declared.Account.{Account}
 use Rattle.rulebook.specs.declared.Order.{Order}
 use Rattle.rulebook.specs.declared.Request.{Request}
-use Rattle.rulebook.proofs.ByCall.{Effect, AllForms, HasForm, by-form}
+use Rattle.rulebook.proofs.ByCall.{Effect, AllForms, HasForm, either-answer, by-form}
 use Rattle.rulebook.proofs.Orders.{Accepted, needed, is-admitted, right-types, not-open, is-ended, fewer-open}
 use Rattle.rulebook.proofs.Requests.{asked-put, number-put}
 use Rattle.rulebook.proofs.Sizes.{counted-most, counted-none}
@@ -37,14 +37,15 @@ Asks n f = (b : Ledger) (o : Order) → (f b o .after .requests ≡ requestsAfte
 
 all-ask : AllForms (λ n f. Asks n f.effect) 1 forms
 unfolding
-    forms openDay admit deposit withdraw transfer payIn payOut instruct trade cancel cycle close setRate requestPaper endRequest moving silent outcome putDay
+    forms openDay admit deposit withdraw transfer payIn payOut instruct trade cancel cycle confirm decline close setRate requestPaper endRequest moving silent outcome putDay
     putHoldings putWaiting putRate putRequests
 all-ask =
     (λ b o. (refl, omega arith)) and (λ b o. (refl, omega arith)) and (λ b o. (refl, omega arith)) and (λ b o. (refl, omega arith))
     and (λ b o. (refl, omega arith)) and (λ b o. (refl, omega arith)) and (λ b o. (refl, omega arith)) and (λ b o. (refl, omega arith))
     and (λ b o. (refl, omega arith)) and (λ b o. (refl, omega arith)) and (λ b o. (refl, omega arith)) and (λ b o. (refl, omega arith))
     and (λ b o. (refl, omega arith)) and (λ b o. (refl, omega arith)) and (λ b o. (refl, omega arith)) and (λ b o. (refl, omega arith))
-    and (λ b o. (refl, omega arith)) and (λ b o. (refl, omega arith)) and (λ b o. (refl, omega arith)) and (λ b o. (refl, omega arith)) and tt
+    and (λ b o. (refl, omega arith)) and (λ b o. (refl, omega arith)) and (λ b o. (refl, omega arith)) and (λ b o. (refl, omega arith))
+    and (λ b o. either-answer (λ x. (x .after .requests ≡ b.requests) × (b.day.number ≤ x .after .day .number)) b o (refl, omega arith) (refl, omega arith)) and tt
 
 pub effect-requests :
     (b : Ledger) (o : Order) → (effect b o .after .requests ≡ requestsAfter o.form b o) × (b.day.number ≤ effect b o .after .day .number)

@@ -16,29 +16,49 @@ use Rattle.rulebook.specs.Field as Field
 use Rattle.rulebook.specs.Ledger.{Ledger, Holdings, Requests, accountOf, sameAccount, outsideOf, heldOf, putHoldings, putSecurities, putRequests, newSecurity}
 use Rattle.rulebook.specs.declared.Account.{Account}
 use Rattle.rulebook.specs.Movements.{Place, account, type91, type90, cashOf, member0, move, recount, recounted, booked, bookHas}
+use Rattle.rulebook.specs.Cycle.{offers}
 use Rattle.rulebook.specs.Forms.{outcome, counts, moving, admit, deposit, withdraw, transfer, payIn, payOut, forms, rowOf, used, least}
 use Rattle.rulebook.specs.Refusals.{asksSecurity, debitsShares, wrongSecurity}
 use Rattle.rulebook.specs.Premise.{withCode, Premise}
 use Rattle.rulebook.proofs.Rounds.{same-eq}
-use Rattle.rulebook.proofs.Orders.{is-admitted, not-admitted, little-parts, debit-enough, right-types, needed}
+use Rattle.rulebook.proofs.Orders.{is-admitted, not-admitted, little-parts, debit-offered, debit-enough, right-types, needed, none-sent}
 use Rattle.rulebook.proofs.Securities.{known, unknown, new-count, new-none, new-issued}
 use Rattle.rulebook.proofs.Places.{brought, Known, Bears, booked-exact, one-enough}
 use Rattle.rulebook.proofs.Reading.{Proper}
 use Rattle.rulebook.proofs.Recounting.{held-stays, held-more, held-less}
 use Rattle.rulebook.proofs.Bounds.{balance-counted}
 use Rattle.rulebook.proofs.Types.{Account·type, Quiet, PutIn, free-quiet, pledged-account, pledged-not-requested, deposit-free, withdraw-free, transfer-free, pledge-types, release-types, block-types, unblock-types}
-use Rattle.rulebook.proofs.Steps.OneCall.{sharesAt, paperAt, putInAt, releasedAt, writesAt, Figures, Recounts, Admits, admits-none, Step, Steps}
+use Rattle.rulebook.proofs.Steps.OneCall.{sharesAt, paperAt, putInAt, releasedAt, writesAt, Figures, Recounts, Admits, admits-none, Spares, Step, Steps}
 use Rattle.rulebook.specs.Ranges.{PartyInRange}
+
+-- so much of a place may be moved while a cycle is sent
+abbrev pub Offered : Ledger → Place → ℕ → Type 0
+Offered b (account a) n = n ≤ offers b.holdings b.waiting a
+Offered b (type91 security) n = Unit {0}
+Offered b (type90 security) n = Unit {0}
+Offered b (cashOf member currency) n = b.day.sent ≡ false
+Offered b (member0 currency) n = Unit {0}
+
+one-spared : (b : Ledger) (from to : Place) (n : ℕ) → Offered b from n → b.day.sent ≡ true → Spares b (move from to n ∷ [])
+one-spared b (account d) to n l s = record { shares = λ a. go a (sameAccount d a) refl; cash = λ m c. refl }
+  where
+    go : (a : Account) (t : Bool) → sameAccount d a ≡ t → (if sameAccount d a then n else 0) + 0 ≤ offers b.holdings b.waiting a
+    go a true e = simp e (omega (arith, subst (λ (x : Account). n ≤ offers b.holdings b.waiting x) (same-eq d a e) l))
+    go a false e = simp e (omega arith)
+one-spared b (type91 security) to n l s = record { shares = λ a. omega arith; cash = λ m c. refl }
+one-spared b (type90 security) to n l s = record { shares = λ a. omega arith; cash = λ m c. refl }
+one-spared b (cashOf member currency) to n l s = absurd (false≢true (sym l ∙ s))
+one-spared b (member0 currency) to n l s = record { shares = λ a. omega arith; cash = λ m c. refl }
 
 -- a form that makes one movement, after it admits a security or none, and opens or ends a request or none
 moved :
     (n : ℕ) (b : Ledger) (o : Order) (xs : List Security) (r : Requests) (from to : Place) (k : ℕ) → Admits n o b.holdings xs → writesAt n ≡ 1
     → Known (putSecurities xs b.holdings) from
-    → Known (putSecurities xs b.holdings) to → Bears (putSecurities xs b.holdings) from k → Proper from → Proper to → k < 2 ^ 40
+    → Known (putSecurities xs b.holdings) to → Bears (putSecurities xs b.holdings) from k → Offered b from k → Proper from → Proper to → k < 2 ^ 40
     → Figures n b o (move from to k ∷ []) → Recounts n b o (putSecurities xs b.holdings) (booked (move from to k ∷ []) (putSecurities xs b.holdings))
     → Step n b o (moving (move from to k ∷ []) (putRequests r (putHoldings (putSecurities xs b.holdings) b)))
 unfolding moving outcome counts putHoldings putRequests
-moved n b o xs r from to k a w kf kt l pf pt u f c =
+moved n b o xs r from to k a w kf kt l v pf pt u f c =
     let ms = move from to k ∷ [] in
     let h = putSecurities xs b.holdings in
     record {
@@ -53,20 +73,21 @@ moved n b o xs r from to k a w kf kt l pf pt u f c =
       counted = refl;
       figures = f;
       recounts = λ s. omega (arith, c s, a .held s);
+      spares = λ _. one-spared b from to k v;
     }
 
 -- and none but form 2 admits one
 pub moves-with :
     (n : ℕ) (b : Ledger) (o : Order) (r : Requests) (from to : Place) (k : ℕ) → (n is 2) ≡ false → Premise b → writesAt n ≡ 1 → Known b.holdings from
     → Known b.holdings to
-    → Bears b.holdings from k → Proper from → Proper to → k < 2 ^ 40 → Figures n b o (move from to k ∷ [])
+    → Bears b.holdings from k → Offered b from k → Proper from → Proper to → k < 2 ^ 40 → Figures n b o (move from to k ∷ [])
     → Recounts n b o b.holdings (booked (move from to k ∷ []) b.holdings) → Step n b o (moving (move from to k ∷ []) (putRequests r b))
 unfolding putHoldings putSecurities putRequests
 moves-with n b o r from to k e p = moved n b o b.holdings.securities r from to k (admits-none n o b.holdings e p.codes)
 
 moves-one :
     (n : ℕ) (b : Ledger) (o : Order) (from to : Place) (k : ℕ) → (n is 2) ≡ false → Premise b → writesAt n ≡ 1 → Known b.holdings from → Known b.holdings to
-    → Bears b.holdings from k → Proper from → Proper to → k < 2 ^ 40 → Figures n b o (move from to k ∷ [])
+    → Bears b.holdings from k → Offered b from k → Proper from → Proper to → k < 2 ^ 40 → Figures n b o (move from to k ∷ [])
     → Recounts n b o b.holdings (booked (move from to k ∷ []) b.holdings) → Step n b o (moving (move from to k ∷ []) b)
 unfolding putRequests
 moves-one n b o = moves-with n b o b.requests
@@ -134,7 +155,7 @@ admit-steps b o e p a =
       issued = λ s. omega (arith, new-issued s b.holdings new);
       held = none-held new refl b.holdings;
     })
-    refl tt k tt a.fits.security a.fits.security a.fits.quantity
+    refl tt k tt tt a.fits.security a.fits.security a.fits.quantity
     (record { held = λ c. refl; outside = λ c. omega arith; cash = λ c. refl; pledged = λ x q. (refl, refl); awaited = λ x q. (refl, refl) })
     (inside 2 b o _ _ _ _ (λ k. refl) (λ s. refl))
 
@@ -145,7 +166,7 @@ unfolding deposit accountOf forms rowOf
 deposit-steps b o e p a =
     let t = free-quiet o.credited.typ (deposit-free o.debited.typ o.credited.typ (right-types 3 b o e a.types)) in
     moves-one 3 b o (type91 o.security) (account (accountOf o.security o.credited)) o.quantity.0 refl p refl (one-code 3 b o e refl refl p a.security) tt
-    (ltb-false _ _ (simp e at (little-parts b o a.little .0))) a.fits.security
+    (ltb-false _ _ (simp e at (little-parts b o a.little .0))) tt a.fits.security
     (account-proper o.security o.credited a.fits.security a.fits.credited (t .1)) a.fits.quantity
     (record {
       held = λ c. omega arith;
@@ -176,7 +197,8 @@ unfolding withdraw accountOf forms rowOf
 withdraw-steps b o e p a =
     let t = free-quiet o.debited.typ (withdraw-free o.debited.typ o.credited.typ (right-types 4 b o e a.types)) in
     moves-one 4 b o (account (accountOf o.security o.debited)) (type91 o.security) o.quantity.0 refl p refl tt (one-code 4 b o e refl refl p a.security)
-    (debit-enough b o a.little (simp e)) (account-proper o.security o.debited a.fits.security a.fits.debited (t .1)) a.fits.security a.fits.quantity
+    (debit-enough b o a.little (simp e)) (debit-offered b o a.little (simp e))
+    (account-proper o.security o.debited a.fits.security a.fits.debited (t .1)) a.fits.security a.fits.quantity
     (record {
       held = λ c. omega arith;
       outside = λ c. omega arith;
@@ -214,7 +236,7 @@ unfolding transfer accountOf
 shifts n t w off types b o e p a =
     let y = types o (right-types n b o e a.types) in
     moves-one n b o (account (accountOf o.security o.debited)) (account (accountOf o.security o.credited)) o.quantity.0 (off .0) p w tt tt
-    (debit-enough b o a.little (simp (e, t))) (account-proper o.security o.debited a.fits.security a.fits.debited (y .from))
+    (debit-enough b o a.little (simp (e, t))) (debit-offered b o a.little (simp (e, t))) (account-proper o.security o.debited a.fits.security a.fits.debited (y .from))
     (account-proper o.security o.credited a.fits.security a.fits.credited (y .to)) a.fits.quantity
     (record {
       held = λ c. simp (off .1 .0, off .1 .1 .0, off .1 .1 .1 .1 .1 .1 .0);
@@ -302,7 +324,7 @@ pub payIn-steps : Steps 10 payIn
 unfolding payIn used least forms rowOf
 payIn-steps b o e p a =
     let m = a.ranges.credited (needed 10 Field.credited-member o e refl) in
-    moves-one 10 b o (member0 o.currency) (cashOf o.credited.member o.currency) o.amount.0 refl p refl tt tt tt (omega (arith, a.fits.currency))
+    moves-one 10 b o (member0 o.currency) (cashOf o.credited.member o.currency) o.amount.0 refl p refl tt tt tt tt (omega (arith, a.fits.currency))
     (m .0, m .1, omega (arith, a.fits.currency)) a.fits.amount
     (record { held = λ c. refl; outside = λ c. refl; cash = λ c. omega arith; pledged = λ x q. (refl, refl); awaited = λ x q. (refl, refl) })
     (inside 10 b o _ _ _ _ (λ k. refl) (λ s. refl))
@@ -312,7 +334,7 @@ unfolding payOut used least forms rowOf
 payOut-steps b o e p a =
     let m = a.ranges.debited (needed 11 Field.debited-member o e refl) in
     moves-one 11 b o (cashOf o.debited.member o.currency) (member0 o.currency) o.amount.0 refl p refl tt tt
-    (ltb-false _ _ (simp e at (little-parts b o a.little .2)))
+    (ltb-false _ _ (simp e at (little-parts b o a.little .2))) (none-sent b o 11 e refl a.answered)
     (m .0, m .1, omega (arith, a.fits.currency)) (omega (arith, a.fits.currency)) a.fits.amount
     (record { held = λ c. refl; outside = λ c. refl; cash = λ c. omega arith; pledged = λ x q. (refl, refl); awaited = λ x q. (refl, refl) })
     (inside 11 b o _ _ _ _ (λ k. refl) (λ s. refl))

@@ -12,7 +12,8 @@ use Rattle.plain.specs.Lists.{if_then_else_, _is_, _oneOf_}
 use Rattle.rulebook.specs.TypeTable.{requested}
 use Rattle.rulebook.specs.AccountTypes.{isOutside, pledgedOrBlocked}
 use Rattle.rulebook.specs.Ledger.{Ledger, Holdings, accountOf, requestAccount, sameAccount, issuedOf, heldOf, putSecurities}
-use Rattle.rulebook.specs.Movements.{Place, account, type91, Movement, booked, bookHas}
+use Rattle.rulebook.specs.Movements.{Place, account, type91, cashOf, Movement, booked, bookHas}
+use Rattle.rulebook.specs.Cycle.{offers}
 use Rattle.rulebook.specs.Rows.{postingRows}
 use Rattle.rulebook.specs.Forms.{Outcome, newRequest, endedRequest, rowOf}
 use Rattle.rulebook.specs.Premise.{withCode, Premise}
@@ -79,6 +80,11 @@ pub admits-none : (form : ℕ) (o : Order) (h : Holdings) → (form is 2) ≡ fa
 unfolding putSecurities
 admits-none form o h e c = record { keeps = λ p. refl; codes = c; still = λ c. omega arith; issued = λ s. simp e (omega arith); held = λ s. refl }
 
+-- RULES 9.22: while a cycle is sent, movements take from an account no more than it offers, and no cash at all
+pub record Spares (b : Ledger) (moves : List Movement) : Type 0 where
+  pub shares : (a : Account) → taken (account a) moves ≤ offers b.holdings b.waiting a
+  pub cash : (m c : ℕ) → taken (cashOf m c) moves ≡ 0
+
 -- what a form's outcome is
 pub record Step (form : ℕ) (b : Ledger) (o : Order) (x : Outcome) : Type 0 where
   pub listed : List Security
@@ -92,6 +98,8 @@ pub record Step (form : ℕ) (b : Ledger) (o : Order) (x : Outcome) : Type 0 whe
   pub counted : x.counts.rows ≡ length x.rows
   pub figures : Figures form b o moves
   pub recounts : Recounts form b o b.holdings x.after.holdings
+  -- all but the answer to the cycle
+  pub spares : (form is 21) ≡ false → b.day.sent ≡ true → Spares b moves
 
 -- a form makes such a step
 abbrev pub Steps : ℕ → Effect → Type 0

@@ -18,8 +18,9 @@ use Rattle.rulebook.proofs.Securities.{known}
 use Rattle.rulebook.proofs.Places.{Known}
 use Rattle.rulebook.proofs.Reading.{Proper}
 use Rattle.rulebook.proofs.Requests.{covered}
-use Rattle.rulebook.proofs.Orders.{Accepted, debit-enough, right-types, is-ended}
+use Rattle.rulebook.proofs.Orders.{Accepted, debit-offered, debit-enough, right-types, is-ended}
 use Rattle.rulebook.proofs.Steps.OneCall.{Figures, Recounts, Steps}
+use Rattle.rulebook.proofs.Steps.Settling.{requests-offered}
 use Rattle.rulebook.proofs.Steps.Moving.{moves-with, account-proper, apart, party-apart, awaits, inside, left-less}
 
 pub request-steps : Steps 19 requestPaper
@@ -30,7 +31,7 @@ request-steps b o e p a =
     let d = a.fits.debited in
     moves-with 19 b o _
     (account (accountOf o.security o.debited)) (account to) o.quantity.0 refl p refl tt tt
-    (debit-enough b o a.little (simp e)) (account-proper o.security o.debited a.fits.security d (t .1))
+    (debit-enough b o a.little (simp e)) (debit-offered b o a.little (simp e)) (account-proper o.security o.debited a.fits.security d (t .1))
     (a.fits.security, d.member, omega arith, d.shareholder, refl) a.fits.quantity
     (record {
       held = λ s. omega arith;
@@ -115,6 +116,11 @@ end-steps b o e p a =
     moves-with 20 b o _
     (account (requestAccount requested o.debited.member x)) (place b o e p a (isOutside o.credited.typ)) x.quantity.0 refl p refl tt
     (place-known b o e p a (isOutside o.credited.typ)) (covered b o.debited.member o.reference p (is-ended b o e a.request .0))
+    (omega (
+      arith,
+      requests-offered b (requestAccount requested o.debited.member x) p refl,
+      covered b o.debited.member o.reference p (is-ended b o e a.request .0),
+    ))
     (f .security, omega (arith, f .named .member-most), omega arith, f .named .shareholder-most, refl)
     (place-proper b o e p a (isOutside o.credited.typ) refl) (f .quantity) (figures b o e p a (isOutside o.credited.typ) refl)
     (recounts b o e p a (isOutside o.credited.typ) refl)

@@ -1,8 +1,8 @@
--- Form 16: a cycle's movements are its settled trades' legs, and no debit of them is cut off at 0. Assumes nothing.
-use mathlib.Core.Path.{_≡_, refl}
-use mathlib.Core.Bool.{Bool, true, false}
+-- Form 21: a confirmed cycle's movements are its fixed trades' legs, and no debit of them is cut off at 0; a declined one moves nothing. Assumes nothing.
+use mathlib.Core.Path.{_≡_, refl, sym}
+use mathlib.Core.Bool.{Bool, true, false, false≢true}
 use mathlib.Core.List.{List, [], _∷_}
-use Prim.Native.Nat.{ℕ, _+_, _<_, _^_}
+use Prim.Native.Nat.{ℕ, _+_, _≤_, _<_, _^_}
 use native.Mathlib.Omega.{arith}
 use Rattle.rulebook.specs.declared.Party.{Party}
 use Rattle.rulebook.specs.declared.Item.{Item}
@@ -10,18 +10,20 @@ use Rattle.rulebook.specs.AccountTypes.{pledgedOrBlocked}
 use Rattle.rulebook.specs.Ledger.{Ledger, Holdings, accountOf, putSecurities, putDay, putHoldings, putWaiting}
 use Rattle.rulebook.specs.declared.Account.{Account}
 use Rattle.rulebook.specs.Movements.{Place, account, type91, type90, cashOf, member0, Movement, recounted, booked, bookHas}
-use Rattle.rulebook.specs.Cycle.{Marked, seller, buyer, over, bringsShares, takesShares, bringsCash, takesCash, sharesTaken, sharesBrought, cashTaken, cashBrought, settling, withMark, settled, legs}
-use Rattle.rulebook.specs.Forms.{outcome, counts, cycle, forms, rowOf}
-use Rattle.rulebook.proofs.Rounds.{settling-done, enough-shares, enough-cash, settled-fits}
+use Rattle.rulebook.specs.Cycle.{Marked, seller, buyer, over, bringsShares, takesShares, bringsCash, takesCash, sharesTaken, sharesBrought, cashTaken, cashBrought, sharesMissing, cashMissing, NothingShort, withMark, fixed, settled, legs, offers}
+use Rattle.rulebook.specs.Forms.{Outcome, outcome, counts, silent, confirm, decline, answerCycle, forms, rowOf}
+use Rattle.rulebook.proofs.ByCall.{either-answer}
+use Rattle.rulebook.proofs.Rounds.{settled-fits}
 use Rattle.plain.specs.Lists.{Each}
 use Rattle.plain.proofs.Lists.{each-so}
-use Rattle.rulebook.specs.Premise.{ItemFits, today}
+use Rattle.rulebook.specs.declared.Order.{Order}
+use Rattle.rulebook.specs.Premise.{ItemFits, Premise, today}
 use Rattle.rulebook.proofs.Places.{isAt, brought, taken, AllKnown, Enough, booked-exact}
 use Rattle.rulebook.proofs.Reading.{Proper, AllProper}
 use Rattle.rulebook.proofs.Recounting.{held-stays}
 use Rattle.rulebook.proofs.Sums.{heldInto, heldOut, cashInto, cashOut}
 use Rattle.rulebook.proofs.EveryCall.Items.{PartyPosts, ItemPosts, item-posts}
-use Rattle.rulebook.proofs.Steps.OneCall.{admits-none, Steps}
+use Rattle.rulebook.proofs.Steps.OneCall.{admits-none, Step, Steps}
 use Rattle.rulebook.proofs.Types.{Quiet}
 use Rattle.rulebook.proofs.Steps.Moving.{party-apart, awaits}
 
@@ -115,46 +117,33 @@ none-taken : (p : Place) → ((q : Place) → isAt p q ≡ false) → (ms : List
 none-taken p f [] = refl
 none-taken p f (m ∷ rest) = simp (f m.from) (omega (arith, none-taken p f rest))
 
-cycle-enough : (b : Ledger) → Enough b.holdings (legs (settled b))
-unfolding settled settling
-cycle-enough b (account a) =
-    omega (
-      arith,
-      enough-shares b.holdings (settling b) (settling-done b.day.number b.holdings b.waiting) a,
-      shares-legs a (settling b) .0,
-      shares-legs a
-          (settling b) .1,
-    )
-cycle-enough b (type91 s) = omega (arith, legs-sums (settled b) .1 s .0)
-cycle-enough b (type90 s) = omega (arith, none-taken (type90 s) (λ q. refl) (legs (settled b)))
-cycle-enough b (cashOf m c) =
-    omega (
-      arith,
-      enough-cash b.holdings (settling b) (settling-done b.day.number b.holdings b.waiting) m c,
-      cash-legs m c (settling b) .0,
-      cash-legs m c
-          (settling b) .1,
-    )
-cycle-enough b (member0 c) = omega (arith, none-taken (member0 c) (λ q. refl) (legs (settled b)))
+-- where nothing is short over the fixed trades, each place has enough for what they take from it
+cycle-enough : (b : Ledger) → NothingShort b.holdings (fixed b.waiting) → Enough b.holdings (legs (settled b))
+unfolding settled sharesMissing cashMissing
+cycle-enough b n (account a) = let l = shares-legs a (fixed b.waiting) in omega (arith, n .shares a, l .0, l .1)
+cycle-enough b n (type91 s) = omega (arith, legs-sums (settled b) .1 s .0)
+cycle-enough b n (type90 s) = omega (arith, none-taken (type90 s) (λ q. refl) (legs (settled b)))
+cycle-enough b n (cashOf m c) = let l = cash-legs m c (fixed b.waiting) in omega (arith, n .cash m c, l .0, l .1)
+cycle-enough b n (member0 c) = omega (arith, none-taken (member0 c) (λ q. refl) (legs (settled b)))
 
--- so no debit of a settlement is cut off at 0: each account and each member's cash changes by exactly what the settled trades bring and take
+-- so no debit of a settlement is cut off at 0: each account and each member's cash changes by exactly what the fixed trades bring and take
 pub cycle-exact :
-    (b : Ledger) (p : Place)
+    (b : Ledger) → NothingShort b.holdings (fixed b.waiting) → (p : Place)
     → bookHas p (booked (legs (settled b)) b.holdings) + taken p (legs (settled b)) ≡ bookHas p b.holdings + brought p (legs (settled b))
-cycle-exact b = booked-exact (legs (settled b)) b.holdings (legs-known b.holdings (settled b)) (cycle-enough b)
+cycle-exact b n = booked-exact (legs (settled b)) b.holdings (legs-known b.holdings (settled b)) (cycle-enough b n)
 
-pub cycle-steps : Steps 16 cycle
-unfolding cycle outcome counts putDay putHoldings putWaiting putSecurities forms rowOf
-cycle-steps b o e p a =
+pub confirm-step : (b : Ledger) (o : Order) → Premise b → Step 21 b o (confirm b)
+unfolding confirm outcome counts putDay putHoldings putWaiting putSecurities forms rowOf
+confirm-step b o p =
     let ts = settled b in
     let P : Item → Type 0 = ItemFits b.day.number (today b.day) b.holdings in
     let i = each-so P ItemPosts (item-posts b.day.number (today b.day) b.holdings) ts (settled-fits P b p.items) in
     record {
       listed = b.holdings.securities;
-      admits = unfold putSecurities in admits-none 16 o b.holdings refl p.codes;
+      admits = unfold putSecurities in admits-none 21 o b.holdings refl p.codes;
       moves = legs ts;
       holds = refl;
-      changes = cycle-exact b;
+      changes = cycle-exact b p.covered;
       proper = legs-proper ts i;
       rows = λ _. refl;
       notices = λ z. absurd (omega (arith, z));
@@ -167,4 +156,13 @@ cycle-steps b o e p a =
         awaited = λ x q. legs-apart awaits (λ t y. y .2) x q ts i;
       };
       recounts = λ s. omega (arith, held-stays (legs ts) (legs-inside ts) b.holdings s);
+      spares = λ e. absurd (false≢true (sym e));
     }
+
+-- no trade is on an account of requests, so such an account offers all that it has
+pub requests-offered : (b : Ledger) (a : Account) → Premise b → awaits a.typ ≡ true → offers b.holdings b.waiting a ≡ b.holdings.balance a
+unfolding offers settled
+requests-offered b a p q =
+    let P : Item → Type 0 = ItemFits b.day.number (today b.day) b.holdings in
+    let i = each-so P ItemPosts (item-posts b.day.number (today b.day) b.holdings) (settled b) (settled-fits P b p.items) in
+    omega (arith, shares-legs a (fixed b.waiting) .0, legs-apart awaits (λ t y. y .2) a q (settled b) i .0)
