@@ -48,9 +48,9 @@ REQUESTS = 6
 abbrev pub part : ℕ → List ℕ → List ℕ
 part r book = region widths r book
 
--- the day's words: its number, 1 where it is open, its kind, cycles run, last minute
+-- the day's words: its number, 1 where it is open, its kind, cycles run, last minute, 1 where a cycle is sent
 abbrev pub dayIn : List ℕ → Day
-dayIn d = record { number = getD d 0 0; opened = getD d 1 0 is 1; kind = getD d 2 0; cycles = getD d 3 0; minute = getD d 4 0 }
+dayIn d = record { number = getD d 0 0; opened = getD d 1 0 is 1; kind = getD d 2 0; cycles = getD d 3 0; minute = getD d 4 0; sent = getD d 5 0 is 1 }
 
 -- the rate's word
 abbrev pub rateIn : List ℕ → ℕ

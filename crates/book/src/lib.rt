@@ -40,12 +40,14 @@ fn day_in(day: &[u64]) -> Day
     ensures { λ r. ⌜ r ≡ dayIn (now (day .entry)) ⌝ }
 {
     let opened = day[1] == 1;
+    let sent = day[5] == 1;
     Day {
         number: day[0],
         opened: opened,
         kind: day[2],
         cycles: day[3],
         minute: day[4],
+        sent: sent,
     }
 }
 
@@ -55,7 +57,8 @@ fn put_day_in(words: &mut [u64], day: Day)
     ensures { λ u. ⌜ (dayIn (now (words .exit)) ≡ day) × (getD (now (words .exit)) 1 0 ≤ 1) ⌝ }
 {
     let opened = words::bit_of(day.opened);
-    let values = [day.number, opened, day.kind, day.cycles, day.minute];
+    let sent = words::bit_of(day.sent);
+    let values = [day.number, opened, day.kind, day.cycles, day.minute, sent];
     words::write(words, 0, &values);
 }
 

@@ -5,7 +5,7 @@ ghost use mathlib.Core.List.{_++_, _∷_, []};
 ghost use Prim.Native.Nat.{ℕ, _+_, _≤_, _<_};
 ghost use lib.ListN.{length, getD, set, take};
 ghost use Rattle.rulebook.specs.Matching.{pairsWith};
-ghost use Rattle.rulebook.specs.Waiting.{sentBy};
+ghost use Rattle.rulebook.specs.Waiting.{sentBy, withSent};
 ghost use Rattle.words.specs.Places.{removeAt};
 ghost use Rattle.book.specs.Meaning.{waitingOf};
 ghost use Rattle.book.specs.Stored.{Stored, WaitingBecomes};
@@ -55,6 +55,22 @@ pub fn put_item(book: &mut [u64], i: usize, item: Item)
     ensures { λ u. ⌜ WaitingBecomes (λ items. set items i item) (now (book .entry)) (now (book .exit)) ⌝ }
 {
     waiting_list::put_item(&mut book[ITEMS..RATE], i, item);
+}
+
+// Whether a sent cycle has fixed the item at `i`.
+pub fn is_sent(book: &[u64], i: usize) -> bool
+    requires { ⌜ Stored (now book) × (i < length (waitingOf (now book))) ⌝ }
+    ensures { λ r. ⌜ ((d : Item) → r ≡ getD (waitingOf (now (book .entry))) i d .sent) ⌝ }
+{
+    waiting_list::is_sent(&book[ITEMS..RATE], i)
+}
+
+// The item at `i` is fixed from now on, or is not any more.
+pub fn put_sent(book: &mut [u64], i: usize, sent: bool)
+    requires { ⌜ Stored (now book) × (i < length (waitingOf (now book))) ⌝ }
+    ensures { λ u. ⌜ ((d : Item) → WaitingBecomes (λ items. set items i (withSent sent (getD items i d))) (now (book .entry)) (now (book .exit))) ⌝ }
+{
+    waiting_list::put_sent(&mut book[ITEMS..RATE], i, sent);
 }
 
 // The item goes last.

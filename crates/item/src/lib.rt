@@ -26,6 +26,7 @@ pub fn item_of(state: State, order: Order) -> Item
         trade_day: order.trade_day,
         settlement_day: order.settlement_day,
         state,
+        sent: false,
     }
 }
 
@@ -59,6 +60,7 @@ fn with_state(state: State, item: Item) -> Item
         trade_day: item.trade_day,
         settlement_day: item.settlement_day,
         state,
+        sent: item.sent,
     }
 }
 

@@ -104,5 +104,6 @@ pub fn pair_up(deliver: Item, receive: Item) -> Item
         trade_day: deliver.trade_day,
         settlement_day: deliver.settlement_day,
         state,
+        sent: false,
     }
 }

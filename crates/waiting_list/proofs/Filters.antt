@@ -36,6 +36,7 @@ stated i s =
       «trade_day» = i .«trade_day»;
       «settlement_day» = i .«settlement_day»;
       state = s;
+      sent = i .sent;
     }
 
 module _ (sender reference : ℕ) (r : List ℕ) (one : (reference is getD r 13 0) ≡ false) (two : (reference is getD r 14 0) ≡ false) where
@@ -46,8 +47,8 @@ module _ (sender reference : ℕ) (r : List ℕ) (one : (reference is getD r 13 
       go :
           (t u : Bool)
           → sentBy sender reference
-          (stated (itemOf r) (if t then Single (getD r 15 0 is 1) (getD r 13 0) else if u then Pair (getD r 13 0) (getD r 14 0) (getD r 15 0 % 2 is 1)
-          (getD r 15 0 / 2 is 1) else Trade (getD r 13 0)))
+          (stated (itemOf r) (if t then Single (getD r 15 0 % 4 is 1) (getD r 13 0) else if u then Pair (getD r 13 0) (getD r 14 0) (getD r 15 0 % 4 % 2 is 1)
+          (getD r 15 0 % 4 / 2 is 1) else Trade (getD r 13 0)))
           ≡ false
       go true u = simp (one, and-false)
       go false true = simp (one, two, and-false)
@@ -69,8 +70,8 @@ no-single limit a r e = go (getD r 12 0 is 1)
     go :
         (u : Bool)
         → pairsWith limit a (stated (itemOf r)
-        (if getD r 12 0 is 0 then Single (getD r 15 0 is 1) (getD r 13 0) else if u then Pair (getD r 13 0) (getD r 14 0) (getD r 15 0 % 2 is 1)
-        (getD r 15 0 / 2 is 1) else Trade (getD r 13 0)))
+        (if getD r 12 0 is 0 then Single (getD r 15 0 % 4 is 1) (getD r 13 0) else if u then Pair (getD r 13 0) (getD r 14 0) (getD r 15 0 % 4 % 2 is 1)
+        (getD r 15 0 % 4 / 2 is 1) else Trade (getD r 13 0)))
         ≡ false
     go true = simp e
     go false = simp e

@@ -1,5 +1,5 @@
 -- What is put into a row is what is read from it; the list of items after a row is put last, and after the rows behind one come down. Assumes nothing.
-use Prim.Native.Nat.{ℕ, zero, suc, _+_, _-_, _*_, _≤_, _<_}
+use Prim.Native.Nat.{ℕ, zero, suc, _+_, _-_, _*_, _/_, _%_, _≤_, _<_}
 use native.Mathlib.Numerals.{add-one}
 use native.Mathlib.Omega.{arith}
 use mathlib.Core.Bool.{Bool, true, false}
@@ -10,11 +10,13 @@ use borrow.Author.Tests.{ltb-true, ltb-false}
 use lib.ListN.{length, getD, set, take, drop, length-set, length-drop, take-append-drop}
 use lib.Seq.{drop-set-lt, getD-set-same, drop-drop, length-take-le, drop-append-le, take-append-le}
 use borrow.Rule.Slice.PartMut.{putMid}
-use Rattle.words.specs.Places.{listFrom, removeAt}
+use Rattle.plain.specs.Lists.{_is_}
+use Rattle.words.specs.Places.{bit, listFrom, removeAt}
 use Rattle.words.specs.Tables.{rows}
 use Rattle.words.proofs.Places.{from-get, from-same, from-set, from-push, from-remove, length-from}
 use Rattle.words.proofs.Regions.{part-same, part-before, word-before, part-behind, part-inside, part-length}
 use Rattle.waiting_list.specs.Waiting.{stateWords, stateOf, itemOf, wordsOf, rowAt, itemAt, putRow, itemsOf, Sized}
+use Rattle.waiting_list.specs.declared.StateWords.{StateWords}
 use Rattle.rulebook.specs.declared.State.{State}
 use Rattle.rulebook.specs.declared.State.the-variants.{Single, Pair, Trade}
 use Rattle.rulebook.specs.declared.Item.{Item}
@@ -31,8 +33,27 @@ state-back (Pair d r false true) = refl
 state-back (Pair d r false false) = refl
 state-back (Trade r) = refl
 
+-- a state's marks are below 4, and beside them stands whether the item is fixed
+
+pub marks-low : (s : State) → stateWords s .marks < 4
+marks-low (Single true r) = omega arith
+marks-low (Single false r) = omega arith
+marks-low (Pair d r true true) = omega arith
+marks-low (Pair d r true false) = omega arith
+marks-low (Pair d r false true) = omega arith
+marks-low (Pair d r false false) = omega arith
+marks-low (Trade r) = omega arith
+
+pub marks-back : (m : ℕ) (b : Bool) → m < 4 → (m + 4 * bit b) % 4 ≡ m
+marks-back m true l = omega arith
+marks-back m false l = omega arith
+
+pub sent-back : (m : ℕ) (b : Bool) → m < 4 → ((m + 4 * bit b) / 4 is 1) ≡ b
+sent-back m true l = let e : (m + 4) / 4 ≡ 1 = omega arith in rw e
+sent-back m false l = let e : (m + 0) / 4 ≡ 0 = omega arith in rw e
+
 pub item-back : (i : Item) → itemOf (wordsOf i) ≡ i
-item-back i = λ k. record {
+item-back i = let s : StateWords = stateWords (i .state) in λ k. record {
   security = i .security;
   currency = i .currency;
   debited = i .debited;
@@ -41,7 +62,8 @@ item-back i = λ k. record {
   amount = i .amount;
   «trade_day» = i .«trade_day»;
   «settlement_day» = i .«settlement_day»;
-  state = state-back (i .state) k;
+  state = (ap (stateOf (s .tag) (s .first) (s .second)) (marks-back (s .marks) (i .sent) (marks-low (i .state))) ∙ state-back (i .state)) k;
+  sent = sent-back (s .marks) (i .sent) (marks-low (i .state)) k;
 }
 
 -- ---- a row put in

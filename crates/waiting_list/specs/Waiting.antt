@@ -35,17 +35,21 @@ itemOf r =
       amount = record { 0 = getD r 9 0 };
       «trade_day» = getD r 10 0;
       «settlement_day» = getD r 11 0;
-      state = stateOf (getD r 12 0) (getD r 13 0) (getD r 14 0) (getD r 15 0);
+      state = stateOf (getD r 12 0) (getD r 13 0) (getD r 14 0) (getD r 15 0 % 4);
+      sent = getD r 15 0 / 4 is 1;
     }
 
--- the words of an item whose state has these
-abbrev pub rowOf : Item → StateWords → List ℕ
-rowOf i s =
+-- the words of an item whose state has these; its marks have 4 more where a sent cycle has fixed it
+abbrev pub rowWith : Item → StateWords → (sent : ℕ) → List ℕ
+rowWith i s sent =
     i .security ∷ i .currency
     ∷ i .debited .member ∷ i .debited .typ ∷ i .debited .shareholder
     ∷ i .credited .member ∷ i .credited .typ ∷ i .credited .shareholder
     ∷ i .quantity .0 ∷ i .amount .0 ∷ i .«trade_day» ∷ i .«settlement_day»
-    ∷ s .tag ∷ s .first ∷ s .second ∷ s .marks ∷ []
+    ∷ s .tag ∷ s .first ∷ s .second ∷ (s .marks + 4 * sent) ∷ []
+
+abbrev pub rowOf : Item → StateWords → List ℕ
+rowOf i s = rowWith i s (bit (i .sent))
 
 abbrev pub wordsOf : Item → List ℕ
 wordsOf i = rowOf i (stateWords (i .state))

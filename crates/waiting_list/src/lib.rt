@@ -4,7 +4,7 @@ ghost use mathlib.Core.List.{_++_, _∷_, []};
 ghost use mathlib.Core.Bool.{false};
 ghost use Prim.Native.Nat.{ℕ, _+_, _*_, _≤_, _<_};
 ghost use lib.ListN.{length, getD, set, take};
-ghost use Rattle.rulebook.specs.Waiting.{sentBy};
+ghost use Rattle.rulebook.specs.Waiting.{sentBy, withSent};
 ghost use Rattle.rulebook.specs.Matching.{pairsWith};
 ghost use Rattle.words.specs.Places.{removeAt};
 ghost use Rattle.words.specs.Tables.{rows};
@@ -84,7 +84,9 @@ fn item_of(r: &[u64]) -> Item
     requires { ⌜ 16 ≤ length (now r) ⌝ }
     ensures { λ i. ⌜ i ≡ itemOf (now (r .entry)) ⌝ }
 {
-    let state = state_of(r[12], r[13], r[14], r[15]);
+    let marks = r[15];
+    let state = state_of(r[12], r[13], r[14], marks % 4);
+    let sent = marks / 4 == 1;
     Item {
         security: r[0],
         currency: r[1],
@@ -103,6 +105,7 @@ fn item_of(r: &[u64]) -> Item
         trade_day: r[10],
         settlement_day: r[11],
         state: state,
+        sent: sent,
     }
 }
 
@@ -150,6 +153,7 @@ fn write_row(items: &mut [u64], i: usize, item: Item)
 {
     let state = item.state;
     let s = state_words(state);
+    let marks = s.marks + 4 * words::bit_of(item.sent);
     let values = [
         item.security,
         item.currency,
@@ -166,7 +170,7 @@ fn write_row(items: &mut [u64], i: usize, item: Item)
         s.tag,
         s.first,
         s.second,
-        s.marks,
+        marks,
     ];
     words::write(items, i * 16 + 1, &values);
 }
@@ -177,6 +181,26 @@ pub fn put_item(items: &mut [u64], i: usize, item: Item)
     ensures { λ u. ⌜ Sized (now (items .exit)) × (itemsOf (now (items .exit)) ≡ set (itemsOf (now (items .entry))) i item) ⌝ }
 {
     write_row(items, i, item);
+}
+
+// Whether a sent cycle has fixed the item at `i`.
+pub fn is_sent(items: &[u64], i: usize) -> bool
+    requires { ⌜ Sized (now items) × (i < rows (now items)) ⌝ }
+    ensures { λ r. ⌜ ((d : Item) → r ≡ getD (itemsOf (now (items .entry))) i d .sent) ⌝ }
+{
+    items[i * 16 + 16] / 4 == 1
+}
+
+// The item at `i` is fixed from now on, or is not any more: one word, changed where it lies.
+pub fn put_sent(items: &mut [u64], i: usize, sent: bool)
+    requires { ⌜ Sized (now items) × (i < rows (now items)) ⌝ }
+    ensures { λ u. ⌜
+        Sized (now (items .exit))
+        × ((d : Item) → itemsOf (now (items .exit)) ≡ set (itemsOf (now (items .entry))) i (withSent sent (getD (itemsOf (now (items .entry))) i d)))
+        ⌝ }
+{
+    let at = i * 16 + 16;
+    items[at] = items[at] % 4 + 4 * words::bit_of(sent);
 }
 
 // The item goes last.

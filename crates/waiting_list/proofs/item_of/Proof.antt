@@ -1,7 +1,8 @@
 -- `waiting_list::item_of` meets its contract. Assumes nothing.
 use mathlib.Core.List.{List}
-use Prim.Native.Nat.{ℕ}
+use Prim.Native.Nat.{ℕ, _/_}
 use lib.ListN.{getD}
+use Rattle.plain.specs.Lists.{_is_}
 use borrow.Author.Needs.{needs}
 use Rattle.waiting_list.proofs.item_of.Statement.{statement}
 use Rattle.waiting_list.proofs.item_of.Tie as tie
@@ -27,6 +28,7 @@ returns c =
       «trade_day» = getD r 10 0;
       «settlement_day» = getD r 11 0;
       state = state .state-of .ensures k;
+      sent = getD r 15 0 / 4 is 1;
     }
 
 pub item-of-spec : {M : Type 1} → statement M
