@@ -9,7 +9,7 @@ use Rattle.rulebook.specs.Ledger.{Ledger, putDay, putHoldings, putWaiting, oneM
 use Rattle.rulebook.specs.Movements.{booked}
 use Rattle.rulebook.specs.Rows.{postingRows}
 use Rattle.rulebook.specs.Waiting.{isTrade, sidesOf, sides}
-use Rattle.rulebook.specs.Cycle.{Marked, taken, anyShort, settling, withMark, withoutMark, settled, notSettled, dropped, legs}
+use Rattle.rulebook.specs.Cycle.{Marked, taken, anyShort, selection, withMark, withoutMark, settled, notSettled, dropped, legs}
 use Rattle.rulebook.specs.Forms.{counts, outcome, cycle}
 use Rattle.plain.specs.Lists.{Each}
 use Rattle.rulebook.specs.declared.Counts.{Counts}
@@ -17,7 +17,7 @@ use Rattle.rulebook.specs.declared.Item.{Item}
 use Rattle.rulebook.specs.declared.Order.{Order}
 use Rattle.rulebook.specs.declared.State.{State}
 use Rattle.rulebook.specs.declared.State.the-variants.{Single, Pair, Trade}
-use Rattle.rulebook.proofs.Rounds.{Due, settling-done, settled-due}
+use Rattle.rulebook.proofs.Rounds.{Due, selection-done, settled-due}
 use Rattle.rulebook.proofs.RowCounts.{posting-length, legs-length}
 use Rattle.book.specs.Meaning.{ledgerOf}
 use Rattle.book.specs.Stored.{Means}
@@ -44,8 +44,8 @@ sides-two day (t ∷ rest) e = omega (arith, two t.state (e .0 .0), sides-two da
 module _ (b : Ledger) (due marks : ℕ) (chosen : Selected b due marks) where
   -- so nothing is short
   pub none-short : anyShort b.holdings (markedOf marks b.waiting) ≡ false
-  unfolding settling
-  none-short = subst (λ (ms : List Marked). anyShort b.holdings ms ≡ false) (sym (chosen .settled-marked)) (settling-done b.day.number b.holdings b.waiting)
+  unfolding selection
+  none-short = subst (λ (ms : List Marked). anyShort b.holdings ms ≡ false) (sym (chosen .settled-marked)) (selection-done b.day.number b.holdings b.waiting)
 
   -- ---- the counts
 
