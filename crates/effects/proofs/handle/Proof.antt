@@ -27,12 +27,12 @@ past k n l a = omega (arith, a)
 
 transfers : (c : tie.Then2) → let n = form (c .before .before) in (5 ≤ n) × (n < 10)
 transfers c =
-    let rest = c .before .before .match .rest .0 .0 .0 .0 .0 .0 .0 .0 .0 in
+    let rest = c .before .before .match .rest .0 .0 .0 .0 .0 .0 .0 .0 .0 .0 in
     (past 4 _ (past 3 _ (past 2 _ (past 1 _ (c .before .if1 .left) (rest .0 .0 .0 .1)) (rest .0 .0 .1)) (rest .0 .1)) (rest .1), c .if2 .taken)
 
 instructs : (c : tie.Then3) → let n = form (c .before .before .before) in (12 ≤ n) × (n < 14)
 instructs c =
-    let rest = c .before .before .before .match .rest .0 .0 .0 .0 .0 .0 .0 in
+    let rest = c .before .before .before .match .rest .0 .0 .0 .0 .0 .0 .0 .0 in
     (past 11 _ (past 10 _ (c .before .if2 .left) (rest .0 .1)) (rest .1), c .if3 .taken)
 
 either-way : {A B C : Type 0} → (A → C) → (B → C) → A ⊎ B → C
@@ -47,9 +47,10 @@ no-form c =
     let rest = c .before .match .rest in
     either-way (λ t. omega (arith, t .taken, has .0))
     (λ t.
-    let cycle = past 15 _ (past 14 _ (t .2 .left) (rest .0 .0 .0 .0 .0 .0 .1)) (rest .0 .0 .0 .0 .0 .1) in
-    let rate = past 18 _ (past 17 _ (past 16 _ cycle (rest .0 .0 .0 .0 .1)) (rest .0 .0 .0 .1)) (rest .0 .0 .1) in
-    omega (arith, past 20 _ (past 19 _ rate (rest .0 .1)) (rest .1), has .1))
+    let cycle = past 15 _ (past 14 _ (t .2 .left) (rest .0 .0 .0 .0 .0 .0 .0 .1)) (rest .0 .0 .0 .0 .0 .0 .1) in
+    let rate = past 18 _ (past 17 _ (past 16 _ cycle (rest .0 .0 .0 .0 .0 .1)) (rest .0 .0 .0 .0 .1)) (rest .0 .0 .0 .1) in
+    let paper = past 20 _ (past 19 _ rate (rest .0 .0 .1)) (rest .0 .1) in
+    omega (arith, past 21 _ paper (rest .1), has .1))
     (c .if1 .came)
 
 transfer-requires : tie.Need-transfer-requires
@@ -106,8 +107,7 @@ returns-8 c =
 
 returns-9 : tie.Need-returns-9
 unfolding forms rowOf
-returns-9 c =
-    let done = c .before .before .before .before in as-effect _ _ (effect-at 16 _ _ (done .before .before .before .match .keys9)) (done .run .ensures _)
+returns-9 c = let done = c .before .before in as-effect _ _ (effect-at 16 _ _ (done .before .before .match .keys9)) (done .send .ensures _ _)
 
 returns-10 : tie.Need-returns-10
 unfolding forms rowOf
@@ -131,13 +131,19 @@ returns-13 c =
     as-effect _ _ (effect-at 20 _ _ (done .before .before .before .match .keys13)) (done .end-request .ensures)
 
 returns-14 : tie.Need-returns-14
+unfolding forms rowOf
 returns-14 c =
+    let done = c .before .before .before .before in
+    as-effect _ _ (effect-at 21 _ _ (done .before .before .before .match .keys14)) (done .answer-cycle .ensures)
+
+returns-15 : tie.Need-returns-15
+returns-15 c =
     let done = c .before .before .before .before in
     let f = transfers (done .before .before .before) in
     as-effect _ _ (transfer-is _ _ (f .0) (f .1)) (done .transfer .ensures)
 
-returns-15 : tie.Need-returns-15
-returns-15 c =
+returns-16 : tie.Need-returns-16
+returns-16 c =
     let done = c .before .before in
     let f = instructs (done .before .before) in
     as-effect _ _ (instruct-is _ _ (f .0) (f .1)) (done .instruct .ensures _)
@@ -146,6 +152,7 @@ pub handle-spec : {M : Type 1} → statement M
 handle-spec =
     tie.close
     (tie.spec
+    (λ c κs. search needs)
     (λ c κs. search needs)
     (λ c κs. search needs)
     (λ c κs. search needs)
@@ -185,7 +192,6 @@ handle-spec =
     (λ c. search needs)
     returns-8
     (λ c. search needs)
-    (λ c. search needs)
     returns-9
     (λ c. search needs)
     (λ c. search needs)
@@ -202,5 +208,8 @@ handle-spec =
     (λ c. search needs)
     returns-14
     (λ c. search needs)
+    (λ c. search needs)
     returns-15
+    (λ c. search needs)
+    returns-16
     (λ c. absurd (no-form (c .before))))
