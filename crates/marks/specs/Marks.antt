@@ -23,6 +23,7 @@ noItem =
       «trade_day» = 0;
       «settlement_day» = 0;
       state = Single false 0;
+      sent = false;
     }
 
 abbrev pub itemIn : List Item → ℕ → Item
