@@ -13,7 +13,7 @@ use Rattle.rulebook.specs.Forms.{forms, windowOf}
 use Rattle.rulebook.specs.declared.Day.{Day}
 use Rattle.rulebook.specs.declared.Order.{Order}
 use Rattle.rulebook.proofs.ByCall.{HasForm, AllForms, window-at, by-form}
-use Rattle.day_tests.specs.Window.{paymentEnd}
+use Rattle.day_tests.specs.Window.{paymentEnd, answerEnd}
 
 -- ---- windows
 
@@ -25,6 +25,7 @@ byTest d o n =
     else if within 12 13 n then (480, paymentEnd d o.«settlement_day»)
     else if n is 16 then (getD (cycleMinutes d.kind) d.cycles 0, officeEnd d.kind)
     else if n is 17 then (officeEnd d.kind, 1439)
+    else if n is 21 then (480, answerEnd d)
     else (480, officeEnd d.kind)
 
 -- a pair chosen by a test is a pair of what is chosen
@@ -42,7 +43,7 @@ module _ (d : Day) (o : Order) where
   by-row =
       (λ _. refl) and (λ _. refl) and (λ _. refl) and (λ _. refl) and (λ _. refl) and (λ _. refl) and (λ _. refl) and (λ _. refl) and (λ _. refl)
       and (λ _. refl) and (λ _. refl) and (λ _. paid) and (λ _. paid) and (λ _. refl) and (λ _. refl) and (λ _. refl) and (λ _. refl)
-      and (λ _. refl) and (λ _. refl) and (λ _. refl) and tt
+      and (λ _. refl) and (λ _. refl) and (λ _. refl) and (λ _. refl) and tt
 
   abbrev pub Window : ℕ → ℕ → Type 0
   Window first last = (first ≡ windowOf d o .0) × (last ≡ windowOf d o .1)

@@ -1,12 +1,12 @@
-// Refusals 6 to 9: what the day and the order settle.
+// Refusals 6 to 9, 22 and 23: what the day and the order settle.
 ghost use mathlib.Core.Path.{_≡_};
 ghost use lib.ListN.{getD, length};
 ghost use Prim.Native.Nat.{_≤_};
 ghost use Rattle.plain.specs.Lists.{first};
-ghost use Rattle.rulebook.specs.Windows.{cycleMinutes, officeEnd, byKind};
+ghost use Rattle.rulebook.specs.Windows.{cycleMinutes, allRun, officeEnd, byKind};
 ghost use Rattle.rulebook.specs.Forms.{forms, windowOf};
-ghost use Rattle.rulebook.specs.Refusals.{wrongDay, wrongCycle, goesBack, outsideWindow, dayTests};
-ghost use Rattle.day_tests.specs.Window.{paymentEnd, cyclesOf};
+ghost use Rattle.rulebook.specs.Refusals.{wrongDay, wrongCycle, awaitsAnswer, nothingSent, goesBack, outsideWindow, dayTests};
+ghost use Rattle.day_tests.specs.Window.{paymentEnd, answerEnd, cyclesOf};
 use rulebook::Day;
 use rulebook::Order;
 
@@ -39,12 +39,34 @@ fn cycles_of(kind: u64) -> u64
     2
 }
 
+// Whether all cycles of the day have run.
+fn is_all_run(day: Day) -> bool
+    ensures { λ r. ⌜ r ≡ allRun day ⌝ }
+{
+    cycles_of(day.kind) <= day.cycles
+}
+
 // RULES 7.7: a cycle too many, or a close too early.
 fn wrong_cycle(day: Day, order: Order) -> bool
     ensures { λ r. ⌜ r ≡ wrongCycle day order ⌝ }
 {
-    let all_run = cycles_of(day.kind) <= day.cycles;
+    let all_run = is_all_run(day);
     ((order.form == 16) & all_run) | ((order.form == 17) & !all_run)
+}
+
+// RULES 7.22: cash, a further cycle or a close, while a cycle is sent.
+fn awaits_answer(day: Day, order: Order) -> bool
+    ensures { λ r. ⌜ r ≡ awaitsAnswer day order ⌝ }
+{
+    let form = order.form;
+    ((form == 10) | (form == 11) | (form == 16) | (form == 17)) & day.sent
+}
+
+// RULES 7.23: an answer where no cycle is sent.
+fn nothing_sent(day: Day, order: Order) -> bool
+    ensures { λ r. ⌜ r ≡ nothingSent day order ⌝ }
+{
+    (order.form == 21) & !day.sent
 }
 
 // RULES 7.8: the minute goes back.
@@ -99,6 +121,16 @@ fn payment_end(day: Day, settlement_day: u64) -> u64
     office_end(day.kind)
 }
 
+// RULES 4.17: an answer may come until the day's end when no cycle is still to run.
+fn answer_end(day: Day) -> u64
+    ensures { λ r. ⌜ r ≡ answerEnd day ⌝ }
+{
+    if is_all_run(day) {
+        return 1439;
+    }
+    office_end(day.kind)
+}
+
 fn window_of(day: Day, order: Order) -> Window
     requires { ⌜ (1 ≤ order .form) × (order .form ≤ length forms) ⌝ }
     ensures { λ r. ⌜ (r .first ≡ windowOf day order .0) × (r .last ≡ windowOf day order .1) ⌝ }
@@ -120,6 +152,9 @@ fn window_of(day: Day, order: Order) -> Window
     if form == 17 {
         return between(office_end(kind), 1439);
     }
+    if form == 21 {
+        return between(480, answer_end(day));
+    }
     between(480, office_end(kind))
 }
 
@@ -139,6 +174,8 @@ pub fn refusal(day: Day, order: Order) -> u64
 {
     let later = checking::refuse(9, outside_window(day, order), 0);
     let later = checking::refuse(8, goes_back(day, order), later);
+    let later = checking::refuse(23, nothing_sent(day, order), later);
+    let later = checking::refuse(22, awaits_answer(day, order), later);
     let later = checking::refuse(7, wrong_cycle(day, order), later);
     checking::refuse(6, wrong_day(day, order), later)
 }

@@ -1,6 +1,6 @@
 // Refusals 3, 4 and 5, which reader and writer share.
 ghost use mathlib.Core.Path.{_≡_};
-ghost use mathlib.Core.Bool.{true, not, _&&_};
+ghost use mathlib.Core.Bool.{true, not, _&&_, _||_};
 ghost use mathlib.Core.List.{[], _∷_, map};
 ghost use Prim.Native.Nat.{_<_};
 ghost use lib.Bits.{bitOr};
@@ -104,6 +104,7 @@ fn rule_of(form: u64) -> Rule
         18 => uses(QUANTITY),
         19 => uses(SECURITY | DEBITED | QUANTITY | REFERENCE),
         20 => uses(DEBITED_MEMBER | CREDITED_TYPE | REFERENCE),
+        21 => uses(QUANTITY),
         _ => Rule {
             used: 0,
             optional: 0,
@@ -127,12 +128,19 @@ fn least_of(optional: u64, place: usize) -> u64
     if is_in(optional, place) { 0 } else { 1 }
 }
 
-// The most that each field can be: form 1's quantity is the day kind.
+// Whether a form's quantity is one of two: form 1's is the day kind, form 21's the answer to a cycle.
+fn is_one_of_two(form: u64) -> bool
+    ensures { λ r. ⌜ r ≡ (form is 1 || form is 21) ⌝ }
+{
+    (form == 1) | (form == 21)
+}
+
+// The most that each field can be.
 fn most_of(form: u64) -> [u64; 19]
     ensures { λ r. ⌜ r ≡ map (most form) places ⌝ }
 {
     let mut most = MOST;
-    if form == 1 {
+    if is_one_of_two(form) {
         most[places::QUANTITY] = 2;
         return most;
     }

@@ -11,7 +11,7 @@ use Rattle.plain.proofs.Tests.{both}
 use Rattle.rulebook.specs.Ledger.{Ledger}
 use Rattle.rulebook.specs.Premise.{Premise}
 use Rattle.rulebook.specs.Waiting.{senderOf, sentBy, notCancellable}
-use Rattle.rulebook.specs.Refusals.{wrongCancel}
+use Rattle.rulebook.specs.Refusals.{wrongCancel, cancelsSent}
 use Rattle.rulebook.specs.declared.Order.{Order}
 use Rattle.rulebook.specs.declared.Item.{Item}
 use Rattle.rulebook.proofs.ByIndex.{reference-once}
@@ -32,53 +32,73 @@ none-both one other (x ∷ rest) e = go (one x) e (none-both one other rest)
     go true p later = absurd (false≢true (sym p))
     go false p later = later p
 
+-- what stands at a place inside a list
+an-item : {A : Type 0} (l : List A) (i : ℕ) → i < length l → (x : A) × ((d : A) → x ≡ getD l i d)
+an-item [] i h = absurd (omega arith)
+an-item (x ∷ rest) zero h = (x, λ d. refl)
+an-item (x ∷ rest) (suc i) h = an-item rest i (omega arith)
+
 -- a list with an element that passes
 pub some-at : {A : Type 0} (test : A → Bool) (l : List A) (i : ℕ) (d : A) → i < length l → test (getD l i d) ≡ true → some test l ≡ true
 some-at test [] i d h e = absurd (omega arith)
 some-at test (x ∷ rest) zero d h e = rw e
 some-at test (x ∷ rest) (suc i) d h e = rw (some-at test rest i d (omega arith) e) (or-true (test x))
 
-module _ (b : Ledger) (p : Premise b) (s r i : ℕ) (at : Passes (sentBy s r) b.waiting i) (x : Item) (here : x ≡ getD b.waiting i x) where
-  refused : Item → Bool
-  refused item = sentBy s r item && notCancellable s item
+module _
+    (why : Item → Bool) (b : Ledger) (p : Premise b) (s r i : ℕ) (at : Passes (sentBy s r) b.waiting i) (x : Item) (here : x ≡ getD b.waiting i x)
+  where
+    refused : Item → Bool
+    refused item = sentBy s r item && why item
 
-  -- whether that sender can't cancel it is told by that item alone
-  pub cancel-one : some (λ item. sentBy s r item && notCancellable s item) b.waiting ≡ notCancellable s x
-  unfolding refused
-  cancel-one = go (notCancellable s x) refl (placeIn refused b.waiting) refl
-    where
-      sent : sentBy s r x ≡ true
-      sent = ap (sentBy s r) here ∙ at.passes x
+    -- whether it passes a further test is told by that item alone
+    by-one : some (λ item. sentBy s r item && why item) b.waiting ≡ why x
+    unfolding refused
+    by-one = go (why x) refl (placeIn refused b.waiting) refl
+      where
+        sent : sentBy s r x ≡ true
+        sent = ap (sentBy s r) here ∙ at.passes x
 
-      go : (t : Bool) → notCancellable s x ≡ t → (f : Found) → placeIn refused b.waiting ≡ f → some refused b.waiting ≡ t
-      go true e f q = some-at refused b.waiting i x at.inside (ap refused (sym here) ∙ rw (sent, e))
-      go false e Nothing q = sym (found-some refused 0 b.waiting) ∙ ap isFound q
-      go false e (At j) q =
-          let there = found-passes refused b.waiting j q in
-          let same : i ≡ j =
-          reference-once b p s r i j x at.inside there.inside (at.passes x)
-          (both (sentBy s r (getD b.waiting j x)) (notCancellable s (getD b.waiting j x)) (there.passes x) .0) in
-          let y : notCancellable s (getD b.waiting i x) ≡ true =
-          subst (λ (k : ℕ). notCancellable s (getD b.waiting k x) ≡ true) (sym same)
-          (both (sentBy s r (getD b.waiting j x)) (notCancellable s (getD b.waiting j x)) (there.passes x) .1) in
-          absurd (false≢true (sym e ∙ ap (notCancellable s) here ∙ y))
+        go : (t : Bool) → why x ≡ t → (f : Found) → placeIn refused b.waiting ≡ f → some refused b.waiting ≡ t
+        go true e f q = some-at refused b.waiting i x at.inside (ap refused (sym here) ∙ rw (sent, e))
+        go false e Nothing q = sym (found-some refused 0 b.waiting) ∙ ap isFound q
+        go false e (At j) q =
+            let there = found-passes refused b.waiting j q in
+            let passes = both (sentBy s r (getD b.waiting j x)) (why (getD b.waiting j x)) (there.passes x) in
+            let same : i ≡ j = reference-once b p s r i j x at.inside there.inside (at.passes x) (passes .0) in
+            let y : why (getD b.waiting i x) ≡ true = subst (λ (k : ℕ). why (getD b.waiting k x) ≡ true) (sym same) (passes .1) in
+            absurd (false≢true (sym e ∙ ap why here ∙ y))
 
--- ---- test 15, by what the search for the item finds
+-- ---- tests 15 and 24, by what the search for the item finds
 
 module _ (b : Ledger) (o : Order) (s : ℕ) (f : Found) (form : o.form ≡ 15) (sender : s ≡ senderOf o) (found : f ≡ placeIn (sentBy s o.reference) b.waiting)
   where
+    none-under : (why : Item → Bool) → f ≡ Nothing → some (λ item. sentBy s o.reference item && why item) b.waiting ≡ false
+    none-under why e =
+        none-both (sentBy s o.reference) why b.waiting (sym (found-some (sentBy s o.reference) 0 b.waiting) ∙ ap isFound (sym found ∙ e))
+
     pub cancel-nothing : f ≡ Nothing → wrongCancel b.waiting o ≡ false
     unfolding wrongCancel
-    cancel-nothing e =
-        rw (eq-eqb o.form 15 form, ← sender)
-        (none-both (sentBy s o.reference) (notCancellable s) b.waiting (sym (found-some (sentBy s o.reference) 0 b.waiting) ∙ ap isFound (sym found ∙ e)))
+    cancel-nothing e = rw (eq-eqb o.form 15 form, ← sender) (none-under (notCancellable s) e)
+
+    pub sent-nothing : f ≡ Nothing → cancelsSent b.waiting o ≡ false
+    unfolding cancelsSent
+    sent-nothing e = rw (eq-eqb o.form 15 form, ← sender) (none-under (λ item. item.sent) e)
 
     module _ (i : ℕ) (e : f ≡ At i) where
+      passes : Passes (sentBy s o.reference) b.waiting i
+      passes = found-passes (sentBy s o.reference) b.waiting i (sym found ∙ e)
+
       pub cancel-inside : i < length b.waiting
-      cancel-inside = found-passes (sentBy s o.reference) b.waiting i (sym found ∙ e) .inside
+      cancel-inside = passes .inside
 
       pub cancel-at : Premise b → (x : Item) → x ≡ getD b.waiting i x → wrongCancel b.waiting o ≡ notCancellable s x
       unfolding wrongCancel
-      cancel-at p x here =
+      cancel-at p x here = rw (eq-eqb o.form 15 form, ← sender) (by-one (notCancellable s) b p s o.reference i passes x here)
+
+      pub sent-at : Premise b → (r : Bool) → ((d : Item) → r ≡ getD b.waiting i d .sent) → cancelsSent b.waiting o ≡ r
+      unfolding cancelsSent
+      sent-at p r told =
+          let there = an-item b.waiting i cancel-inside in
           rw (eq-eqb o.form 15 form, ← sender)
-          (cancel-one b p s o.reference i (found-passes (sentBy s o.reference) b.waiting i (sym found ∙ e)) x here)
+          (by-one (λ item. item.sent) b p s o.reference i passes (there .0) (there .1 (there .0)) ∙ ap (λ item. item.sent) (there .1 (there .0))
+          ∙ sym (told (there .0)))

@@ -1,7 +1,7 @@
-// Refusals 14 and 15: what the order says of an item that waits.
+// Refusals 14, 15 and 24: what the order says of an item that waits.
 ghost use mathlib.Core.Path.{_≡_};
 ghost use Rattle.plain.specs.Lists.{first};
-ghost use Rattle.rulebook.specs.Refusals.{wrongReference, wrongCancel, itemTests};
+ghost use Rattle.rulebook.specs.Refusals.{wrongReference, wrongCancel, cancelsSent, itemTests};
 ghost use Rattle.book.specs.Meaning.{ledgerOf};
 ghost use Rattle.book.specs.Stored.{Stored, Kept};
 use rulebook::Order;
@@ -37,11 +37,27 @@ fn wrong_cancel(book: &[u64], order: Order) -> bool
     item::not_cancellable(sender, item)
 }
 
+// RULES 7.24: the trade is fixed by a sent cycle.
+fn cancels_sent(book: &[u64], order: Order) -> bool
+    requires { ⌜ Kept (now book) ⌝ }
+    ensures { λ r. ⌜ r ≡ cancelsSent (ledgerOf (now (book .entry)) .waiting) order ⌝ }
+{
+    if order.form != 15 {
+        return false;
+    }
+    let found = search::first_sent(book, item::sender_of(order), order.reference);
+    let Found::At(i) = found else {
+        return false;
+    };
+    book_items::is_sent(book, i)
+}
+
 // The first refusal of the items' stage; 0 where none applies.
 pub fn refusal(book: &[u64], order: Order) -> u64
     requires { ⌜ Kept (now book) ⌝ }
     ensures { λ r. ⌜ r ≡ first (itemTests (ledgerOf (now (book .entry)) .waiting) order) ⌝ }
 {
-    let later = checking::refuse(15, wrong_cancel(book, order), 0);
+    let later = checking::refuse(24, cancels_sent(book, order), 0);
+    let later = checking::refuse(15, wrong_cancel(book, order), later);
     checking::refuse(14, wrong_reference(book, order), later)
 }

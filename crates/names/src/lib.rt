@@ -22,7 +22,7 @@ pub fn form_number(name: &[u8]) -> u64
     ensures { λ r. ⌜ r ≡ formNumber (now (name .entry)) ⌝ }
 {
     let place = text::place_in(&tables::FORMS, 10, name);
-    if place < 20 {
+    if place < 21 {
         return place as u64 + 1;
     }
     0

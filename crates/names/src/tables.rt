@@ -21,7 +21,7 @@ pub const FIELDS: [u8; 206] = *b"form\n\
     edition";
 
 // From form 1.
-pub const FORMS: [u8; 171] = *b"open day\n\
+pub const FORMS: [u8; 184] = *b"open day\n\
     admit\n\
     deposit\n\
     withdrawal\n\
@@ -40,7 +40,8 @@ pub const FORMS: [u8; 171] = *b"open day\n\
     close\n\
     set rate\n\
     request paper\n\
-    end request";
+    end request\n\
+    answer cycle";
 
 // From currency 1.
 pub const CURRENCIES: [u8; 7] = *b"USD\n\
@@ -62,7 +63,7 @@ pub const TYPES: [u8; 198] = *b"own\n\
     clients' physical blocked";
 
 // From refusal 1.
-pub const REFUSALS: [u8; 831] = *b"the area is too short\n\
+pub const REFUSALS: [u8; 912] = *b"the area is too short\n\
     the record does not have 40 bytes\n\
     there is no such form\n\
     a field that the form does not use is not 0\n\
@@ -82,7 +83,10 @@ pub const REFUSALS: [u8; 831] = *b"the area is too short\n\
     the book has no room\n\
     the request is open already, or is not open, or does not end so\n\
     the request was made today\n\
-    the book has sixteen requests already";
+    the book has sixteen requests already\n\
+    a sent cycle has not been answered\n\
+    no cycle is sent\n\
+    the trade is in a sent cycle";
 
 // From kind 1.
 pub const NOTICES: [u8; 64] = *b"deleted single\n\

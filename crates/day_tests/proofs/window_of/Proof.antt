@@ -6,7 +6,7 @@ use borrow.Author.Tests.{eq-eqb, ne-eqb}
 use lib.ListN.{getD}
 use Rattle.plain.specs.Lists.{_is_, within}
 use Rattle.rulebook.specs.Windows.{byKind, officeEnd, cycleMinutes}
-use Rattle.day_tests.specs.Window.{paymentEnd}
+use Rattle.day_tests.specs.Window.{paymentEnd, answerEnd}
 use Rattle.day_tests.proofs.Windows.{picked}
 use Rattle.day_tests.proofs.window_of.Statement.{statement}
 use Rattle.day_tests.proofs.window_of.Tie as tie
@@ -33,6 +33,9 @@ not-12-13 c = sym (c .before .is-within3 .ensures) ∙ c .if3 .left
 
 not-16 : (c : tie.Else4) → (opened (moved (instructed (c .before))) .args .order .form is 16) ≡ false
 not-16 c = ne-eqb _ _ (c .if4 .left)
+
+not-17 : (c : tie.Else5) → (opened (moved (instructed (c .before .before))) .args .order .form is 17) ≡ false
+not-17 c = ne-eqb _ _ (c .if5 .left)
 
 -- ---- each test
 
@@ -88,14 +91,28 @@ returns-5 c =
 returns-6 : tie.Need-returns-6
 returns-6 c =
     let here = c .before .before in
-    let four = here .before in
+    let five = here .before in
+    let four = five .before in
+    let three = four .before in
+    let two = instructed three in
+    let s = opened (moved two) in
+    let w =
+    picked (s .args .day) (s .args .order) (s .pre) 480 (answerEnd (s .args .day))
+    (simp (not-1 (moved two), not-moved two, not-12-13 three, not-16 four, not-17 five, eq-eqb _ _ (here .if6 .taken))) in
+    (c .between6 .ensures .0 ∙ w .0, c .between6 .ensures .1 ∙ c .before .answer-end .ensures ∙ w .1)
+
+returns-7 : tie.Need-returns-7
+returns-7 c =
+    let here = c .before .before in
+    let five = here .before in
+    let four = five .before in
     let three = four .before in
     let two = instructed three in
     let s = opened (moved two) in
     let w =
     picked (s .args .day) (s .args .order) (s .pre) 480 (officeEnd (s .args .day .kind))
-    (simp (not-1 (moved two), not-moved two, not-12-13 three, not-16 four, ne-eqb _ _ (here .if5 .left))) in
-    (c .between6 .ensures .0 ∙ w .0, c .between6 .ensures .1 ∙ c .before .office-end3 .ensures ∙ w .1)
+    (simp (not-1 (moved two), not-moved two, not-12-13 three, not-16 four, not-17 five, ne-eqb _ _ (here .if6 .left))) in
+    (c .between7 .ensures .0 ∙ w .0, c .between7 .ensures .1 ∙ c .before .office-end3 .ensures ∙ w .1)
 
 pub window-of-spec : {M : Type 1} → statement M
 window-of-spec =
@@ -106,4 +123,5 @@ window-of-spec =
     (λ c κs. search needs) (λ c κs. search needs) (λ c κs. search needs) returns-3
     (λ c κs. search needs) (λ c κs. search needs) (λ c κs. search needs) returns-4
     (λ c κs. search needs) (λ c κs. search needs) returns-5
-    (λ c κs. search needs) (λ c κs. search needs) returns-6)
+    (λ c κs. search needs) (λ c κs. search needs) returns-6
+    (λ c κs. search needs) (λ c κs. search needs) returns-7)

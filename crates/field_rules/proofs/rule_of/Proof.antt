@@ -117,33 +117,38 @@ returns-13 : tie.Need-returns-13
 unfolding wrong apart forms rowOf used least places
 returns-13 c = one 20 _ _ _ (c .before .match .keys13) (c .uses13 .ensures) refl
 
+returns-14 : tie.Need-returns-14
+unfolding wrong apart forms rowOf used least places
+returns-14 c = one 21 _ _ _ (c .before .match .keys14) (c .uses14 .ensures) refl
+
 -- past one number more
 past : (k n : ℕ) → k ≤ n → (n ≡ k → ⊥) → k + 1 ≤ n
 past k n l a = omega (arith, a)
 
-returns-14 : tie.Need-returns-14
-unfolding wrong apart forms rowOf used least places
-returns-14 c =
-    let rest = c .before .before .before .match .rest .0 .0 .0 .0 .0 .0 .0 .0 .0 in
-    several 5 5 _ _ _ (past 4 _ (past 3 _ (past 2 _ (past 1 _ (c .before .before .if1 .left) (rest .0 .0 .0 .1)) (rest .0 .0 .1)) (rest .0 .1)) (rest .1))
-    (c .before .if2 .taken) (c .uses14 .ensures) refl
-
 returns-15 : tie.Need-returns-15
 unfolding wrong apart forms rowOf used least places
 returns-15 c =
-    let rest = c .before .before .before .before .match .rest .0 .0 .0 in
-    let twelve = past 12 _ (past 11 _ (past 10 _ (c .before .before .if2 .left) (rest .0 .0 .0 .0 .0 .1)) (rest .0 .0 .0 .0 .1)) (rest .0 .0 .0 .1) in
-    several 16 2 _ _ _ (past 15 _ (past 14 _ (past 13 _ twelve (rest .0 .0 .1)) (rest .0 .1)) (rest .1)) (c .before .if3 .taken) (c .uses15 .ensures) refl
+    let rest = c .before .before .before .match .rest .0 .0 .0 .0 .0 .0 .0 .0 .0 .0 in
+    several 5 5 _ _ _ (past 4 _ (past 3 _ (past 2 _ (past 1 _ (c .before .before .if1 .left) (rest .0 .0 .0 .1)) (rest .0 .0 .1)) (rest .0 .1)) (rest .1))
+    (c .before .if2 .taken) (c .uses15 .ensures) refl
 
 returns-16 : tie.Need-returns-16
-unfolding forms
-returns-16 c = none _ _ refl (rw (lt-leb 1 _ (c .if1 .taken)))
+unfolding wrong apart forms rowOf used least places
+returns-16 c =
+    let rest = c .before .before .before .before .match .rest .0 .0 .0 .0 in
+    let twelve = past 12 _ (past 11 _ (past 10 _ (c .before .before .if2 .left) (rest .0 .0 .0 .0 .0 .1)) (rest .0 .0 .0 .0 .1)) (rest .0 .0 .0 .1) in
+    several 16 2 _ _ _ (past 15 _ (past 14 _ (past 13 _ twelve (rest .0 .0 .1)) (rest .0 .1)) (rest .1)) (c .before .if3 .taken) (c .uses16 .ensures) refl
 
 returns-17 : tie.Need-returns-17
 unfolding forms
-returns-17 c =
+returns-17 c = none _ _ refl (rw (lt-leb 1 _ (c .if1 .taken)))
+
+returns-18 : tie.Need-returns-18
+unfolding forms
+returns-18 c =
     let rest = c .before .before .before .match .rest in
-    none _ _ refl (simp (lt-leb _ _ (past 20 _ (past 19 _ (past 18 _ (c .if3 .left) (rest .0 .0 .1)) (rest .0 .1)) (rest .1)), and-false))
+    let twenty = past 19 _ (past 18 _ (c .if3 .left) (rest .0 .0 .0 .1)) (rest .0 .0 .1) in
+    none _ _ refl (simp (lt-leb _ _ (past 21 _ (past 20 _ twenty (rest .0 .1)) (rest .1)), and-false))
 
 pub rule-of-spec : {M : Type 1} → statement M
 rule-of-spec =
@@ -164,5 +169,6 @@ rule-of-spec =
     (λ c κs. search needs)
     (λ c κs. search needs)
     (λ c κs. search needs)
+    (λ c κs. search needs)
     returns returns-2 returns-3 returns-4 returns-5 returns-6 returns-7 returns-8 returns-9 returns-10 returns-11 returns-12
-    returns-13 returns-14 returns-15 returns-16 returns-17)
+    returns-13 returns-14 returns-15 returns-16 returns-17 returns-18)

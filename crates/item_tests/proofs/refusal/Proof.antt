@@ -6,4 +6,7 @@ use Rattle.item_tests.proofs.refusal.Tie as tie
 
 pub refusal-spec : {M : Type 1} → statement M
 unfolding itemTests
-refusal-spec = tie.close (tie.spec (λ c κs. search needs) (λ c κs. search needs) (λ c κs. search needs) (λ c κs. search needs) (λ c. cc))
+refusal-spec =
+    tie.close
+    (tie.spec (λ c κs. search needs) (λ c κs. search needs) (λ c κs. search needs) (λ c κs. search needs) (λ c κs. search needs) (λ c κs. search needs)
+    (λ c. cc))

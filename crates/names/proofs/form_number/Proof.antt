@@ -1,4 +1,4 @@
--- `names::form_number` meets its contract: the text is the forms' names, and there are 20. Assumes nothing.
+-- `names::form_number` meets its contract: the text is the forms' names, and there are 21. Assumes nothing.
 use borrow.Author.Needs.{needs}
 use borrow.Author.Tests.{lt-ltb, le-ltb}
 use native.Mathlib.Numerals.{add-one}
@@ -11,11 +11,11 @@ use Rattle.names.proofs.form_number.Tie as tie
 
 returns : tie.Need-returns
 unfolding split joined forms formNumber
-returns c = rw (← c .before .place-in .ensures, lt-ltb (c .before .place-in .result) 20 (c .if1 .taken), add-one (c .before .place-in .result))
+returns c = rw (← c .before .place-in .ensures, lt-ltb (c .before .place-in .result) 21 (c .if1 .taken), add-one (c .before .place-in .result))
 
 returns-2 : tie.Need-returns-2
 unfolding split joined forms formNumber
-returns-2 c = rw (← c .before .place-in .ensures, le-ltb (c .before .place-in .result) 20 (c .if1 .left))
+returns-2 c = rw (← c .before .place-in .ensures, le-ltb (c .before .place-in .result) 21 (c .if1 .left))
 
 pub form-number-spec : {M : Type 1} → statement M
 form-number-spec = tie.close (tie.spec (λ c. search needs) (λ c κs. search needs) (λ c. search needs) returns returns-2)
