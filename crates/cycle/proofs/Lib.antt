@@ -1,3 +1,2 @@
--- what the rulebook's premise gives, and what the parts of a cycle leave
-pub mod Premises
+-- what the parts of a cycle leave
 pub mod Whole

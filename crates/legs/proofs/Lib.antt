@@ -6,3 +6,5 @@ pub mod Adding
 -- figures read through slots: a store at a slot, and a leg added or taken away
 pub mod Slotted
 pub mod Changing
+-- what the rulebook's premise gives
+pub mod Premises

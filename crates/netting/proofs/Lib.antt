@@ -1,5 +1,3 @@
--- marks on the trades whose day has come
-pub mod Taken
 -- figures under marks
 pub mod Netting
 -- rounds: the last that passes a test is dropped, and what code keeps true while it runs

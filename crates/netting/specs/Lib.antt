@@ -1,2 +1,2 @@
--- Which of the taken trades settle.
+-- Which of the taken trades a cycle fixes.
 pub mod Selected

@@ -1,9 +1,9 @@
--- Which trades a cycle takes, and which of them settle.
+-- Which trades a cycle takes, and which of them it fixes.
 use Prim.Native.Nat.{ℕ, _≤_}
 use mathlib.Core.Path.{_≡_}
 use lib.ListN.{length}
 use Rattle.rulebook.specs.Ledger.{Ledger}
-use Rattle.rulebook.specs.Cycle.{taken, rounds, settling}
+use Rattle.rulebook.specs.Cycle.{taken, rounds, selection}
 use Rattle.marks.specs.Marks.{isOn, markedOf, countOn}
 
 -- the marks are those of the trades whose day has come
@@ -19,8 +19,8 @@ pub record Netted (b : Ledger) (first left : ℕ) : Type 0 where
   pub marked : markedOf left b.waiting ≡ rounds (length b.waiting) b.holdings (markedOf first b.waiting)
   pub fewer : Fewer b first left
 
--- the trades that are due, and those of them that settle
-pub record Selected (b : Ledger) (due settled : ℕ) : Type 0 where
+-- the trades that are due, and those of them that are fixed
+pub record Selected (b : Ledger) (due fixed : ℕ) : Type 0 where
   pub due-marked : Taken b due
-  pub settled-marked : markedOf settled b.waiting ≡ settling b
-  pub fewer : Fewer b due settled
+  pub fixed-marked : markedOf fixed b.waiting ≡ selection b
+  pub fewer : Fewer b due fixed

@@ -26,7 +26,7 @@ fn next_top(less: usize, poorer: usize, j: usize, n: usize) -> usize
 }
 
 // What the rounds leave of the marks.
-pub fn settling_marks(book: &[u64], due: Marks) -> Marks
+pub fn selected_marks(book: &[u64], due: Marks) -> Marks
     requires { ⌜ Stored (now book) × Ready (ledgerOf (now book)) ⌝ }
     ensures { λ r. ⌜ Netted (ledgerOf (now (book .entry))) due r ⌝ }
 {

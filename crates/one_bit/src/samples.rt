@@ -78,6 +78,7 @@ pub fn sample(form: u64) -> Order
         18 => order(form, 0, 0, nobody, nobody, 150750, 0, 0, 0, 0),
         19 => order(form, 101, 0, debited, nobody, 400, 0, 0, 0, 31),
         20 => order(form, 0, 0, party(7, 0, 0), party(0, 120, 0), 0, 0, 0, 0, 31),
+        21 => order(form, 0, 0, nobody, nobody, 1, 0, 0, 0, 0),
         _ => order(form, 0, 0, nobody, nobody, 0, 0, 0, 0, 0),
     }
 }

@@ -1,4 +1,4 @@
-// Refusals 6 to 21 of an order on a book: the first that applies, in checking order, stage by stage.
+// Refusals 6 to 24 of an order on a book: the first that applies, in checking order, stage by stage.
 ghost use mathlib.Core.Path.{_≡_};
 ghost use Rattle.plain.specs.Lists.{first};
 ghost use Rattle.rulebook.specs.Refusals.{refusals};

@@ -1,4 +1,5 @@
--- Which forms can lack room, and in which books.
+-- Which forms can lack room, and in which books; what an account offers.
 mod Growth
 mod Between
 mod Roomy
+mod Offered

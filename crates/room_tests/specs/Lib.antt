@@ -1,2 +1,3 @@
--- Room in a book.
+-- Room in a book, and what an account offers.
 pub mod Room
+pub mod Offered

@@ -39,4 +39,4 @@ pub record SidesPassed (book : Ledger) (order : Order) : Type 0 where
   pub types : wrongPair order ≡ false
   pub parties : wrongParties order ≡ false
   pub request : wrongRequest book.requests order ≡ false
-  pub enough : tooLittle book.holdings order ≡ false
+  pub enough : tooLittle book.holdings book.waiting order ≡ false

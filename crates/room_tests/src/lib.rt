@@ -1,4 +1,6 @@
 // Refusals 16 to 18: whether the book has enough, and room.
+mod offers;
+
 ghost use mathlib.Core.Path.{_≡_};
 ghost use Rattle.plain.specs.Lists.{first};
 ghost use Rattle.rulebook.specs.Ranges.{AccountInRange};
@@ -11,10 +13,10 @@ use rulebook::Account;
 use rulebook::Order;
 use rulebook::Shares;
 
-// RULES 7.16: too little where the movement takes from.
+// RULES 7.16: too little where the movement takes from; an account keeps what fixed trades take from it.
 fn too_little(book: &[u64], order: Order) -> bool
     requires { ⌜ Kept (now book) × WasRead order ⌝ }
-    ensures { λ r. ⌜ r ≡ tooLittle (ledgerOf (now (book .entry)) .holdings) order ⌝ }
+    ensures { λ r. ⌜ r ≡ tooLittle (ledgerOf (now (book .entry)) .holdings) (ledgerOf (now (book .entry)) .waiting) order ⌝ }
 {
     let form = order.form;
     if form == 3 {
@@ -22,11 +24,8 @@ fn too_little(book: &[u64], order: Order) -> bool
         return outside.0 < order.quantity.0;
     }
     if checking::is_within(4, 9, form) | (form == 19) {
-        let balance = book_holdings::balance(
-            book,
-            parties::account_of(order.security, order.debited),
-        );
-        return balance.0 < order.quantity.0;
+        let offered = offers::offered(book, parties::account_of(order.security, order.debited));
+        return offered.0 < order.quantity.0;
     }
     if form == 11 {
         let cash = book_holdings::cash(book, order.debited.member, order.currency);

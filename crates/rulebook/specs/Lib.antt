@@ -24,4 +24,5 @@ pub mod Rates
 pub mod Rematerialization
 pub mod Custody
 pub mod Desk
+pub mod SentCycles
 pub mod Theorems

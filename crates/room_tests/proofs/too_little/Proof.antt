@@ -27,10 +27,10 @@ returns c =
     let form = c .before .before .before .if1 .taken in
     simp (form, outside, or-false)
 
-balance-requires : tie.Need-balance-requires
-balance-requires c κs =
+offered-requires : tie.Need-offered-requires
+offered-requires c κs =
     let s = c .before .before .before .before .before in
-    (s .pre .0 .stored, subst AccountInRange (sym (c .account-of .ensures)) (debited-named _ (s .pre .1)))
+    (s .pre .0, subst AccountInRange (sym (c .account-of .ensures)) (debited-named _ (s .pre .1)))
 
 returns-2 : tie.Need-returns-2
 unfolding tooLittle
@@ -41,7 +41,7 @@ returns-2 c =
     let s = one .before .before in
     let f = s .args .order .form in
     let w = asked (two .before) true (two .if2 .taken) in
-    simp (ne-eqb f 3 (one .if1 .left), w, no-pay-out f w, b .balance .ensures, b .before .account-of .ensures, or-false)
+    simp (ne-eqb f 3 (one .if1 .left), w, no-pay-out f w, b .offered .ensures, b .before .account-of .ensures, or-false)
 
 cash-requires : tie.Need-cash-requires
 cash-requires c κs =
@@ -65,4 +65,4 @@ returns-4 c =
 pub too-little-spec : {M : Type 1} → statement M
 too-little-spec =
     tie.close
-    (tie.spec (λ c κs. search needs) returns (λ c κs. search needs) (λ c κs. search needs) balance-requires returns-2 cash-requires returns-3 returns-4)
+    (tie.spec (λ c κs. search needs) returns (λ c κs. search needs) (λ c κs. search needs) offered-requires returns-2 cash-requires returns-3 returns-4)

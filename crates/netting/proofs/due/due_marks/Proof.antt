@@ -6,18 +6,18 @@ use Prim.Native.Nat.{ℕ, _+_, _-_, _≤_, _<_}
 use native.Mathlib.Omega.{arith}
 use borrow.Author.Needs.{needs}
 use lib.ListN.{length}
-use Rattle.rulebook.specs.Cycle.{due}
+use Rattle.rulebook.specs.Cycle.{due, taken}
 use Rattle.rulebook.specs.declared.Day.{Day}
 use Rattle.rulebook.specs.declared.Item.{Item}
 use Rattle.book.specs.Meaning.{ledgerOf}
 use Rattle.marks.specs.Marks.{noItem, itemIn, isOn}
 use Rattle.marks.proofs.Masks.{none-on}
-use Rattle.netting.proofs.Taken.{DueBelow, due-not, due-one, taken-marked}
+use Rattle.marks.proofs.ByTest.{MarkedBelow, marked-not, marked-one, by-test}
 use Rattle.netting.proofs.due.due_marks.Statement.{statement}
 use Rattle.netting.proofs.due.due_marks.Tie as tie
 
 abbrev Inv-loop : tie.InvT-loop
-Inv-loop book day n marks₀ i₀ marks i = (i ≤ n) × DueBelow (day .number) (ledgerOf book .waiting) marks i
+Inv-loop book day n marks₀ i₀ marks i = (i ≤ n) × MarkedBelow (due (day .number)) (ledgerOf book .waiting) marks i
 
 abbrev μ-loop : tie.MeasureT-loop
 μ-loop book day n marks₀ i₀ marks i = n - i
@@ -49,20 +49,21 @@ loop-again c =
     ⊎-elim
     (λ w. (
       omega arith,
-      due-one day (waiting h) (l .marks) (l .i) (low t) (l .inv .1) (c .if1 .marks)
+      marked-one (due day) (waiting h) (l .marks) (l .i) (low t) (l .inv .1) (c .if1 .marks)
           (λ k g. ap (λ (m : ℕ). isOn m k) (w .2) ∙ w .1 .ensures k g) (sym read ∙ w .0 .taken),
     ))
     (λ w.
-    let none = due-not day (waiting h) (l .marks) (l .i) (low t) (l .inv .1) (sym read ∙ w .0 .left) in
-    (omega arith, subst (λ (m : ℕ). DueBelow day (waiting h) m (l .i + 1)) (sym (w .1)) none))
+    let none = marked-not (due day) (waiting h) (l .marks) (l .i) (low t) (l .inv .1) (sym read ∙ w .0 .left) in
+    (omega arith, subst (λ (m : ℕ). MarkedBelow (due day) (waiting h) m (l .i + 1)) (sym (w .1)) none))
     (c .if1 .came)
 
 returns : tie.Need-returns Inv-loop μ-loop
+unfolding taken
 returns c =
     let h = c .before in
     let b = ledgerOf (entry h .args .book .now) in
     let day = ap (λ (d : Day). d .number) (h .before .before .day .ensures) in
-    taken-marked (b .day .number) (h .loop .marks) (b .waiting)
+    by-test (due (b .day .number)) (b .waiting) (h .loop .marks)
     (λ k g. h .loop .inv .1 .first k (omega (arith, h .before .items .ensures)) ∙ ap (λ (d : ℕ). due d (itemIn (b .waiting) k)) day)
 
 pub due-marks-spec : {M : Type 1} → statement M

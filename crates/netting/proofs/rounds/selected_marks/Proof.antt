@@ -1,4 +1,4 @@
--- `netting::rounds::settling_marks` meets its contract. The invariant: the rounds that are left, from the marks that are left, end as all rounds do
+-- `netting::rounds::selected_marks` meets its contract. The invariant: the rounds that are left, from the marks that are left, end as all rounds do
 -- from the first marks, and the figures, read through the slots, are those under the marks. Assumes nothing.
 use mathlib.Core.Bool.{Bool, false, _&&_, _||_}
 use mathlib.Core.List.{List}
@@ -18,8 +18,8 @@ use Rattle.legs.proofs.Searches.{last-cut}
 use Rattle.legs.proofs.Slotted.{slots-low}
 use Rattle.netting.proofs.Running.{Running, share-room, cash-room, share-viewed, cash-viewed}
 use Rattle.netting.proofs.Running.{starts, stops, inside, share-cover, cash-cover, fewer, behind-still, runs-on}
-use Rattle.netting.proofs.rounds.settling_marks.Statement.{statement}
-use Rattle.netting.proofs.rounds.settling_marks.Tie as tie
+use Rattle.netting.proofs.rounds.selected_marks.Statement.{statement}
+use Rattle.netting.proofs.rounds.selected_marks.Tie as tie
 
 -- the code's test, and that none passes it from a place on
 abbrev test : (marks : ℕ) (held funds : List ℕ) → ℕ → Bool
@@ -273,8 +273,8 @@ loop-again c =
           (g .1 .1 .fine k (omega (arith, t .2, a)) m) (omega (arith, t .3, a)) (rw (size l) at m)),
     )
 
-pub settling-marks-spec : {M : Type 1} → statement M
-settling-marks-spec =
+pub selected-marks-spec : {M : Type 1} → statement M
+selected-marks-spec =
     tie.close
     (tie.spec Inv-loop μ-loop
     (λ c κs. search needs) (λ c. search needs) (λ c. search needs) (λ c κs. search needs) (λ c. search needs) (λ c. search needs)

@@ -1,14 +1,9 @@
--- What the rulebook's premise gives the cycle. Assumes nothing.
-use Prim.Native.Nat.{ℕ, _^_, _≤_, _<_}
+-- What the rulebook's premise gives: the waiting trades can be booked. Assumes nothing.
+use Prim.Native.Nat.{ℕ, _^_, _<_}
 use native.Mathlib.Omega.{arith}
-use mathlib.Core.Bool.{Bool, true, false}
-use mathlib.Core.List.{[], _∷_}
-use lib.ListN.{length}
-use Rattle.plain.specs.Lists.{if_then_else_, _is_}
 use Rattle.rulebook.specs.Cycle.{seller, buyer}
 use Rattle.rulebook.specs.Ledger.{Ledger, accountOf}
 use Rattle.rulebook.specs.Premise.{ItemFits, today, Premise}
-use Rattle.rulebook.specs.Windows.{cycleMinutes, byKind}
 use Rattle.rulebook.specs.declared.Item.{Item}
 use Rattle.rulebook.specs.declared.Party.{Party}
 use Rattle.rulebook.proofs.Bounds.{balance-fits, cash-fits}
@@ -46,24 +41,11 @@ fits-bookable b t f =
       amount = f.terms.amount-most;
     }
 
--- a day has at most three cycles
-few : (kind : ℕ) → length (cycleMinutes kind) ≤ 3
-unfolding cycleMinutes byKind
-few kind = go (kind is 1)
-  where
-    go : (t : Bool) → length {A = ℕ} (if t then 585 ∷ 705 ∷ 825 ∷ [] else 585 ∷ 705 ∷ []) ≤ 3
-    go true = omega arith
-    go false = omega arith
-
-module _ (b : Ledger) (p : Premise b) where
-  pub premise-ready : Ready b
-  premise-ready = record {
-    size = p .sizes .items;
-    room = p .sizes .accounts;
-    bookable = λ k l. fits-bookable b _ (item-at b p k noItem l);
-    balances = λ a. omega (arith, balance-fits b p a);
-    amounts = λ m c. omega (arith, cash-fits b p m c);
-  }
-
-  pub premise-cycles : b.day.cycles < 2 ^ 63
-  premise-cycles = omega (arith, p .day .cycles, few b.day.kind)
+pub premise-ready : (b : Ledger) → Premise b → Ready b
+premise-ready b p = record {
+  size = p .sizes .items;
+  room = p .sizes .accounts;
+  bookable = λ k l. fits-bookable b _ (item-at b p k noItem l);
+  balances = λ a. omega (arith, balance-fits b p a);
+  amounts = λ m c. omega (arith, cash-fits b p m c);
+}

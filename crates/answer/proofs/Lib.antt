@@ -1,0 +1,2 @@
+-- what the parts of an answer leave
+pub mod Whole

@@ -1,2 +1,0 @@
--- The netted cycle on a book of words.
-pub mod Counting

@@ -1,0 +1,2 @@
+-- marks put onto the items of a list, one by one
+pub mod Marking

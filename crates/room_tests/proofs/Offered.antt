@@ -1,0 +1,112 @@
+-- Sums over the fixed items, place by place; what an account offers by those sums. Assumes nothing.
+use Prim.Native.Nat.{ℕ, suc, _+_, _-_, _*_, _≤_, _<_, _^_}
+use mathlib.Core.Path.{_≡_, refl, sym, ap, _∙_}
+use mathlib.Core.Bool.{Bool, true, false}
+use mathlib.Core.List.{List, [], _∷_}
+use native.Mathlib.Numerals.{add-one}
+use native.Mathlib.Omega.{arith}
+use lib.ListN.{length, getD, drop, drop-of-length-le}
+use lib.Seq.{drop-cons}
+use Rattle.plain.specs.Lists.{if_then_else_, Each}
+use Rattle.plain.proofs.Lists.{each-so}
+use Rattle.rulebook.specs.Ledger.{Ledger, sameAccount}
+use Rattle.rulebook.specs.Cycle.{over, seller, buyer, takesShares, bringsShares, sharesTaken, sharesBrought, sharesMissing, fixed, offers}
+use Rattle.rulebook.specs.Premise.{Premise}
+use Rattle.rulebook.specs.declared.Account.{Account}
+use Rattle.rulebook.specs.declared.Item.{Item}
+use Rattle.rulebook.proofs.EveryCall.Fixed.{all-unsent}
+use Rattle.room_tests.specs.Offered.{ifFixed}
+
+-- a list with a place inside has an element
+an-item : {A : Type 0} (l : List A) (i : ℕ) → i < length l → A
+an-item [] i h = absurd (omega arith)
+an-item (x ∷ rest) i h = x
+
+-- ---- the loop: the sum so far with what is left is the whole
+
+module _ (figure : Item → ℕ) (l : List Item) where
+  abbrev pub whole : ℕ
+  whole = over figure (fixed l)
+
+  abbrev pub Summed : (i sum : ℕ) → Type 0
+  Summed i sum = sum + over figure (fixed (drop i l)) ≡ whole
+
+  pub summed-none : Summed 0 0
+  summed-none = omega arith
+
+  pub summed-more : (i sum next : ℕ) → i < length l → ((d : Item) → next ≡ ifFixed figure (getD l i d)) → Summed i sum → Summed (i + 1) (sum + next)
+  unfolding over fixed
+  summed-more i sum next h e s =
+      let d = an-item l i h in
+      let split : over figure (fixed (drop i l)) ≡ ifFixed figure (getD l i d) + over figure (fixed (drop (i + 1) l)) = rw (add-one, drop-cons l i d h) refl in
+      omega (arith, s, split, e d)
+
+  pub summed-done : (i sum : ℕ) → length l ≤ i → Summed i sum → sum ≡ whole
+  unfolding over fixed
+  summed-done i sum h s =
+      let none : over figure (fixed (drop i l)) ≡ 0 = rw (drop-of-length-le l h) refl in
+      omega (arith, s, none)
+
+-- ---- how large it can be
+
+small : (figure : Item → ℕ) (l : List Item) → Each (λ item. figure item ≤ 2 ^ 40) l → over figure (fixed l) ≤ length l * 2 ^ 40
+unfolding over fixed
+small figure [] e = omega arith
+small figure (x ∷ rest) e = go (x .sent) (small figure rest (e .1))
+  where
+    go : (t : Bool) → over figure (fixed rest) ≤ length rest * 2 ^ 40
+        → (if t then figure x else 0) + over figure (fixed rest) ≤ length (x ∷ rest) * 2 ^ 40
+    go true ih = omega (arith, ih, e .0)
+    go false ih = omega (arith, ih)
+
+where-same : (t : Bool) (n : ℕ) → n < 2 ^ 40 → (if t then n else 0) ≤ 2 ^ 40
+where-same true n h = omega arith
+where-same false n h = omega arith
+
+module _ (b : Ledger) (p : Premise b) (a : Account) where
+  pub taken-small : over (takesShares a) (fixed b.waiting) ≤ 64 * 2 ^ 40
+  unfolding takesShares
+  taken-small =
+      omega (
+        arith,
+        p .sizes .items,
+        small (takesShares a) b.waiting
+            (each-so _ _ (λ item f. where-same (sameAccount (seller item) a) _ (f .terms .quantity-most)) b.waiting p.items),
+      )
+
+  pub brought-small : over (bringsShares a) (fixed b.waiting) ≤ 64 * 2 ^ 40
+  unfolding bringsShares
+  brought-small =
+      omega (
+        arith,
+        p .sizes .items,
+        small (bringsShares a) b.waiting
+            (each-so _ _ (λ item f. where-same (sameAccount (buyer item) a) _ (f .terms .quantity-most)) b.waiting p.items),
+      )
+
+-- ---- what is offered
+
+none-taken : (a : Account) (l : List Item) → Each (λ item. item .sent ≡ false) l → sharesTaken a (fixed l) ≡ 0
+unfolding sharesTaken over fixed
+none-taken a [] e = refl
+none-taken a (x ∷ rest) e = simp (e .0) (omega (arith, none-taken a rest (e .1)))
+
+module _ (b : Ledger) (p : Premise b) (a : Account) where
+  -- while no cycle is sent, and where the fixed trades bring as much as they take
+  pub offers-unsent : b.day.sent ≡ false → b.holdings.balance a ≡ offers b.holdings b.waiting a
+  unfolding offers
+  offers-unsent n = omega (arith, none-taken a b.waiting (all-unsent b p n))
+
+  module _ (taken brought : ℕ) (t : taken ≡ sharesTaken a (fixed b.waiting)) (r : brought ≡ sharesBrought a (fixed b.waiting)) where
+    pub offers-all : taken ≤ brought → b.holdings.balance a ≡ offers b.holdings b.waiting a
+    unfolding offers
+    offers-all h = omega (arith, t, r)
+
+    pub offers-rest : b.holdings.balance a - (taken - brought) ≡ offers b.holdings b.waiting a
+    unfolding offers
+    offers-rest = rw (t, r) refl
+
+    -- they take no more than is there and is brought
+    pub offers-covered : taken - brought ≤ b.holdings.balance a
+    unfolding sharesMissing
+    offers-covered = omega (arith, t, r, p .covered .shares a)
