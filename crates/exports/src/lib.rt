@@ -113,7 +113,7 @@ pub extern "C" fn depository_write(fields: &[u64], area: &mut [u8]) -> u64
 
 // ---- what a book says
 
-// The day: number, 1 where it is open, kind, cycles run, last minute.
+// The day: number, 1 where it is open, kind, cycles run, last minute, 1 where a cycle is sent.
 #[no_mangle]
 pub extern "C" fn depository_day(book: &[u64], values: &mut [u64]) -> u64
     requires { ⌜ Lent (now book) ⌝ }
@@ -206,7 +206,7 @@ pub extern "C" fn depository_cash(
 pub extern "C" fn depository_item(book: &[u64], place: usize, values: &mut [u64]) -> u64
     requires { ⌜ Lent (now book) ⌝ }
     ensures { λ r. ⌜
-        TellsAt (now (book .entry)) (now (values .entry)) 17 itemFigures place (ledgerOf (now (book .entry)) .waiting)
+        TellsAt (now (book .entry)) (now (values .entry)) 18 itemFigures place (ledgerOf (now (book .entry)) .waiting)
         r (now (values .exit))
         ⌝ }
 {

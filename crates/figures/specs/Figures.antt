@@ -17,8 +17,9 @@ use Rattle.figures.specs.declared.StateFigures.{StateFigures}
 abbrev pub countFigures : Counts → List ℕ
 countFigures c = c.rows ∷ c.settled ∷ c.cancelled ∷ c.deleted ∷ c.suspended ∷ c.left ∷ []
 
+-- the last: whether a cycle is sent
 abbrev pub dayFigures : Day → List ℕ
-dayFigures d = d.number ∷ bit d.opened ∷ d.kind ∷ d.cycles ∷ d.minute ∷ []
+dayFigures d = d.number ∷ bit d.opened ∷ d.kind ∷ d.cycles ∷ d.minute ∷ bit d.sent ∷ []
 
 -- how many securities, accounts, waiting items, open requests
 abbrev pub sizeFigures : Ledger → List ℕ
@@ -42,13 +43,14 @@ stateFigures (Single delivers reference) =
 stateFigures (Pair deliver receive dm rm) = record { state = 3; reference = deliver; second = receive; «deliver_marked» = bit dm; «receive_marked» = bit rm }
 stateFigures (Trade reference) = record { state = 4; reference = reference; second = 0; «deliver_marked» = 0; «receive_marked» = 0 }
 
-abbrev pub figuresWith : Item → StateFigures → List ℕ
-figuresWith i s =
+-- an item with its state's figures, and whether a sent cycle has fixed it
+abbrev pub figuresWith : Item → StateFigures → (sent : ℕ) → List ℕ
+figuresWith i s sent =
     i .security ∷ i .currency
     ∷ i .debited .member ∷ i .debited .typ ∷ i .debited .shareholder
     ∷ i .credited .member ∷ i .credited .typ ∷ i .credited .shareholder
     ∷ i .quantity .0 ∷ i .amount .0 ∷ i .«trade_day» ∷ i .«settlement_day»
-    ∷ s .state ∷ s .reference ∷ s .second ∷ s .«deliver_marked» ∷ s .«receive_marked» ∷ []
+    ∷ s .state ∷ s .reference ∷ s .second ∷ s .«deliver_marked» ∷ s .«receive_marked» ∷ sent ∷ []
 
 abbrev pub itemFigures : Item → List ℕ
-itemFigures i = figuresWith i (stateFigures (i .state))
+itemFigures i = figuresWith i (stateFigures (i .state)) (bit (i .sent))

@@ -34,13 +34,14 @@ pub fn put_counts(values: &mut [u64], c: Counts)
     words::write(values, 0, &figures);
 }
 
-// The day goes into 5 words.
+// The day goes into 6 words; the last is 1 where a cycle is sent (RULES 4.16).
 pub fn put_day(values: &mut [u64], day: Day)
-    requires { ⌜ length (now values) ≡ 5 ⌝ }
+    requires { ⌜ length (now values) ≡ 6 ⌝ }
     ensures { λ u. ⌜ now (values .exit) ≡ dayFigures day ⌝ }
 {
     let opened = words::bit_of(day.opened);
-    let figures = [day.number, opened, day.kind, day.cycles, day.minute];
+    let sent = words::bit_of(day.sent);
+    let figures = [day.number, opened, day.kind, day.cycles, day.minute, sent];
     words::write(values, 0, &figures);
 }
 
@@ -109,13 +110,14 @@ fn state_figures(s: State) -> StateFigures
     }
 }
 
-// An item goes into 17 words.
+// An item goes into 18 words; the last is 1 where a sent cycle has fixed it (RULES 9.19).
 pub fn put_item(values: &mut [u64], item: Item)
-    requires { ⌜ length (now values) ≡ 17 ⌝ }
+    requires { ⌜ length (now values) ≡ 18 ⌝ }
     ensures { λ u. ⌜ now (values .exit) ≡ itemFigures item ⌝ }
 {
     let state = item.state;
     let s = state_figures(state);
+    let sent = words::bit_of(item.sent);
     let figures = [
         item.security,
         item.currency,
@@ -134,6 +136,7 @@ pub fn put_item(values: &mut [u64], item: Item)
         s.second,
         s.deliver_marked,
         s.receive_marked,
+        sent,
     ];
     words::write(values, 0, &figures);
 }

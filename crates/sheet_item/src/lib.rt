@@ -9,9 +9,9 @@ use rulebook::Item;
 
 // The debited and the credited party, security, quantity, amount, currency and days.
 fn put_terms(out: &mut [u8], at: usize, page: bool, item: Item) -> usize
-    requires { ⌜ at + 1400 ≤ length (now out) ⌝ }
+    requires { ⌜ at + 1350 ≤ length (now out) ⌝ }
     ensures { λ r. ⌜ Put (now (out .entry)) at (termsOf page item) (now (out .exit)) r ⌝ }
-    ensures { λ r. ⌜ r ≤ at + 1400 ⌝ }
+    ensures { λ r. ⌜ r ≤ at + 1350 ⌝ }
 {
     let from = item.debited;
     let to = item.credited;
@@ -59,6 +59,7 @@ pub fn put_item(out: &mut [u8], at: usize, page: bool, item: Item) -> usize
     let state = item.state;
     let mut next = sheet_state::put_state(out, at, page, state);
     next = put_terms(out, next, page, item);
+    next = sheet_state::put_sent(out, next, page, item.sent);
     next = sheet_state::put_marks(out, next, page, state);
     put_end(out, next, page)
 }

@@ -1,12 +1,11 @@
 -- The state, the references and the marks of a waiting item's line (RULES 18.4).
 use Prim.Native.Nat.{ℕ}
-use Prim.Native.String.{String}
 use mathlib.Core.Bool.{Bool}
 use mathlib.Core.List.{List, [], _∷_, _++_}
 use Rattle.plain.specs.Lists.{if_then_else_}
 use Rattle.rulebook.specs.declared.State.{State}
 use Rattle.rulebook.specs.declared.State.the-variants.{Single, Pair, Trade}
-use Rattle.text_or_page.specs.Written.{written}
+use Rattle.text_or_page.specs.Written.{written, writtenWhere}
 
 -- the state and the references; a pair's first is its deliver's
 unfoldable pub stateOf : (page : Bool) → State → List ℕ
@@ -18,14 +17,14 @@ stateOf page (Pair deliver receive deliverMarked receiveMarked) =
 stateOf page (Trade reference) =
     written page "EXCHANGE TRADE #" "<tr><td>exchange trade</td><td>#</td>" (reference ∷ [])
 
--- words where there is a mark
-abbrev pub markOf : (page marked : Bool) → (line row : String) → List ℕ
-markOf page marked line row = if marked then written page line row [] else []
+-- that a sent cycle has fixed the item
+unfoldable pub sentOf : (page sent : Bool) → List ℕ
+sentOf page sent = writtenWhere page sent " IN THE SENT CYCLE" "in the sent cycle<br>"
 
 -- the halves of a pair that are marked for cancellation
 abbrev pub halvesOf : (page deliverMarked receiveMarked : Bool) → List ℕ
 halvesOf page deliverMarked receiveMarked =
-    markOf page deliverMarked " DELIVER MARKED" "deliver" ++ markOf page receiveMarked " RECEIVE MARKED" "receive"
+    writtenWhere page deliverMarked " DELIVER MARKED" "deliver" ++ writtenWhere page receiveMarked " RECEIVE MARKED" "receive"
 
 unfoldable pub marksOf : (page : Bool) → State → List ℕ
 marksOf page (Single delivers reference) = []

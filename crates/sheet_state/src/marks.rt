@@ -1,25 +1,24 @@
-// The halves of a pair that are marked for cancellation.
-ghost use mathlib.Core.List.{[]};
+// Whether a sent cycle has fixed the item, and the halves of a pair that are marked for cancellation.
 ghost use Prim.Native.Nat.{_+_, _≤_};
 ghost use lib.ListN.{length};
-ghost use Rattle.plain.specs.Lists.{if_then_else_};
 ghost use Rattle.text.specs.Text.{Put};
-ghost use Rattle.wording.specs.Fill.{fill};
-ghost use Rattle.sheet_state.specs.State.{halvesOf, marksOf};
+ghost use Rattle.sheet_state.specs.State.{sentOf, halvesOf, marksOf};
 use rulebook::State;
 
-// Words where there is a mark.
-fn put_mark(out: &mut [u8], at: usize, page: bool, marked: bool, line: &[u8], row: &[u8]) -> usize
-    requires { ⌜ at + length (now line) + length (now row) ≤ length (now out) ⌝ }
-    ensures { λ r. ⌜
-        Put (now (out .entry)) at (if marked then fill (if page then now (row .entry) else now (line .entry)) [] else []) (now (out .exit)) r
-        ⌝ }
-    ensures { λ r. ⌜ r ≤ at + length (now (line .entry)) + length (now (row .entry)) ⌝ }
+// That a sent cycle has fixed the item (RULES 9.19).
+pub fn put_sent(out: &mut [u8], at: usize, page: bool, sent: bool) -> usize
+    requires { ⌜ at + 50 ≤ length (now out) ⌝ }
+    ensures { λ r. ⌜ Put (now (out .entry)) at (sentOf page sent) (now (out .exit)) r ⌝ }
+    ensures { λ r. ⌜ r ≤ at + 50 ⌝ }
 {
-    if marked {
-        return text_or_page::put_words(out, at, page, line, row);
-    }
-    at
+    text_or_page::put_where(
+        out,
+        at,
+        page,
+        sent,
+        b" IN THE SENT CYCLE",
+        b"in the sent cycle<br>",
+    )
 }
 
 // The marks of a pair's halves.
@@ -28,8 +27,8 @@ fn put_halves(out: &mut [u8], at: usize, page: bool, deliver: bool, receive: boo
     ensures { λ r. ⌜ Put (now (out .entry)) at (halvesOf page deliver receive) (now (out .exit)) r ⌝ }
     ensures { λ r. ⌜ r ≤ at + 60 ⌝ }
 {
-    let next = put_mark(out, at, page, deliver, b" DELIVER MARKED", b"deliver");
-    put_mark(out, next, page, receive, b" RECEIVE MARKED", b"receive")
+    let next = text_or_page::put_where(out, at, page, deliver, b" DELIVER MARKED", b"deliver");
+    text_or_page::put_where(out, next, page, receive, b" RECEIVE MARKED", b"receive")
 }
 
 // The marks of a pair; other items have none.

@@ -1,4 +1,5 @@
 -- An item to stand where a list has none. Assumes nothing.
+use mathlib.Core.Bool.{false}
 use Rattle.rulebook.specs.declared.Item.{Item}
 use Rattle.rulebook.specs.declared.Party.{Party}
 use Rattle.rulebook.specs.declared.State.the-variants.{Trade}
@@ -17,4 +18,5 @@ noItem = record {
   «trade_day» = 0;
   «settlement_day» = 0;
   state = Trade 0;
+  sent = false;
 }

@@ -7,12 +7,13 @@ use Rattle.rulebook.specs.Field.{widths, places, ceiling}
 use Rattle.rulebook.specs.Record.{fieldsOf, orderOf, noForm, unusedNotZero, usedOutOfRange, fieldsIn, readRefusal, readOf, recordOf}
 use Rattle.rulebook.specs.Ledger.{fresh, putDay, putHoldings, accountOf, sameAccount, counted, putBalance, putSecurities, putOutside, putHeld, admitted, issuedOf, outsideOf, heldOf}
 use Rattle.rulebook.specs.Movements.{credit, debit, credits, debits, recounted, booked}
-use Rattle.rulebook.specs.Windows.{byKind, cycleMinutes, officeEnd}
+use Rattle.rulebook.specs.Windows.{byKind, cycleMinutes, allRun, officeEnd}
 use Rattle.rulebook.specs.Rows.{postingWidths, postingBytes, postingIn, postingOf, postingRows, rowBytes, rowsBytes}
 use Rattle.rulebook.specs.Names.{currencyNames, refusalNames, noticeNames, nameFrom1}
 use Rattle.rulebook.specs.Waiting.{senderOf, sentBy, notCancellable}
+use Rattle.rulebook.specs.Cycle.{over, sharesTaken, sharesBrought, fixed, offers}
 use Rattle.rulebook.specs.Forms.{counts, outcome, moving, silent, openDay, admit, deposit, withdraw, forms, rowOf, used, least, most, windowOf, effect}
-use Rattle.rulebook.specs.Refusals.{wrongDay, wrongCycle, goesBack, outsideWindow, wrongSecurity, wrongPair, wrongParties, wrongDays, wrongReference, wrongCancel, wrongRequest, endsTooSoon, tooManyRequests, tooLittle, overCeiling, noSpace, dayTests, orderTests, itemTests, requestTests, roomTests, refusals}
+use Rattle.rulebook.specs.Refusals.{wrongDay, wrongCycle, awaitsAnswer, nothingSent, goesBack, outsideWindow, wrongSecurity, wrongPair, wrongParties, wrongDays, wrongReference, wrongCancel, cancelsSent, wrongRequest, endsTooSoon, tooManyRequests, tooLittle, overCeiling, noSpace, dayTests, orderTests, itemTests, requestTests, roomTests, refusals}
 use Rattle.rulebook.specs.Call.{answerRows, refused, putMinute, accepted, orderCall, readCall, callOf}
 use Rattle.rulebook.specs.Desk.{party, nobody, order, opens, admits, deposits, withdraws}
 use Rattle.file.specs.Records.{parts, recordsOf}
@@ -31,8 +32,9 @@ unfolding
     deposits withdraws number bytes leading field typeTable typeRow isFree alike pledgedOrBlocked isOutside listed become hasPaper isPaper ends
     wrongTypes widths places fieldsOf orderOf ceiling used least most noForm unusedNotZero usedOutOfRange fieldsIn readRefusal readOf recordOf fresh
     putDay putHoldings accountOf sameAccount counted putBalance putSecurities putOutside putHeld admitted issuedOf outsideOf heldOf credit debit
-    credits debits recounted booked byKind cycleMinutes officeEnd postingWidths postingBytes postingIn postingOf postingRows rowBytes rowsBytes
-    senderOf sentBy notCancellable counts outcome moving silent openDay admit deposit withdraw forms rowOf windowOf effect wrongDay wrongCycle
-    goesBack outsideWindow wrongSecurity wrongPair wrongParties wrongDays wrongReference wrongCancel wrongRequest endsTooSoon tooManyRequests
-    tooLittle overCeiling noSpace dayTests orderTests itemTests requestTests roomTests refusals refused putMinute accepted orderCall readCall callOf
+    credits debits recounted booked byKind cycleMinutes allRun officeEnd postingWidths postingBytes postingIn postingOf postingRows rowBytes rowsBytes
+    senderOf sentBy notCancellable over sharesTaken sharesBrought fixed offers counts outcome moving silent openDay admit deposit withdraw forms rowOf
+    windowOf effect wrongDay wrongCycle awaitsAnswer nothingSent goesBack outsideWindow wrongSecurity wrongPair wrongParties wrongDays wrongReference
+    wrongCancel cancelsSent wrongRequest endsTooSoon tooManyRequests tooLittle overCeiling noSpace dayTests orderTests itemTests requestTests
+    roomTests refusals refused putMinute accepted orderCall readCall callOf
 eight-lines = refl

@@ -71,7 +71,7 @@ posts-else =
     by-form (λ n f. (n ≡ 15 → ⊥) → (n ≡ 17 → ⊥) → true ≡ f.posts)
     ((λ p q. refl) and (λ p q. refl) and (λ p q. refl) and (λ p q. refl) and (λ p q. refl) and (λ p q. refl) and (λ p q. refl) and (λ p q. refl)
     and (λ p q. refl) and (λ p q. refl) and (λ p q. refl) and (λ p q. refl) and (λ p q. refl) and (λ p q. refl) and (λ p q. absurd (p refl))
-    and (λ p q. refl) and (λ p q. absurd (q refl)) and (λ p q. refl) and (λ p q. refl) and (λ p q. refl) and tt)
+    and (λ p q. refl) and (λ p q. absurd (q refl)) and (λ p q. refl) and (λ p q. refl) and (λ p q. refl) and (λ p q. refl) and tt)
     (λ m none p q. refl)
 
 -- ---- rows fit their widths
@@ -112,7 +112,7 @@ unfolding forms
 form-notices =
     by-form (λ n f. f.posts ≡ false → (b : Ledger) (o : Order) → Premise b → AllTold false (f.effect b o .rows))
     (no and no and no and no and no and no and no and no and no and no and no and no and no and no and (λ e. cancel-told) and no and (λ e. close-told)
-    and no and no and no and tt)
+    and no and no and no and no and tt)
     (λ m none. no)
   where
     no : {A : Type 0} → true ≡ false → A

@@ -171,22 +171,22 @@ module _ (order : Order) (t : first (fieldTests (fieldsOf order)) ≡ 0) where
   small-fields = small-fit 18 widths (fieldsOf order) (each-none (λ w. 64 below w) widths refl) (write-fits order t) .1
 
   -- the form is one of the table
-  form-known : (1 ≤ order .form) × (order .form ≤ 20)
+  form-known : (1 ≤ order .form) × (order .form ≤ 21)
   unfolding noForm fieldsOf forms
   form-known =
       let n : noForm (fieldsOf order) ≡ false = none-first (noForm (fieldsOf order)) (unusedNotZero (fieldsOf order)) (usedOutOfRange (fieldsOf order)) t in
-      let w = both (leb 1 (order .form)) (leb (order .form) 20) (not-false _ n) in
-      (leb-true 1 (order .form) (w .0), leb-true (order .form) 20 (w .1))
+      let w = both (leb 1 (order .form)) (leb (order .form) 21) (not-false _ n) in
+      (leb-true 1 (order .form) (w .0), leb-true (order .form) 21 (w .1))
     where
       none-first : (a b c : Bool) → first ((3, a) ∷ (4, b) ∷ (5, c) ∷ []) ≡ 0 → a ≡ false
       none-first true b c h = cc
       none-first false b c h = refl
 
   -- so that what is computed for each row of the table holds of it
-  by-number : {A : Type 0} (f g : ℕ → A) → tabled 20 (λ k. f (suc k)) ≡ tabled 20 (λ k. g (suc k)) → f (order .form) ≡ g (order .form)
+  by-number : {A : Type 0} (f g : ℕ → A) → tabled 21 (λ k. f (suc k)) ≡ tabled 21 (λ k. g (suc k)) → f (order .form) ≡ g (order .form)
   by-number f g e =
       let s : suc (order .form - 1) ≡ order .form = omega (arith, form-known .0) in
-      rw s at (same-below 20 (λ k. f (suc k)) (λ k. g (suc k)) e (order .form - 1) (omega (arith, form-known .0, form-known .1)))
+      rw s at (same-below 21 (λ k. f (suc k)) (λ k. g (suc k)) e (order .form - 1) (omega (arith, form-known .0, form-known .1)))
 
   cells-without : (mark : ℕ) → mark < 48 → some (λ b. b is mark) (text (formName (order .form))) ≡ false → Each (Without mark) (orderCells order)
   unfolding orderCells

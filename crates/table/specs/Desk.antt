@@ -15,12 +15,15 @@ use Rattle.table.specs.Lines.{Imported}
 use Rattle.table.specs.Lines.Imported.{refusedAt, orders}
 use Rattle.table.specs.Import.{mark, importOf}
 
--- open the day, kind 1, at 470; admit 101, 1,000 at 500
+-- open the day, kind 1, at 470; admit 101, 1,000 at 500; confirm a cycle at 590
 abbrev pub opening : Order
 opening = orderOf (1 ∷ 470 ∷ 0 ∷ 0 ∷ 0 ∷ 0 ∷ 0 ∷ 0 ∷ 0 ∷ 0 ∷ 1 ∷ [])
 
 abbrev pub admission : Order
 admission = orderOf (2 ∷ 500 ∷ 101 ∷ 0 ∷ 0 ∷ 0 ∷ 0 ∷ 0 ∷ 0 ∷ 0 ∷ 1000 ∷ [])
+
+abbrev pub confirmation : Order
+confirmation = orderOf (21 ∷ 590 ∷ 0 ∷ 0 ∷ 0 ∷ 0 ∷ 0 ∷ 0 ∷ 0 ∷ 0 ∷ 1 ∷ [])
 
 -- a table, by what it shows, and what it imports as
 abbrev pub shown : String → List ℕ → Imported → List ℕ × Imported
@@ -31,6 +34,7 @@ tables =
     shown "two orders" (text "form,minute,security,quantity\n1,470,0,1\n2,500,101,1000\n") (orders (opening ∷ admission ∷ []))
     ∷ shown "other order" (text "quantity,form,security,minute\n1,1,0,470\n1000,2,101,500\n") (orders (opening ∷ admission ∷ []))
     ∷ shown "forms by name" (text "form,minute,security,quantity\nopen day,470,0,1\nadmit,500,101,1000\n") (orders (opening ∷ admission ∷ []))
+    ∷ shown "an answer" (text "form,minute,quantity\nanswer cycle,590,1\n21,590,1\n") (orders (confirmation ∷ confirmation ∷ []))
     ∷ shown "spaces and returns" (text "form, minute, quantity\r\n open day ,\t470, 1\r\n") (orders (opening ∷ []))
     ∷ shown "no last end" (text "form,minute,quantity\n1,470,1") (orders (opening ∷ []))
     ∷ shown "byte order mark" (mark ++ text "form,minute,quantity\n1,470,1\n") (orders (opening ∷ []))
@@ -57,7 +61,8 @@ tables =
     ∷ shown "no such name" (text "form,minute\nopen,470\n") (refusedAt unknownForm 2 1 0)
     ∷ shown "below the limit" (text "form,minute,quantity\n1,470,18446744073709551615\n") (refusedAt 5 2 3 quantity)
     ∷ shown "at the limit" (text "form,minute,quantity\n1,470,18446744073709551616\n") (refusedAt tooLarge 2 3 quantity)
-    ∷ shown "no such form" (text "form,minute,quantity\n21,470,1\n") (refusedAt 3 2 1 0)
+    ∷ shown "no such form" (text "form,minute,quantity\n22,470,1\n") (refusedAt 3 2 1 0)
+    ∷ shown "a third answer" (text "form,minute,quantity\nanswer cycle,590,3\n") (refusedAt 5 2 3 quantity)
     ∷ shown "unused field" (text "form,minute,quantity,amount\n1,470,1,5\n") (refusedAt 4 2 4 amount)
     ∷ shown "used field missing" (text "form,minute\nadmit,500\n") (refusedAt 5 2 0 security)
     ∷ []

@@ -27,12 +27,12 @@ fn lengths(book: usize, values: usize, width: usize) -> u64
     0
 }
 
-// The day: number, 1 where it is open, kind, cycles run, last minute.
+// The day: number, 1 where it is open, kind, cycles run, last minute, 1 where a cycle is sent.
 pub fn day(book: &[u64], values: &mut [u64]) -> u64
     requires { ⌜ Lent (now book) ⌝ }
     ensures { λ r. ⌜ Tells (now (book .entry)) (now (values .entry)) (dayFigures (ledgerOf (now (book .entry)) .day)) r (now (values .exit)) ⌝ }
 {
-    let wrong = lengths(book.len(), values.len(), 5);
+    let wrong = lengths(book.len(), values.len(), 6);
     if wrong != 0 {
         return wrong;
     }
@@ -161,11 +161,11 @@ pub fn cash(book: &[u64], member: u64, currency: u64, values: &mut [u64]) -> u64
 pub fn item(book: &[u64], place: usize, values: &mut [u64]) -> u64
     requires { ⌜ Lent (now book) ⌝ }
     ensures { λ r. ⌜
-        TellsAt (now (book .entry)) (now (values .entry)) 17 itemFigures place (ledgerOf (now (book .entry)) .waiting)
+        TellsAt (now (book .entry)) (now (values .entry)) 18 itemFigures place (ledgerOf (now (book .entry)) .waiting)
         r (now (values .exit))
         ⌝ }
 {
-    let wrong = lengths(book.len(), values.len(), 17);
+    let wrong = lengths(book.len(), values.len(), 18);
     if wrong != 0 {
         return wrong;
     }

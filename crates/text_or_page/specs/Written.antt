@@ -11,6 +11,10 @@ use Rattle.wording.specs.Fill.{fill}
 abbrev pub written : (page : Bool) → (line row : String) → (numbers : List ℕ) → List ℕ
 written page line row numbers = fill (if page then text row else text line) numbers
 
+-- words where something is so, and nothing where it is not
+abbrev pub writtenWhere : (page holds : Bool) → (line row : String) → List ℕ
+writtenWhere page holds line row = if holds then written page line row [] else []
+
 -- what stands only in a page
 abbrev pub inPage : (page : Bool) → List ℕ → List ℕ
 inPage page bytes = if page then bytes else []

@@ -38,6 +38,27 @@ pub fn put_words(out: &mut [u8], at: usize, page: bool, line: &[u8], row: &[u8])
     put_written(out, at, page, line, row, &[])
 }
 
+// Words where something is so, and nothing where it is not.
+pub fn put_where(
+    out: &mut [u8],
+    at: usize,
+    page: bool,
+    holds: bool,
+    line: &[u8],
+    row: &[u8],
+) -> usize
+    requires { ⌜ at + length (now line) + length (now row) ≤ length (now out) ⌝ }
+    ensures { λ r. ⌜
+        Put (now (out .entry)) at (if holds then fill (if page then now (row .entry) else now (line .entry)) [] else []) (now (out .exit)) r
+        ⌝ }
+    ensures { λ r. ⌜ r ≤ at + length (now (line .entry)) + length (now (row .entry)) ⌝ }
+{
+    if holds {
+        return put_words(out, at, page, line, row);
+    }
+    at
+}
+
 // Words with one number.
 pub fn put_one(out: &mut [u8], at: usize, page: bool, line: &[u8], row: &[u8], number: u64) -> usize
     requires { ⌜ at + length (now line) + length (now row) + 80 ≤ length (now out) ⌝ }

@@ -13,7 +13,7 @@ use Rattle.telling.proofs.item.Tie as tie
 abbrev start : tie.After-lengths → tie.Start
 start c = c .before .before .before
 
-right : (c : tie.Else1) → (length (start (c .before) .args .book .now) ≡ bookLength) × (length (start (c .before) .args .values .now) ≡ 17)
+right : (c : tie.Else1) → (length (start (c .before) .args .book .now) ≡ bookLength) × (length (start (c .before) .args .values .now) ≡ 18)
 right c = lengths-right _ _ _ (sym (c .before .lengths .ensures) ∙ c .if1 .left)
 
 returns : tie.Need-returns

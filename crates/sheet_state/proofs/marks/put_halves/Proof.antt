@@ -9,8 +9,8 @@ returns : tie.Need-returns
 returns c =
     let last = c .before .before in
     let first = last .before .before .before .before .before .before in (
-      put-then (first .put-mark .ensures .0) (last .put-mark2 .ensures .0),
-      omega (arith, first .put-mark .ensures .1, last .put-mark2 .ensures .1),
+      put-then (first .put-where .ensures .0) (last .put-where2 .ensures .0),
+      omega (arith, first .put-where .ensures .1, last .put-where2 .ensures .1),
     )
 
 pub put-halves-spec : {M : Type 1} → statement M
