@@ -160,8 +160,8 @@ fn form(form: u64, minute: u64) -> Order {
 
 /// A day of kind 2 from its opening to its last call.
 fn day_of(orders: &[Order]) -> Vec<Order> {
-    let evening = [form(16, 900), form(16, 900), form(17, 900)];
-    [&[Order { quantity: 2, ..form(1, 0) }], orders, &evening].concat()
+    let cycle = [form(16, 900), Order { quantity: 1, ..form(21, 900) }];
+    [&[Order { quantity: 2, ..form(1, 0) }], orders, &cycle, &cycle, &[form(17, 900)]].concat()
 }
 
 fn deposit(security: u64, quantity: u64) -> Order {
