@@ -30,6 +30,7 @@ pub fn streams() -> Vec<Stream> {
         full_cycle("cycle, 64 trades sent", true),
         full_answer("answer, 64 trades confirmed", 1),
         full_answer("answer, 64 trades declined", 2),
+        while_sent(),
         unreadable_records(),
         refused_orders(),
     ]
@@ -142,6 +143,19 @@ fn full_answer(name: &'static str, quantity: u64) -> Stream {
     let answer = book.call(&answered, &mut [0; AREA_BYTES]);
     assert!(matches!(answer, Answer::Accepted(counts) if counts.rows == rows));
     Stream { name, before, timed: vec![answered], repeats: 200 }
+}
+
+/// Transfers between a cycle of 64 trades and its answer: each looks at what
+/// the trades take from its account.
+fn while_sent() -> Stream {
+    let (mut before, mut book) = due_trades(true);
+    before.push(record(form(16, 585)));
+    accept(&mut book, &before[before.len() - 1..]);
+    let moved = |place, from, to| record(Order { settlement_day: 4, minute: 585, ..transfer(place, from, to, 7) });
+    let places = (0..5_000).map(|round| 1000 + round * 37 % 190);
+    let timed: Vec<Record> = places.flat_map(|place| [moved(place, 20, 10), moved(place, 10, 20)]).collect();
+    accept(&mut book, &timed);
+    Stream { name: "transfers while 64 trades are sent", before, timed, repeats: 1 }
 }
 
 /// The calls before the first cycle of day 4, and the book after them.
