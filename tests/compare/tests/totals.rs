@@ -187,9 +187,11 @@ fn sides_are_counted_at_the_confirmation() {
     assert!(check(&totals, &confirmed).is_err_and(|text| text.starts_with("sides taken in = gone + waiting")));
 }
 
+type Change = fn(&mut Book);
+
 #[test]
 fn a_sent_cycle_that_cannot_be_is_seen() {
-    let changes: [(fn(&mut Book), &str); 6] = [
+    let changes: [(Change, &str); 6] = [
         (|book| book.day.open = false, "sent only on an open day after a cycle"),
         (|book| book.day.cycles_run = 0, "sent only on an open day after a cycle"),
         (|book| book.day.sent = false, "trades are fixed only while a cycle is sent"),

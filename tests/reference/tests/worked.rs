@@ -47,7 +47,7 @@ fn a_worked_list_sees_a_wrong_row_or_figure() {
     let figures = complaints(|reply| reply.book.requests.clear());
     assert!(figures.len() == 2 && figures.iter().all(|text| text.contains("open requests")), "{figures:?}");
     let figures = complaints(|reply| reply.book.accounts.clear());
-    assert!(figures.len() == 8 && figures.iter().all(|text| text.contains("accounts: expected")), "{figures:?}");
+    assert!(figures.len() == 10 && figures.iter().all(|text| text.contains("accounts: expected")), "{figures:?}");
 }
 
 #[test]
@@ -59,7 +59,7 @@ fn a_worked_list_sees_a_wrong_mark_or_answer() {
     let figures = complaints(|reply| reply.book.day.cycles_run += 1);
     assert!(figures.iter().any(|text| text.contains("cycles run: expected")), "{figures:?}");
     let figures = complaints(|reply| reply.book.cash.clear());
-    assert!(figures.len() == 3 && figures.iter().all(|text| text.contains(": cash: expected")), "{figures:?}");
+    assert!(figures.len() == 4 && figures.iter().all(|text| text.contains(": cash: expected")), "{figures:?}");
 }
 
 /// What the lists of custody say of a book in which each security is changed

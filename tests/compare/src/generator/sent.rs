@@ -24,7 +24,7 @@ impl Desk<'_> {
     /// An order that touches a sent trade, or what is around it in the list.
     pub fn around_sent(&mut self) -> Option<Order> {
         match self.random.below(20) {
-            0..=10 => self.to_the_last_offered(),
+            0..=10 => self.all_that_is_offered(),
             11 | 12 => self.deposit_for_sent(),
             13..=15 => {
                 let order = self.cancel_of_sent(Order { form: 15, ..Order::default() });
@@ -36,7 +36,7 @@ impl Desk<'_> {
     }
 
     /// All that an account of a sent trade offers, or one share more.
-    fn to_the_last_offered(&mut self) -> Option<Order> {
+    fn all_that_is_offered(&mut self) -> Option<Order> {
         let trade = self.sent_trade()?;
         let from = if self.random.percent(60) { trade.debited_account() } else { trade.credited_account() };
         let more = u64::from(self.random.percent(40));

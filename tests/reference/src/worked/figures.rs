@@ -18,6 +18,8 @@ pub enum Figure {
     References(&'static [&'static [u64]]),
     /// All accounts: security, member, type, shareholder and balance.
     Accounts(&'static [(u64, u64, u64, u64, u64)]),
+    /// How many accounts there are.
+    AccountCount(usize),
     /// All cash: member, currency and amount.
     Cash(&'static [(u64, u64, u64)]),
     /// How many cycles have run today.
@@ -52,6 +54,7 @@ impl Figure {
                 same("references", &expected, &items.iter().map(references).collect())
             }
             Figure::Accounts(all) => same("accounts", &all.iter().copied().map(account).collect(), &book.accounts),
+            Figure::AccountCount(count) => same("count of accounts", count, &book.accounts.len()),
             Figure::Cash(all) => same("cash", &all.iter().copied().map(purse).collect(), &book.cash),
             Figure::Cycles(run) => same("cycles run", run, &book.day.cycles_run),
             Figure::Sent(sent) => same("a cycle is sent", sent, &book.day.sent),

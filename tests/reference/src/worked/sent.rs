@@ -19,6 +19,8 @@ pub fn lists() -> Vec<List> {
         List { name: "a cycle that fixes nothing", steps: nothing_fixed() },
         List { name: "the end of a Friday", steps: end_of_friday() },
         List { name: "places that move in between", steps: moving_places() },
+        List { name: "an account that is gone comes again", steps: gone_and_back() },
+        List { name: "sixty-four trades confirmed in a full book", steps: full_book() },
     ]
 }
 
@@ -195,6 +197,47 @@ fn moving_places() -> Vec<Step> {
         settled(answer(590, 1), 1),
         Step::Book(&[Accounts(&[(101, 6, 20, 5, 3), (101, 8, 20, 5, 10)]), Cash(&[(7, 1, 5)])]),
         Step::Book(&[Waiting(1), Sides(2)]),
+    ]);
+    steps
+}
+
+/// B has 10 shares, gets 100 and gives 60: it offers its 10, and without them
+/// it is no account until the confirmation brings 40.
+fn gone_and_back() -> Vec<Step> {
+    let mut steps = first_day();
+    steps.extend([deposit(540, 100, A), deposit(540, 10, B), moved(pay_in(540, 9, 50))]);
+    steps.extend(pair(100, 50, [A, B], 1));
+    steps.extend(pair(60, 50, [B, C], 2));
+    steps.extend([
+        accepted(form(16, 585)),
+        refused(withdrawal(586, 11, B), 16),
+        moved(withdrawal(586, 10, B)),
+        Step::Book(&[Accounts(&[(101, 7, 20, 5, 100)]), Marked(2), Held(101, 100), Outside(101, 900)]),
+        refused(withdrawal(587, 1, B), 16),
+        refused(withdrawal(587, 1, A), 16),
+        settled(answer(590, 1), 2),
+        Step::Book(&[Accounts(&[(101, 8, 20, 5, 40), (101, 9, 20, 5, 60)]), Cash(&[(7, 1, 50)])]),
+        moved(withdrawal(590, 40, B)),
+    ]);
+    steps
+}
+
+/// 192 accounts of two shares, and 64 trades, each of one share to a new
+/// account; every member pays 1 and is paid 1, and none has any.
+fn full_book() -> Vec<Step> {
+    let holder = |place: u64, member: u64| (1 + (place + member) % 64, 20, 1 + place);
+    let mut steps = first_day();
+    steps.extend((0..192).map(|place| deposit(540, 2, holder(place, 0))));
+    steps.extend((0..64).flat_map(|place| pair(1, 1, [holder(place, 0), holder(place, 1)], 1 + place)));
+    steps.extend([
+        accepted(form(16, 585)),
+        Step::Book(&[AccountCount(192), Waiting(64), Sides(128), Marked(64)]),
+        refused(credit((1, 20, 999), 1, form(3, 586)), 18),
+        refused(deliver(586, 1, 1, [A, B], 999), 18),
+        refused(debit(holder(0, 0), 2, form(4, 586)), 16),
+        settled(answer(587, 1), 64),
+        Step::Book(&[AccountCount(256), Waiting(0), Held(101, 384), Cash(&[])]),
+        refused(credit((1, 20, 999), 1, form(3, 588)), 18),
     ]);
     steps
 }
