@@ -12,7 +12,7 @@
  * other value and any length is answered.
  *
  * Every function answers 0 where it did what it is for. Otherwise it answers
- * a number, and every buffer is as it was: a refusal, 1 to 21, or one of
+ * a number, and every buffer is as it was: a refusal, 1 to 24, or one of
  * enum depository_wrong. Lengths are looked at before everything else, in the
  * order of that enum.
  */
@@ -32,10 +32,10 @@ extern "C" {
 #define DEPOSITORY_ROW_BYTES 16u
 #define DEPOSITORY_FIELD_WORDS 18u
 #define DEPOSITORY_COUNT_WORDS 6u
-#define DEPOSITORY_DAY_WORDS 5u
+#define DEPOSITORY_DAY_WORDS 6u
 #define DEPOSITORY_SIZE_WORDS 4u
 #define DEPOSITORY_SECURITY_WORDS 4u
-#define DEPOSITORY_ITEM_WORDS 17u
+#define DEPOSITORY_ITEM_WORDS 18u
 #define DEPOSITORY_REQUEST_WORDS 5u
 
 /* What is answered for a buffer whose length is not the one that its function
@@ -50,7 +50,9 @@ enum depository_wrong {
 
 /* Places in the counts of an accepted call. Settled, cancelled, deleted and
  * suspended count sides (a single instruction is one, a pair or an exchange
- * trade two); left counts the trades that a cycle dropped. */
+ * trade two); left counts the trades that a cycle dropped. What a cycle (form
+ * 16) sends is settled, with its rows, by the answer that confirms it (form
+ * 21 with quantity 1; quantity 2 declines it). */
 enum depository_count {
     DEPOSITORY_ROWS = 0,
     DEPOSITORY_SETTLED = 1,
@@ -82,13 +84,16 @@ enum depository_field {
     DEPOSITORY_EDITION = 17
 };
 
-/* Places in the values of depository_day; DEPOSITORY_DAY_OPEN is 1 or 0. */
+/* Places in the values of depository_day; DEPOSITORY_DAY_OPEN is 1 or 0.
+ * DEPOSITORY_DAY_SENT is 1 between a cycle and its answer, also where the
+ * cycle has fixed no item, else 0. */
 enum depository_day_value {
     DEPOSITORY_DAY_NUMBER = 0,
     DEPOSITORY_DAY_OPEN = 1,
     DEPOSITORY_DAY_KIND = 2,
     DEPOSITORY_DAY_CYCLES = 3,
-    DEPOSITORY_DAY_MINUTE = 4
+    DEPOSITORY_DAY_MINUTE = 4,
+    DEPOSITORY_DAY_SENT = 5
 };
 
 /* Places in the values of depository_sizes. */
@@ -109,7 +114,9 @@ enum depository_security_value {
 
 /* Places in the values of depository_item. The reference of a pair is its
  * deliver's; the second reference is a pair's receive's, else 0. The marks
- * are 1 where that half of a pair was cancelled, else 0. */
+ * are 1 where that half of a pair was cancelled, else 0. DEPOSITORY_ITEM_SENT
+ * is 1 where a sent cycle has fixed the item, a pair or an exchange trade: it
+ * waits until the cycle is answered, and cannot be cancelled; else 0. */
 enum depository_item_value {
     DEPOSITORY_ITEM_SECURITY = 0,
     DEPOSITORY_ITEM_CURRENCY = 1,
@@ -127,7 +134,8 @@ enum depository_item_value {
     DEPOSITORY_ITEM_REFERENCE = 13,
     DEPOSITORY_ITEM_SECOND_REFERENCE = 14,
     DEPOSITORY_ITEM_DELIVER_MARKED = 15,
-    DEPOSITORY_ITEM_RECEIVE_MARKED = 16
+    DEPOSITORY_ITEM_RECEIVE_MARKED = 16,
+    DEPOSITORY_ITEM_SENT = 17
 };
 
 /* The states of a waiting item. */
@@ -148,15 +156,15 @@ enum depository_request_value {
     DEPOSITORY_REQUEST_DAY = 4
 };
 
-/* Makes a fresh book, whatever the words held: day 0, closed, the rate
- * 150,750, nothing else. */
+/* Makes a fresh book, whatever the words held: day 0, closed, no cycle sent,
+ * the rate 150,750, nothing else. */
 uint64_t depository_fresh(uint64_t *book, size_t book_words);
 
 /* One call. Nothing is assumed of the record and of the area, neither of
  * their sizes nor of what they hold; `counts_words` is
  * DEPOSITORY_COUNT_WORDS. Answers 0 if the call is accepted: the book has
  * moved, the area begins with the rows and is the same behind them, and the
- * counts are those of the call. Refusals are 1 to 21. */
+ * counts are those of the call. Refusals are 1 to 24. */
 uint64_t depository_call(uint64_t *book, size_t book_words,
                          const uint8_t *record, size_t record_bytes,
                          uint8_t *area, size_t area_bytes,

@@ -35,6 +35,10 @@ static uint64_t call(uint64_t *book, const uint64_t *fields, uint64_t *counts) {
     return depository_call(book, DEPOSITORY_BOOK_WORDS, record, sizeof record, area, sizeof area, counts, DEPOSITORY_COUNT_WORDS);
 }
 
+/* A cycle at a minute, and its answer: 1 confirms it, 2 declines it. */
+#define A_CYCLE(minute) {[DEPOSITORY_FORM] = 16, [DEPOSITORY_MINUTE] = (minute)}
+#define AN_ANSWER(minute, quantity) {[DEPOSITORY_FORM] = 21, [DEPOSITORY_MINUTE] = (minute), [DEPOSITORY_QUANTITY] = (quantity)}
+
 /* The largest rate that a record can set. */
 #define WIDEST_RATE 1099511627775u
 

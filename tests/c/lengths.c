@@ -124,7 +124,7 @@ static uint8_t record[DEPOSITORY_RECORD_BYTES];
 
 /* Puts in what a function reads: a book, a record, an order's fields. A shorter buffer gets the first of it. */
 static void fill(struct lent *b) {
-    static const uint64_t cycle[DEPOSITORY_FIELD_WORDS] = {[DEPOSITORY_FORM] = 16, [DEPOSITORY_MINUTE] = 585};
+    static const uint64_t cycle[DEPOSITORY_FIELD_WORDS] = A_CYCLE(585);
     const struct { enum kind kind; const void *from; size_t bytes; } sources[] = {
         {BOOK, book, sizeof book}, {RECORD, record, sizeof record}, {FIELDS, cycle, sizeof cycle}};
     depository_write(cycle, DEPOSITORY_FIELD_WORDS, record, sizeof record);

@@ -15,7 +15,7 @@ static void tells(uint64_t number, const char *what, const uint64_t *expected, s
 
 static void reads_day_and_sizes(void) {
     const uint64_t day[DEPOSITORY_DAY_WORDS] = {[DEPOSITORY_DAY_NUMBER] = 1, [DEPOSITORY_DAY_OPEN] = 1, [DEPOSITORY_DAY_KIND] = 1,
-                                                [DEPOSITORY_DAY_CYCLES] = 0, [DEPOSITORY_DAY_MINUTE] = 518};
+                                                [DEPOSITORY_DAY_CYCLES] = 0, [DEPOSITORY_DAY_MINUTE] = 518, [DEPOSITORY_DAY_SENT] = 0};
     const uint64_t sizes[DEPOSITORY_SIZE_WORDS] = {
         [DEPOSITORY_SECURITIES] = 2, [DEPOSITORY_ACCOUNTS] = 2, [DEPOSITORY_ITEMS] = 3, [DEPOSITORY_REQUESTS] = 2};
     tells(depository_day(book, DEPOSITORY_BOOK_WORDS, values, DEPOSITORY_DAY_WORDS), "the day", day, DEPOSITORY_DAY_WORDS);
@@ -137,8 +137,8 @@ static void reads_requests(void) {
 /* Of a fresh book, and of the day after a request: it has ended, or it is still that of its day. */
 static void reads_ended_requests(void) {
     const uint64_t night[][DEPOSITORY_FIELD_WORDS] = {
-        {[DEPOSITORY_FORM] = 16, [DEPOSITORY_MINUTE] = 960}, {[DEPOSITORY_FORM] = 16, [DEPOSITORY_MINUTE] = 960},
-        {[DEPOSITORY_FORM] = 16, [DEPOSITORY_MINUTE] = 960}, {[DEPOSITORY_FORM] = 17, [DEPOSITORY_MINUTE] = 960},
+        A_CYCLE(960), AN_ANSWER(960, 1), A_CYCLE(960), AN_ANSWER(960, 2), A_CYCLE(960), AN_ANSWER(960, 1),
+        {[DEPOSITORY_FORM] = 17, [DEPOSITORY_MINUTE] = 960},
         {[DEPOSITORY_FORM] = 1, [DEPOSITORY_MINUTE] = 470, [DEPOSITORY_QUANTITY] = 2},
         {[DEPOSITORY_FORM] = 20, [DEPOSITORY_MINUTE] = 510, [DEPOSITORY_DEBITED_MEMBER] = 1, [DEPOSITORY_CREDITED_TYPE] = 110,
          [DEPOSITORY_REFERENCE] = 11}};
@@ -181,9 +181,12 @@ static const struct custody CUSTODY[] = {
     {{[DEPOSITORY_FORM] = 4, [DEPOSITORY_MINUTE] = 513, [DEPOSITORY_SECURITY] = 101, [DEPOSITORY_DEBITED_MEMBER] = 7,
       [DEPOSITORY_DEBITED_TYPE] = 20, [DEPOSITORY_DEBITED_SHAREHOLDER] = 5, [DEPOSITORY_QUANTITY] = 30},
      "CUSTODY 101 ISSUED 1000 HELD 370 OUTSIDE 630"},
-    {{[DEPOSITORY_FORM] = 16, [DEPOSITORY_MINUTE] = 960}, "CUSTODY 101 ISSUED 1000 HELD 370 OUTSIDE 630"},
-    {{[DEPOSITORY_FORM] = 16, [DEPOSITORY_MINUTE] = 960}, "CUSTODY 101 ISSUED 1000 HELD 370 OUTSIDE 630"},
-    {{[DEPOSITORY_FORM] = 16, [DEPOSITORY_MINUTE] = 960}, "CUSTODY 101 ISSUED 1000 HELD 370 OUTSIDE 630"},
+    {A_CYCLE(960), "CUSTODY 101 ISSUED 1000 HELD 370 OUTSIDE 630"},
+    {AN_ANSWER(960, 1), "CUSTODY 101 ISSUED 1000 HELD 370 OUTSIDE 630"},
+    {A_CYCLE(960), "CUSTODY 101 ISSUED 1000 HELD 370 OUTSIDE 630"},
+    {AN_ANSWER(960, 1), "CUSTODY 101 ISSUED 1000 HELD 370 OUTSIDE 630"},
+    {A_CYCLE(960), "CUSTODY 101 ISSUED 1000 HELD 370 OUTSIDE 630"},
+    {AN_ANSWER(960, 1), "CUSTODY 101 ISSUED 1000 HELD 370 OUTSIDE 630"},
     {{[DEPOSITORY_FORM] = 17, [DEPOSITORY_MINUTE] = 960}, "CUSTODY 101 ISSUED 1000 HELD 370 OUTSIDE 630"},
     {{[DEPOSITORY_FORM] = 1, [DEPOSITORY_MINUTE] = 470, [DEPOSITORY_QUANTITY] = 1}, "CUSTODY 101 ISSUED 1000 HELD 370 OUTSIDE 630"},
     {{[DEPOSITORY_FORM] = 20, [DEPOSITORY_MINUTE] = 510, [DEPOSITORY_DEBITED_MEMBER] = 7, [DEPOSITORY_CREDITED_TYPE] = 91,
@@ -210,9 +213,9 @@ static uint64_t item(size_t place) {
 }
 
 static void reads_items(void) {
-    const uint64_t trade[DEPOSITORY_ITEM_WORDS] = {101, 2, 1, 10, 77, 3, 20, 78, 5, 6, 1, 4, DEPOSITORY_EXCHANGE_TRADE, 12, 0, 0, 0};
-    const uint64_t pair[DEPOSITORY_ITEM_WORDS] = {101, 1, 1, 10, 77, 2, 20, 77, 30, 50, 1, 2, DEPOSITORY_PAIR, 11, 13, 0, 1};
-    const uint64_t receive[DEPOSITORY_ITEM_WORDS] = {102, 1, 5, 0, 79, 6, 110, 79, 1, 2, 1, 21, DEPOSITORY_RECEIVE, 14, 0, 0, 0};
+    const uint64_t trade[DEPOSITORY_ITEM_WORDS] = {101, 2, 1, 10, 77, 3, 20, 78, 5, 6, 1, 4, DEPOSITORY_EXCHANGE_TRADE, 12, 0, 0, 0, 0};
+    const uint64_t pair[DEPOSITORY_ITEM_WORDS] = {101, 1, 1, 10, 77, 2, 20, 77, 30, 50, 1, 2, DEPOSITORY_PAIR, 11, 13, 0, 1, 0};
+    const uint64_t receive[DEPOSITORY_ITEM_WORDS] = {102, 1, 5, 0, 79, 6, 110, 79, 1, 2, 1, 21, DEPOSITORY_RECEIVE, 14, 0, 0, 0, 0};
     tells(item(0), "an exchange trade", trade, DEPOSITORY_ITEM_WORDS);
     tells(item(1), "a pair, half cancelled", pair, DEPOSITORY_ITEM_WORDS);
     tells(item(2), "a receive", receive, DEPOSITORY_ITEM_WORDS);
@@ -221,9 +224,67 @@ static void reads_items(void) {
     check(memcmp(values, receive, sizeof receive) == 0, "no item", "leaves the values", 0);
 }
 
+/* The day's last value after a call, and that of the first item, a single, and of the second, a pair that is due and has shares and cash. */
+struct sent {
+    uint64_t order[DEPOSITORY_FIELD_WORDS];
+    uint64_t answer, day, single, pair;
+};
+
+/* The pair is sent, declined, sent again and confirmed; a cycle with nothing is sent too. What is refused leaves the marks. */
+static const struct sent SENT[] = {
+    {A_CYCLE(584), 9, 0, 0, 0},
+    {AN_ANSWER(585, 1), 23, 0, 0, 0},
+    {A_CYCLE(585), 0, 1, 0, 1},
+    {A_CYCLE(705), 22, 1, 0, 1},
+    {AN_ANSWER(586, 3), 5, 1, 0, 1},
+    {{[DEPOSITORY_FORM] = 15, [DEPOSITORY_MINUTE] = 586, [DEPOSITORY_DEBITED_MEMBER] = 1, [DEPOSITORY_REFERENCE] = 2}, 24, 1, 0, 1},
+    {AN_ANSWER(586, 2), 0, 0, 0, 0},
+    {A_CYCLE(705), 0, 1, 0, 1},
+    {AN_ANSWER(706, 1), 0, 0, 0, DEPOSITORY_NO_SUCH_PLACE},
+    {A_CYCLE(825), 0, 1, 0, DEPOSITORY_NO_SUCH_PLACE},
+    {AN_ANSWER(1439, 1), 0, 0, 0, DEPOSITORY_NO_SUCH_PLACE},
+};
+
+/* The instruction of a trade that settles on day 1. */
+static void instructs(uint64_t form, uint64_t reference, uint64_t amount) {
+    const uint64_t order[DEPOSITORY_FIELD_WORDS] = {
+        [DEPOSITORY_FORM] = form, [DEPOSITORY_MINUTE] = 520, [DEPOSITORY_SECURITY] = 101, [DEPOSITORY_CURRENCY] = 2,
+        [DEPOSITORY_DEBITED_MEMBER] = 1, [DEPOSITORY_DEBITED_TYPE] = form == 12 ? 10 : 0, [DEPOSITORY_DEBITED_SHAREHOLDER] = 77,
+        [DEPOSITORY_CREDITED_MEMBER] = 64, [DEPOSITORY_CREDITED_TYPE] = form == 13 ? 10 : 0, [DEPOSITORY_CREDITED_SHAREHOLDER] = 77,
+        [DEPOSITORY_QUANTITY] = 30, [DEPOSITORY_AMOUNT] = amount, [DEPOSITORY_TRADE_DAY] = 1, [DEPOSITORY_SETTLEMENT_DAY] = 1,
+        [DEPOSITORY_REFERENCE] = reference};
+    uint64_t counts[DEPOSITORY_COUNT_WORDS], number = call(book, order, counts);
+    check(number == 0, "an instruction", "answers", number);
+}
+
+/* The value of the item at a place that says whether it is sent, or the number that is answered. */
+static uint64_t sent_at(size_t place) {
+    uint64_t number = item(place);
+    return number == 0 ? values[DEPOSITORY_ITEM_SENT] : number;
+}
+
+static void reads_a_sent_cycle(void) {
+    uint64_t counts[DEPOSITORY_COUNT_WORDS];
+    depository_fresh(book, DEPOSITORY_BOOK_WORDS);
+    for (size_t i = 0; i < 5; i++) {
+        call(book, ORDERS[i], counts);
+    }
+    instructs(12, 1, 901);
+    instructs(12, 2, 900);
+    instructs(13, 3, 900);
+    for (size_t i = 0; i < sizeof SENT / sizeof SENT[0]; i++) {
+        uint64_t number = call(book, SENT[i].order, counts);
+        check(number == SENT[i].answer, "a cycle or its answer", "answers", number);
+        depository_day(book, DEPOSITORY_BOOK_WORDS, values, DEPOSITORY_DAY_WORDS);
+        check(values[DEPOSITORY_DAY_SENT] == SENT[i].day, "a cycle is sent after call", "", i);
+        check(sent_at(0) == SENT[i].single, "a single is sent after call", "", i);
+        check(sent_at(1) == SENT[i].pair, "a pair is sent after call", "", i);
+    }
+}
+
 /* A single deliver is told as one: the first six orders alone. */
 static void reads_a_deliver(void) {
-    const uint64_t deliver[DEPOSITORY_ITEM_WORDS] = {101, 1, 1, 10, 77, 2, 0, 77, 30, 50, 1, 2, DEPOSITORY_DELIVER, 11, 0, 0, 0};
+    const uint64_t deliver[DEPOSITORY_ITEM_WORDS] = {101, 1, 1, 10, 77, 2, 0, 77, 30, 50, 1, 2, DEPOSITORY_DELIVER, 11, 0, 0, 0, 0};
     uint64_t counts[DEPOSITORY_COUNT_WORDS];
     depository_fresh(book, DEPOSITORY_BOOK_WORDS);
     for (size_t i = 0; i < 6; i++) {
@@ -242,6 +303,7 @@ int main(void) {
     reads_the_rate();
     reads_ended_requests();
     prints_custody_lines();
+    reads_a_sent_cycle();
     reads_a_deliver();
     return close_checks();
 }

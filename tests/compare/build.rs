@@ -6,9 +6,11 @@ use std::path::{Path, PathBuf};
 use std::process::Command;
 
 /// All of the library that this program calls.
-const FUNCTIONS: [&str; 9] = [
+const FUNCTIONS: [&str; 11] = [
     "depository_fresh",
     "depository_call",
+    "depository_day",
+    "depository_item",
     "depository_rate",
     "depository_sizes",
     "depository_security",

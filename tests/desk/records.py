@@ -2,7 +2,7 @@
 """Writes record files for the printing program, and what it is to print of them.
 
     records.py example         the records of RULES 13.7
-    records.py every           every form accepted, and every refusal from 2 to 21
+    records.py every           every form accepted, and every refusal from 2 to 24
     records.py example printed what the program prints of them
     records.py every printed
 
@@ -93,6 +93,11 @@ def cycle(minute):
     return record(form=16, minute=minute)
 
 
+def answer(minute, quantity, **more):
+    """Confirms the cycle that is sent (1), or declines it (2)."""
+    return record(form=21, minute=minute, quantity=quantity, **more)
+
+
 def close(minute):
     return record(form=17, minute=minute)
 
@@ -126,12 +131,13 @@ def day_and_reading():
         (set_rate(480, 150_000), 6, 0),
         (request(540, 1, holder, 1), 6, 0),
         (end_request(540, 7, 120, 1), 6, 0),
+        (answer(590, 1), 6, 0),
         (open_day(481, 1), 9, 0),  # form 1 has until 480
         (open_day(470, 3), 5, 0),  # there is no day kind 3
         (open_day(470, 1), 0, 0),
         (open_day(471, 1), 6, 0),  # a day is open
         (record(form=0, minute=480), 3, 0),
-        (record(form=21, minute=480), 3, 0),
+        (record(form=22, minute=480), 3, 0),
         (deposit(540, 101, 400, holder, reference=1), 4, 0),  # a deposit has no reference
         (request(540, 0, holder, 1, credited_type=50), 4, 0),  # where requests lead is not said
         (end_request(540, 7, 120, 0, quantity=1), 4, 0),  # nor how much an ending moves
@@ -140,6 +146,9 @@ def day_and_reading():
         (request(540, 0, holder, 1), 5, 0),
         (end_request(540, 7, 120, 0), 5, 0),
         (cycle(1440), 5, 0),  # the day has 1,440 minutes
+        (answer(590, 0), 5, 0),
+        (answer(590, 3), 5, 0),  # 1 confirms, 2 declines
+        (answer(590, 3, security=101), 4, 0),
         (set_rate(480, 0), 5, 0),
         (set_rate(480, 0, amount=1), 4, 0),  # a rate has no amount
         (set_rate(469, 150_000), 8, 0),  # the day was opened at 470
@@ -149,6 +158,7 @@ def day_and_reading():
         (request(509, 1, holder, 1), 9, 0),  # requests and endings from 510
         (end_request(509, 7, 120, 1), 9, 0),
         (close(500), 7, 0),  # no cycle has run
+        (answer(400, 1), 23, 0),  # and none is sent
     ]
 
 
@@ -200,11 +210,39 @@ def trades():
         (exchange(567, 5, 5_000, 41), 0, 0),
         (exchange(567, 5, 5_000, 42, days=(1, 5)), 13, 0),  # not trade day + 3
         (cycle(584), 9, 0),
-        (cycle(585), 0, 4),  # 33 and 34 settle
-        (cycle(705), 0, 0),
-        (cycle(825), 0, 0),
-        (deliver(826, 10, 10_000, 36), 9, 0),  # to settle today: until 825
+        (cycle(585), 0, 0),  # 33 and 34 are sent
+        *between_cycle_and_answer(),
+        (answer(590, 2), 0, 0),  # declined, 33 and 34 wait
+        (answer(590, 1), 23, 0),
+        (cycle(705), 0, 0),  # sent again
+        (answer(706, 1), 0, 4),  # 33 and 34 settle
+        (cycle(825), 0, 0),  # nothing is due, and it is sent too
         (cycle(826), 7, 0),  # three have run
+        (close(960), 22, 0),
+        (answer(825, 1), 0, 0),
+        (deliver(826, 10, 10_000, 36), 9, 0),  # to settle today: until 825
+        (cycle(826), 7, 0),
+    ]
+
+
+def between_cycle_and_answer():
+    """Member 7 has 220 shares in 7/20/5 and gives 60: it offers 160."""
+    holder, other = (7, 20, 5), (7, 10, 5)
+    return [
+        (pay_in(100, 8, 1), 22, 0),  # at any minute
+        (pay_out(586, 8, 1), 22, 0),
+        (cycle(705), 22, 0),
+        (close(960), 7, 0),  # two are still to run
+        (withdraw(586, 101, 161, holder), 16, 0),
+        (move(5, 586, 160, holder, other), 0, 2),
+        (request(586, 1, holder, 1), 16, 0),  # 60 are left, and go
+        (move(5, 587, 160, other, holder), 0, 2),
+        (cancel(587, 7, 33), 24, 0),  # sent
+        (cancel(587, 8, 34), 24, 0),
+        (cancel(587, 7, 35), 15, 0),  # a single
+        (deliver(587, 1, 1_000, 33), 14, 0),  # 33 still waits
+        (answer(586, 1), 8, 0),
+        (answer(961, 1), 9, 0),  # two are still to run
     ]
 
 
@@ -317,10 +355,15 @@ def last_days():
         (receive(480, 1, 3_001_020, 62, **terms), 0, 0),  # pairs, as the rate outlasts the night
         *paper_in_full_book(),
         (cycle(585), 0, 0),
+        (answer(901, 1), 9, 0),  # on a Friday until 900
+        (answer(585, 1), 0, 0),
         (cycle(705), 0, 0),
         (set_rate(901, 150_000), 9, 0),  # on a Friday until 900
         (set_rate(900, MOST), 0, 0),
-        (close(900), 0, 0),
+        (close(900), 22, 0),
+        (answer(1_200, 2), 0, 0),  # both have run
+        (set_rate(1_199, 1), 8, 0),
+        (close(1_200), 0, 0),
         (open_day(470, 1), 0, 0),
         (end_request(510, 7, 91, 36), 0, 2),  # 3 leave, as its second request says
         (end_request(510, 7, 91, 36), 19, 0),

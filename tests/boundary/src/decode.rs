@@ -25,7 +25,8 @@ pub fn decode(words: &[u64]) -> Result<Book, String> {
 
 fn day(words: &[u64]) -> Result<Day, String> {
     let open = flag(words[1], "the day's open word")?;
-    Ok(Day { number: words[0], open, kind: words[2], cycles_run: words[3], last_minute: words[4] })
+    let sent = flag(words[5], "the day's sent word")?;
+    Ok(Day { number: words[0], open, kind: words[2], cycles_run: words[3], last_minute: words[4], sent })
 }
 
 fn flag(word: u64, name: &str) -> Result<bool, String> {
@@ -87,7 +88,7 @@ fn waiting(words: &[u64]) -> Result<Vec<Item>, String> {
 fn item(words: &[u64]) -> Result<Item, String> {
     let side =
         |start: usize| Side { member: words[start], account_type: words[start + 1], shareholder: words[start + 2] };
-    Ok(Item {
+    let item = Item {
         security: words[0],
         currency: words[1],
         deliverer: side(2),
@@ -96,17 +97,19 @@ fn item(words: &[u64]) -> Result<Item, String> {
         amount: words[9],
         trade_day: words[10],
         settlement_day: words[11],
-        state: state(words[12], words[13], words[14], words[15])?,
-    })
+        state: state(words[12], words[13], words[14], words[15] & !SENT_MARK)?,
+        sent: words[15] & SENT_MARK != 0,
+    };
+    if item.sent && item.is_single() { Err("a single is sent".to_string()) } else { Ok(item) }
 }
 
 fn state(state: u64, first: u64, second: u64, marks: u64) -> Result<State, String> {
     match (state, second, marks) {
-        (SINGLE, 0, 1) => Ok(State::Deliver { reference: first }),
+        (SINGLE, 0, DELIVER_MARK) => Ok(State::Deliver { reference: first }),
         (SINGLE, 0, 0) => Ok(State::Receive { reference: first }),
         (PAIR, _, 0..=3) => Ok(State::Pair {
-            deliver: Half { reference: first, marked: marks & 1 == 1 },
-            receive: Half { reference: second, marked: marks & 2 == 2 },
+            deliver: Half { reference: first, marked: marks & DELIVER_MARK != 0 },
+            receive: Half { reference: second, marked: marks & RECEIVE_MARK != 0 },
         }),
         (EXCHANGE_TRADE, 0, 0) => Ok(State::ExchangeTrade { reference: first }),
         _ => Err(format!("an item has state {state}, second reference {second}, marks {marks}")),

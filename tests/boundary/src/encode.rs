@@ -8,7 +8,7 @@ use crate::*;
 pub fn encode(book: &Book, words: &mut [u64]) {
     assert_eq!(words.len(), BOOK_WORDS);
     let day = &book.day;
-    let day_words = [day.number, u64::from(day.open), day.kind, day.cycles_run, day.last_minute];
+    let day_words = [day.number, u64::from(day.open), day.kind, day.cycles_run, day.last_minute, u64::from(day.sent)];
     words[DAY..DAY + day_words.len()].copy_from_slice(&day_words);
     securities(book, &mut words[SECURITIES..ACCOUNTS]);
     accounts(book, &mut words[ACCOUNTS..CASH]);
@@ -56,10 +56,10 @@ fn waiting(book: &Book, words: &mut [u64]) {
 
 fn item_words(item: &Item) -> [u64; ITEM_WORDS] {
     let (state, first, second, marks) = match item.state {
-        State::Deliver { reference } => (SINGLE, reference, 0, 1),
+        State::Deliver { reference } => (SINGLE, reference, 0, DELIVER_MARK),
         State::Receive { reference } => (SINGLE, reference, 0, 0),
         State::Pair { deliver, receive } => {
-            let marks = u64::from(deliver.marked) + 2 * u64::from(receive.marked);
+            let marks = mark(deliver.marked, DELIVER_MARK) + mark(receive.marked, RECEIVE_MARK);
             (PAIR, deliver.reference, receive.reference, marks)
         }
         State::ExchangeTrade { reference } => (EXCHANGE_TRADE, reference, 0, 0),
@@ -80,8 +80,12 @@ fn item_words(item: &Item) -> [u64; ITEM_WORDS] {
         state,
         first,
         second,
-        marks,
+        marks + mark(item.sent, SENT_MARK),
     ]
+}
+
+fn mark(holds: bool, mark: u64) -> u64 {
+    if holds { mark } else { 0 }
 }
 
 fn requests(book: &Book, words: &mut [u64]) {

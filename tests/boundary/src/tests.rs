@@ -1,6 +1,6 @@
 //! The layout, and words that no book has.
 
-use reference::book::{Book, Request, RequestName, Security};
+use reference::book::{Book, Half, Item, Request, RequestName, Security, Side, State};
 
 use super::*;
 
@@ -53,6 +53,93 @@ fn thirty_two_securities_have_room() {
     let words = words_of(&book);
     assert_eq!((words[40], words[72], words[104], words[136]), (32, 32_000, 28_800, 3_200));
     assert_eq!((words[137], decode(&words)), (0, Ok(book)), "no account");
+}
+
+#[test]
+fn a_sent_cycle_is_a_word_of_the_day() {
+    let mut book = Book::fresh();
+    (book.day.number, book.day.open, book.day.kind, book.day.cycles_run) = (3, true, 2, 1);
+    (book.day.last_minute, book.day.sent) = (585, true);
+    let words = words_of(&book);
+    assert_eq!(words[..8], [3, 1, 2, 1, 585, 1, u64::MAX, u64::MAX], "free words are kept");
+    assert_eq!(day_told(&book), [3, 1, 2, 1, 585, 1]);
+    assert_eq!(decode(&words), Ok(book));
+    assert_eq!(day_told(&Book::fresh()), [0; DAY_WORDS]);
+    assert!(decode(&words_with(5, 2)).is_err_and(|text| text.contains("sent")));
+}
+
+fn item(state: State, sent: bool) -> Item {
+    let side = |member, account_type| Side { member, account_type, shareholder: 5 };
+    Item {
+        security: 101,
+        currency: 2,
+        deliverer: side(7, 20),
+        receiver: side(8, 10),
+        quantity: 60,
+        amount: 100,
+        trade_day: 1,
+        settlement_day: 4,
+        state,
+        sent,
+    }
+}
+
+fn pair(deliver_marked: bool, receive_marked: bool) -> State {
+    let half = |reference, marked| Half { reference, marked };
+    State::Pair { deliver: half(1, deliver_marked), receive: half(1_001, receive_marked) }
+}
+
+fn waiting(items: &[Item]) -> Book {
+    Book { waiting: items.to_vec(), ..Book::fresh() }
+}
+
+/// The last four words of an item: state, references, marks.
+fn last_words(state: State, sent: bool) -> [u64; 4] {
+    let book = waiting(&[item(state, sent)]);
+    let words = words_of(&book);
+    assert_eq!(decode(&words), Ok(book));
+    words[WAITING + 13..WAITING + 17].try_into().expect("four words")
+}
+
+#[test]
+fn the_mark_of_a_sent_cycle_stands_beside_those_of_a_cancel() {
+    for (sent, mark) in [(false, 0), (true, 4)] {
+        assert_eq!(last_words(pair(false, false), sent), [1, 1, 1_001, mark]);
+        assert_eq!(last_words(pair(true, false), sent), [1, 1, 1_001, mark + 1]);
+        assert_eq!(last_words(pair(false, true), sent), [1, 1, 1_001, mark + 2]);
+        assert_eq!(last_words(State::ExchangeTrade { reference: 9 }, sent), [2, 9, 0, mark]);
+    }
+    assert_eq!(last_words(State::Deliver { reference: 9 }, false), [0, 9, 0, 1]);
+    assert_eq!(last_words(State::Receive { reference: 9 }, false), [0, 9, 0, 0]);
+}
+
+#[test]
+fn marks_that_no_item_has() {
+    let marks = |state: State, marks: u64| {
+        let mut words = words_of(&waiting(&[item(state, false)]));
+        words[WAITING + 16] = marks;
+        decode(&words)
+    };
+    let trade = State::ExchangeTrade { reference: 9 };
+    for wrong in [1, 2, 3, 5, 6, 7, 8, 12, u64::MAX] {
+        assert!(marks(trade, wrong).is_err(), "{wrong}");
+    }
+    for wrong in [8, 12, u64::MAX] {
+        assert!(marks(pair(false, false), wrong).is_err(), "{wrong}");
+    }
+    for wrong in [2, 3, 4, 5, 6, 7] {
+        assert!(marks(State::Deliver { reference: 9 }, wrong).is_err(), "{wrong}");
+    }
+}
+
+#[test]
+fn an_item_is_told_with_its_marks() {
+    let book = waiting(&[item(pair(true, false), true), item(State::Receive { reference: 9 }, false)]);
+    let terms = [101, 2, 7, 20, 5, 8, 10, 5, 60, 100, 1, 4];
+    let told = |place: usize| item_told(&book, place).expect("an item");
+    assert_eq!((&told(0)[..12], &told(0)[12..]), (&terms[..], &[3, 1, 1_001, 1, 0, 1][..]));
+    assert_eq!((&told(1)[..12], &told(1)[12..]), (&terms[..], &[2, 9, 0, 0, 0, 0][..]));
+    assert_eq!(item_told(&book, 2), None);
 }
 
 #[test]

@@ -2,7 +2,10 @@
 
 use std::borrow::Cow;
 
-use boundary::{REQUEST_WORDS, SECURITY_WORDS, SIZE_WORDS, request_told, security_told, sizes_told};
+use boundary::{
+    DAY_WORDS, ITEM_TOLD_WORDS, REQUEST_WORDS, SECURITY_WORDS, SIZE_WORDS, day_told, item_told, request_told,
+    security_told, sizes_told,
+};
 use reference::book::Book;
 use reference::call::Answer;
 use reference::record::{self, Fields};
@@ -14,6 +17,8 @@ pub trait Depository: Clone {
 
     fn fresh() -> Self;
     fn call(&mut self, record: &[u8], area: &mut [u8]) -> Result<Answer, String>;
+    /// Number, open, kind, cycles run, last minute, and whether a cycle is sent.
+    fn day(&self) -> [u64; DAY_WORDS];
     fn rate(&self) -> u64;
     /// Securities, accounts, items and open requests.
     fn sizes(&self) -> [u64; SIZE_WORDS];
@@ -21,6 +26,8 @@ pub trait Depository: Clone {
     /// one.
     fn security(&self, place: usize) -> Option<[u64; SECURITY_WORDS]>;
     fn held(&self, security: u64) -> u64;
+    /// The waiting item at a place, if there is one.
+    fn item(&self, place: usize) -> Option<[u64; ITEM_TOLD_WORDS]>;
     /// Security, type, shareholder, quantity and day of an open request.
     fn request(&self, member: u64, reference: u64) -> [u64; REQUEST_WORDS];
     fn book(&self) -> Result<Cow<'_, Book>, String>;
@@ -41,6 +48,10 @@ impl Depository for Book {
         Ok(Book::call(self, record, area))
     }
 
+    fn day(&self) -> [u64; DAY_WORDS] {
+        day_told(self)
+    }
+
     fn rate(&self) -> u64 {
         self.rate
     }
@@ -55,6 +66,10 @@ impl Depository for Book {
 
     fn held(&self, security: u64) -> u64 {
         Book::held(self, security)
+    }
+
+    fn item(&self, place: usize) -> Option<[u64; ITEM_TOLD_WORDS]> {
+        item_told(self, place)
     }
 
     fn request(&self, member: u64, reference: u64) -> [u64; REQUEST_WORDS] {

@@ -3,7 +3,10 @@
 
 use std::borrow::Cow;
 
-use boundary::{BOOK_WORDS, COUNT_WORDS, NO_SUCH_PLACE, REQUEST_WORDS, SECURITY_WORDS, SIZE_WORDS, WRONG_BOOK, decode};
+use boundary::{
+    BOOK_WORDS, COUNT_WORDS, DAY_WORDS, ITEM_TOLD_WORDS, NO_SUCH_PLACE, REQUEST_WORDS, SECURITY_WORDS, SIZE_WORDS,
+    WRONG_BOOK, decode,
+};
 use reference::book::{Book, FIRST_RATE};
 use reference::call::{Answer, Counts};
 use reference::record::{FIELD_COUNT, Fields};
@@ -22,6 +25,8 @@ unsafe extern "C" {
         counts: *mut u64,
         counts_words: usize,
     ) -> u64;
+    fn depository_day(book: *const u64, words: usize, values: *mut u64, values_words: usize) -> u64;
+    fn depository_item(book: *const u64, words: usize, place: usize, values: *mut u64, values_words: usize) -> u64;
     fn depository_rate(book: *const u64, words: usize, values: *mut u64, values_words: usize) -> u64;
     fn depository_sizes(book: *const u64, words: usize, values: *mut u64, values_words: usize) -> u64;
     fn depository_security(book: *const u64, words: usize, place: usize, values: *mut u64, values_words: usize) -> u64;
@@ -81,6 +86,14 @@ impl Depository for Proved {
         Ok(Answer::Refused(number))
     }
 
+    fn day(&self) -> [u64; DAY_WORDS] {
+        let mut values = [UNTOUCHED; DAY_WORDS];
+        // SAFETY: as in `call`.
+        let number = unsafe { depository_day(self.words.as_ptr(), BOOK_WORDS, values.as_mut_ptr(), DAY_WORDS) };
+        assert_eq!(number, 0, "a book of the right length is read");
+        values
+    }
+
     fn rate(&self) -> u64 {
         let mut rate = [UNTOUCHED];
         // SAFETY: as in `call`.
@@ -102,12 +115,15 @@ impl Depository for Proved {
         let words = self.words.as_ptr();
         // SAFETY: as in `call`.
         let number = unsafe { depository_security(words, BOOK_WORDS, place, values.as_mut_ptr(), SECURITY_WORDS) };
-        if number == NO_SUCH_PLACE {
-            assert_eq!(values, [UNTOUCHED; SECURITY_WORDS], "no such place leaves the values");
-            return None;
-        }
-        assert_eq!(number, 0, "a book of the right length is read");
-        Some(values)
+        of_place(number, values)
+    }
+
+    fn item(&self, place: usize) -> Option<[u64; ITEM_TOLD_WORDS]> {
+        let mut values = [UNTOUCHED; ITEM_TOLD_WORDS];
+        let words = self.words.as_ptr();
+        // SAFETY: as in `call`.
+        let number = unsafe { depository_item(words, BOOK_WORDS, place, values.as_mut_ptr(), ITEM_TOLD_WORDS) };
+        of_place(number, values)
     }
 
     fn held(&self, security: u64) -> u64 {
@@ -159,12 +175,24 @@ impl Depository for Proved {
             ("no fresh book in one word less", keeps_wrong_length(BOOK_WORDS - 1)),
             ("no fresh book in one word more", keeps_wrong_length(BOOK_WORDS + 1)),
             ("a fresh book over any words", Proved::fresh().book().is_ok_and(|book| *book == Book::fresh())),
+            ("the day of a fresh book is told", Proved::fresh().day() == [0; DAY_WORDS]),
             ("the rate of a fresh book is told", Proved::fresh().rate() == FIRST_RATE),
             ("the sizes of a fresh book are told", Proved::fresh().sizes() == [0; SIZE_WORDS]),
             ("no security of a fresh book is told", Proved::fresh().security(0).is_none()),
+            ("no item of a fresh book is told", Proved::fresh().item(0).is_none()),
             ("no request of a fresh book is told", Proved::fresh().request(1, 1) == [0; REQUEST_WORDS]),
         ]
     }
+}
+
+/// What was told of a place, if it is not behind the last.
+fn of_place<const WORDS: usize>(number: u64, values: [u64; WORDS]) -> Option<[u64; WORDS]> {
+    if number == NO_SUCH_PLACE {
+        assert_eq!(values, [UNTOUCHED; WORDS], "no such place leaves the values");
+        return None;
+    }
+    assert_eq!(number, 0, "a book of the right length is read");
+    Some(values)
 }
 
 fn fresh_in(words: &mut [u64]) -> u64 {

@@ -3,6 +3,7 @@
 use reference::book::Book;
 use reference::call::{AREA_BYTES, Answer};
 use reference::record::{Order, RECORD_BYTES, pack};
+use reference::sent::{CONFIRMED, trades};
 use reference::windows::next_cycle_minute;
 
 use crate::generator::Generator;
@@ -26,7 +27,10 @@ pub fn streams() -> Vec<Stream> {
         busy_mix(),
         full_book(),
         full_cycle("cycle, 64 trades dropped one by one", false),
-        full_cycle("cycle, 64 trades settled", true),
+        full_cycle("cycle, 64 trades sent", true),
+        full_answer("answer, 64 trades confirmed", 1),
+        full_answer("answer, 64 trades declined", 2),
+        while_sent(),
         unreadable_records(),
         refused_orders(),
     ]
@@ -38,6 +42,10 @@ fn record(order: Order) -> Record {
 
 fn form(form: u64, minute: u64) -> Order {
     Order { form, minute, ..Order::default() }
+}
+
+fn answer(minute: u64, quantity: u64) -> Order {
+    Order { quantity, ..form(21, minute) }
 }
 
 /// Makes calls that must be accepted.
@@ -116,6 +124,42 @@ fn full_book() -> Stream {
 
 /// 64 due exchange trades, and 190 accounts besides.
 fn full_cycle(name: &'static str, settles: bool) -> Stream {
+    let (before, mut book) = due_trades(settles);
+    let cycle = record(form(16, 585));
+    let sent = if settles { 64 } else { 0 };
+    let answer = book.call(&cycle, &mut [0; AREA_BYTES]);
+    assert!(matches!(answer, Answer::Accepted(counts) if counts.left == 64 - sent));
+    assert_eq!(trades(&book).len() as u64, sent);
+    Stream { name, before, timed: vec![cycle], repeats: 200 }
+}
+
+/// The answer of a cycle that has sent 64 trades.
+fn full_answer(name: &'static str, quantity: u64) -> Stream {
+    let (mut before, mut book) = due_trades(true);
+    before.push(record(form(16, 585)));
+    accept(&mut book, &before[before.len() - 1..]);
+    let answered = record(answer(585, quantity));
+    let rows = if quantity == CONFIRMED { 256 } else { 0 };
+    let answer = book.call(&answered, &mut [0; AREA_BYTES]);
+    assert!(matches!(answer, Answer::Accepted(counts) if counts.rows == rows));
+    Stream { name, before, timed: vec![answered], repeats: 200 }
+}
+
+/// Transfers between a cycle of 64 trades and its answer: each looks at what
+/// the trades take from its account.
+fn while_sent() -> Stream {
+    let (mut before, mut book) = due_trades(true);
+    before.push(record(form(16, 585)));
+    accept(&mut book, &before[before.len() - 1..]);
+    let moved = |place, from, to| record(Order { settlement_day: 4, minute: 585, ..transfer(place, from, to, 7) });
+    let places = (0..5_000).map(|round| 1000 + round * 37 % 190);
+    let timed: Vec<Record> = places.flat_map(|place| [moved(place, 20, 10), moved(place, 10, 20)]).collect();
+    accept(&mut book, &timed);
+    Stream { name: "transfers while 64 trades are sent", before, timed, repeats: 1 }
+}
+
+/// The calls before the first cycle of day 4, and the book after them.
+fn due_trades(settles: bool) -> (Vec<Record>, Book) {
     let mut before = first_day();
     before.extend((0..190).map(|place| deposit(1000 + place, 20, 1000)));
     before.extend((0..64).map(|place| record(trade(place, settles))));
@@ -124,17 +168,14 @@ fn full_cycle(name: &'static str, settles: bool) -> Stream {
     while book.day.number < 4 {
         let next = match next_cycle_minute(&book.day) {
             _ if !book.day.open => first_day()[0],
+            _ if book.day.sent => record(answer(book.day.last_minute, CONFIRMED)),
             Some(minute) => record(form(16, minute)),
             None => record(form(17, 960)),
         };
         accept(&mut book, &[next]);
         before.push(next);
     }
-    let cycle = record(form(16, 585));
-    let answer = book.call(&cycle, &mut [0; AREA_BYTES]);
-    let rows = if settles { 256 } else { 0 };
-    assert!(matches!(answer, Answer::Accepted(counts) if counts.rows == rows && counts.left == 64 - rows / 4));
-    Stream { name, before, timed: vec![cycle], repeats: 200 }
+    (before, book)
 }
 
 /// Forth and back between couples of empty accounts, which settles; or a

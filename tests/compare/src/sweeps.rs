@@ -32,6 +32,11 @@ fn form(form: u64, minute: u64) -> Order {
     Order { form, minute, ..Order::default() }
 }
 
+/// A confirmation of the cycle that is sent.
+fn answer(minute: u64) -> Order {
+    Order { quantity: 1, ..form(21, minute) }
+}
+
 /// Every type of each form; the forms whose allowed values are as many as
 /// the paper's.
 pub fn types<D: Depository>() -> Result<Vec<(u64, bool)>, String> {
@@ -92,11 +97,23 @@ enum Window {
     /// None while a day is open.
     Opening,
     Working,
+    /// The same for cash, which waits while a cycle is sent.
+    Cash,
     Custody,
     /// Instructions that settle today.
     SameDay,
     Cycle,
+    /// Of the cycle that is sent.
+    Answer,
     Close,
+}
+
+/// A state of an open day.
+#[derive(Clone, Copy)]
+struct State {
+    cycles_run: usize,
+    /// The last of them has no answer yet.
+    sent: bool,
 }
 
 /// The minutes of a kind of day, as the paper has them.
@@ -114,25 +131,38 @@ const MONDAY: Minutes = Minutes { working: 960, custody: 870, same_day: 825, cyc
 const FRIDAY: Minutes = Minutes { working: 900, custody: 750, same_day: 705, cycles: &[585, 705] };
 
 impl Minutes {
-    /// First and last minute of a window after so many cycles.
-    fn of(&self, window: Window, cycles_run: usize) -> Option<(u64, u64)> {
+    /// First and last minute of a window in a state of the day.
+    fn of(&self, window: Window, state: State) -> Option<(u64, u64)> {
+        let all_run = state.cycles_run == self.cycles.len();
         match window {
             Window::Opening => None,
-            Window::Working => Some((480, self.working)),
+            Window::Cash | Window::Cycle | Window::Close if state.sent => None,
+            Window::Answer if !state.sent => None,
+            Window::Working | Window::Cash => Some((480, self.working)),
             Window::Custody => Some((510, self.custody)),
             Window::SameDay => Some((480, self.same_day)),
-            Window::Cycle => self.cycles.get(cycles_run).map(|minute| (*minute, self.working)),
-            Window::Close => (cycles_run == self.cycles.len()).then_some((self.working, 1439)),
+            Window::Cycle => self.cycles.get(state.cycles_run).map(|minute| (*minute, self.working)),
+            Window::Answer => Some((480, if all_run { 1439 } else { self.working })),
+            Window::Close => all_run.then_some((self.working, 1439)),
         }
     }
 
+    /// The states of a day in turn.
+    fn states(&self) -> Vec<State> {
+        let mut states = vec![State { cycles_run: 0, sent: false }];
+        for cycles_run in 1..=self.cycles.len() {
+            states.extend([true, false].map(|sent| State { cycles_run, sent }));
+        }
+        states
+    }
+
     /// The minutes allowed to all orders, summed over the states of the day;
-    /// each cycle runs in its first minute.
+    /// each cycle is sent and answered in its first minute.
     fn allowed(&self) -> u64 {
         let mut sum = 0;
-        for cycles_run in 0..=self.cycles.len() {
-            let past = if cycles_run == 0 { 0 } else { self.cycles[cycles_run - 1] };
-            let windows = good_orders().into_iter().filter_map(|(window, _)| self.of(window, cycles_run));
+        for state in self.states() {
+            let past = if state.cycles_run == 0 { 0 } else { self.cycles[state.cycles_run - 1] };
+            let windows = good_orders().into_iter().filter_map(|(window, _)| self.of(window, state));
             sum += windows.map(|(first, last)| (last + 1).saturating_sub(first.max(past))).sum::<u64>();
         }
         sum
@@ -163,16 +193,19 @@ pub fn minutes<D: Depository>() -> Result<u64, String> {
     for kind in [1, 2] {
         let mut open = closed.clone();
         accepted(&mut open, Order { quantity: kind, ..form(1, 0) })?;
-        for cycles_run in 0..=cycle_minutes(kind).len() {
-            for (_, order) in good_orders() {
-                count += every_minute(&open, &order)?;
-            }
-            if let Some(minute) = cycle_minutes(kind).get(cycles_run) {
-                accepted(&mut open, form(16, *minute))?;
+        count += every_order(&open)?;
+        for minute in cycle_minutes(kind) {
+            for order in [form(16, *minute), answer(*minute)] {
+                accepted(&mut open, order)?;
+                count += every_order(&open)?;
             }
         }
     }
     Ok(count)
+}
+
+fn every_order<D: Depository>(before: &Sides<D>) -> Result<u64, String> {
+    good_orders().iter().map(|(_, order)| every_minute(before, order)).sum()
 }
 
 fn every_minute<D: Depository>(before: &Sides<D>, order: &Order) -> Result<u64, String> {
@@ -228,6 +261,7 @@ fn prepared_day<D: Depository>() -> Result<Sides<D>, String> {
     }
     for minute in cycle_minutes(1) {
         accepted(&mut sides, form(16, *minute))?;
+        accepted(&mut sides, answer(*minute))?;
     }
     accepted(&mut sides, form(17, 960))?;
     Ok(sides)
@@ -246,12 +280,14 @@ fn good_orders() -> Vec<(Window, Order)> {
         (Custody, typed(7, 21, 20)),
         (Custody, typed(8, 20, 22)),
         (Custody, typed(9, 22, 20)),
-        (Working, Order { currency: 2, credited_member: 7, amount: 1, ..form(10, 0) }),
-        (Working, Order { currency: 1, debited_member: 7, amount: 1, ..form(11, 0) }),
+        (Cash, Order { currency: 2, credited_member: 7, amount: 1, ..form(10, 0) }),
+        (Cash, Order { currency: 1, debited_member: 7, amount: 1, ..form(11, 0) }),
         (Working, Order { debited_member: 7, reference: 1, ..form(15, 0) }),
         (Cycle, form(16, 0)),
         (Close, form(17, 0)),
         (Working, Order { quantity: 1, ..form(18, 0) }),
+        (Answer, answer(0)),
+        (Answer, Order { quantity: 2, ..answer(0) }),
     ];
     orders.extend(good_trades());
     orders.extend(good_requests().map(|order| (Custody, order)));

@@ -3,16 +3,18 @@
 
 use std::fmt::Debug;
 
-use boundary::{REQUEST_WORDS, request_told, security_told, sizes_told};
-use reference::book::{Book, MOST_SECURITIES, RequestName};
+use boundary::{REQUEST_WORDS, day_told, item_told, request_told, security_told, sizes_told};
+use reference::book::{Book, MOST_ITEMS, MOST_SECURITIES, RequestName};
 
 use crate::depository::Depository;
 
 pub fn check<D: Depository>(book: &Book, under_test: &D) -> Result<(), String> {
+    told("the day", &day_told(book), &under_test.day())?;
     told("the rate", &book.rate, &under_test.rate())?;
     told("the sizes", &sizes_told(book), &under_test.sizes())?;
     securities(book, under_test)?;
     held_of_others(book, under_test)?;
+    items(book, under_test)?;
     open_requests(book, under_test)?;
     other_requests(book, under_test)
 }
@@ -39,6 +41,14 @@ fn held_of_others<D: Depository>(book: &Book, under_test: &D) -> Result<(), Stri
     let unknown = [0, 1, 16_383, 1 << 14, u64::MAX].into_iter().filter(|code| book.security(*code).is_none());
     for code in unknown {
         told(&format!("held of security {code}, which is not admitted"), &0, &under_test.held(code))?;
+    }
+    Ok(())
+}
+
+/// Each waiting item is told by its place, none behind the last.
+fn items<D: Depository>(book: &Book, under_test: &D) -> Result<(), String> {
+    for place in (0..=MOST_ITEMS).chain([usize::MAX]) {
+        told(&format!("the waiting item at place {place}"), &item_told(book, place), &under_test.item(place))?;
     }
     Ok(())
 }

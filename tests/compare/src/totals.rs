@@ -8,6 +8,7 @@ use reference::book::{Account, Book, Purse, Security};
 use reference::call::{Answer, Counts};
 use reference::forms::{self, Written};
 use reference::record::{Order, unpack};
+use reference::{cycle, sent, windows};
 
 /// RULES 5.4.
 const PLEDGED_OR_BLOCKED: [u64; 7] = [11, 21, 121, 12, 22, 112, 122];
@@ -108,6 +109,7 @@ impl Totals {
         self.check_custody(book, told)?;
         self.check_cash(book)?;
         self.check_accounts(book)?;
+        check_sent(book)?;
         let waiting: i128 = book.waiting.iter().map(|item| i128::from(item.sides())).sum();
         same("sides taken in = gone + waiting", &"", self.sides_taken_in, self.sides_gone + waiting)
     }
@@ -181,6 +183,22 @@ fn check_requested(book: &Book) -> Result<(), String> {
         same("type 50 = open requests", account, i128::from(book.balance(account)), at(&requested, account))?;
     }
     Ok(())
+}
+
+/// A cycle is sent on an open day on which one has run, and fixes trades whose
+/// day has come, over which nothing is short. Until it is answered, and while
+/// one is still to run, the day can be finished.
+fn check_sent(book: &Book) -> Result<(), String> {
+    let (day, sent) = (&book.day, sent::trades(book));
+    let holds = |law: &str, holds: bool| if holds { Ok(()) } else { Err(format!("{law}: {day:?}")) };
+    holds("sent only on an open day after a cycle", !day.sent || day.open && day.cycles_run > 0)?;
+    holds("trades are fixed only while a cycle is sent", day.sent || sent.is_empty())?;
+    let due = |place: &usize| !book.waiting[*place].is_single() && book.waiting[*place].settlement_day <= day.number;
+    holds("what is fixed is due", sent.iter().all(due))?;
+    holds("nothing is short over what is fixed", cycle::short(book, &sent).is_empty())?;
+    let to_run = day.open && windows::next_cycle_minute(day).is_some();
+    let in_time = day.last_minute <= windows::end_of_work(day.kind);
+    holds("the minute leaves time for cycles and answers", in_time || !(day.sent || to_run))
 }
 
 /// The sides that a call removed, in any way.

@@ -132,6 +132,81 @@ fn a_waiting_side_is_seen() {
     assert!(text.starts_with("sides taken in = gone + waiting"), "{text}");
 }
 
+/// A pair of 10 shares for 5, and a single; a Friday of which the cycle is sent
+/// at 600, but not answered.
+fn sent_cycle() -> Vec<Order> {
+    let admit = Order { security: 101, quantity: 1_000, ..form(2, 500) };
+    let pay_in = Order { currency: 1, credited_member: 8, amount: 50, ..form(10, 540) };
+    let terms = Order {
+        security: 101,
+        currency: 1,
+        debited_member: 7,
+        credited_member: 8,
+        debited_shareholder: 5,
+        credited_shareholder: 5,
+        quantity: 10,
+        amount: 5,
+        trade_day: 1,
+        settlement_day: 1,
+        reference: 1,
+        ..form(12, 540)
+    };
+    let deliver = Order { debited_type: 10, ..terms };
+    let receive = Order { form: 13, credited_type: 10, ..terms };
+    let single = Order { reference: 2, ..deliver };
+    let day = [Order { quantity: 2, ..form(1, 0) }, admit, deposit(101, 400), pay_in];
+    [&day[..], &[deliver, receive, single, form(16, 600)]].concat()
+}
+
+fn answer(quantity: u64) -> Order {
+    Order { quantity, ..form(21, 600) }
+}
+
+/// Until it is confirmed, both sides of the pair wait, and nothing is posted.
+#[test]
+fn what_is_sent_waits_until_it_is_confirmed() {
+    for (answers, sides, delivered) in [(&[][..], 3, 0), (&[answer(2)], 3, 0), (&[answer(1)], 1, 10)] {
+        let (totals, book) = list_of(&[&sent_cycle()[..], answers].concat(), None);
+        assert_eq!(check(&totals, &book), Ok(()));
+        assert_eq!(book.waiting.iter().map(|item| item.sides()).sum::<u64>(), sides);
+        let buyer = Account { security: 101, member: 8, account_type: 10, shareholder: 5 };
+        assert_eq!(book.balance(&buyer), delivered);
+    }
+}
+
+/// A book that loses what is sent before it is confirmed, or keeps it after.
+#[test]
+fn sides_are_counted_at_the_confirmation() {
+    let (totals, mut book) = list_of(&sent_cycle(), None);
+    book.waiting.retain(|item| !item.sent);
+    assert!(check(&totals, &book).is_err_and(|text| text.starts_with("sides taken in = gone + waiting")));
+    let (_, book) = list_of(&sent_cycle(), None);
+    let (totals, mut confirmed) = list_of(&[sent_cycle(), vec![answer(1)]].concat(), None);
+    confirmed.waiting.push(book.waiting[0]);
+    confirmed.waiting[1].sent = false;
+    assert!(check(&totals, &confirmed).is_err_and(|text| text.starts_with("sides taken in = gone + waiting")));
+}
+
+type Change = fn(&mut Book);
+
+#[test]
+fn a_sent_cycle_that_cannot_be_is_seen() {
+    let changes: [(Change, &str); 6] = [
+        (|book| book.day.open = false, "sent only on an open day after a cycle"),
+        (|book| book.day.cycles_run = 0, "sent only on an open day after a cycle"),
+        (|book| book.day.sent = false, "trades are fixed only while a cycle is sent"),
+        (|book| book.waiting.iter_mut().for_each(|item| item.sent = true), "what is fixed is due"),
+        (|book| book.waiting[0].amount = 51, "nothing is short over what is fixed"),
+        (|book| book.day.last_minute = 901, "the minute leaves time for cycles and answers"),
+    ];
+    for (change, law) in changes {
+        let (totals, mut book) = list_of(&sent_cycle(), None);
+        change(&mut book);
+        let text = check(&totals, &book).expect_err("a wrong book");
+        assert!(text.starts_with(law), "{text}");
+    }
+}
+
 #[test]
 fn a_rate_counts_nowhere() {
     let (mut totals, book) = busy_list();
@@ -160,8 +235,8 @@ fn form(form: u64, minute: u64) -> Order {
 
 /// A day of kind 2 from its opening to its last call.
 fn day_of(orders: &[Order]) -> Vec<Order> {
-    let evening = [form(16, 900), form(16, 900), form(17, 900)];
-    [&[Order { quantity: 2, ..form(1, 0) }], orders, &evening].concat()
+    let cycle = [form(16, 900), Order { quantity: 1, ..form(21, 900) }];
+    [&[Order { quantity: 2, ..form(1, 0) }], orders, &cycle, &cycle, &[form(17, 900)]].concat()
 }
 
 fn deposit(security: u64, quantity: u64) -> Order {

@@ -23,6 +23,8 @@ pub struct Day {
     pub kind: u64,
     pub cycles_run: u64,
     pub last_minute: u64,
+    /// A cycle is sent and not answered yet; it may have fixed no trade.
+    pub sent: bool,
 }
 
 #[derive(Clone, Debug, PartialEq, Eq)]
@@ -86,6 +88,9 @@ pub struct Item {
     pub trade_day: u64,
     pub settlement_day: u64,
     pub state: State,
+    /// Fixed by the cycle that is sent. The mark goes with the item, whose
+    /// place in the list moves.
+    pub sent: bool,
 }
 
 /// Who sent an instruction; all exchange trades come from the exchange.

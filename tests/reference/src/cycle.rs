@@ -35,7 +35,7 @@ pub fn due(book: &Book) -> Vec<usize> {
 }
 
 /// The position of each holding that the taken trades touch (RULES 9.2, 9.3).
-fn outcome(book: &Book, taken: &[usize]) -> BTreeMap<Holding, i128> {
+pub fn outcome(book: &Book, taken: &[usize]) -> BTreeMap<Holding, i128> {
     let mut outcome = BTreeMap::new();
     let start = |holding: &Holding| i128::from(balance(book, holding));
     for trade in taken.iter().map(|place| &book.waiting[*place]) {
@@ -75,25 +75,14 @@ pub fn settling(book: &Book) -> Vec<usize> {
     }
 }
 
-/// Settles what can be settled (RULES 9.7 to 9.12).
-pub fn run(book: &mut Book, _: &Order, rows: &mut Rows) -> Counts {
-    let due = due(book).len() as u64;
-    let settled = settling(book);
-    for trade in settled.iter().map(|place| &book.waiting[*place]) {
-        rows.share_movement(&trade.debited_account(), &trade.credited_account(), trade.quantity);
-        rows.cash_movement(&trade.debited_purse(), &trade.credited_purse(), trade.amount);
+/// Fixes what can be settled; it is booked when the cycle is confirmed. A cycle
+/// that fixes nothing is sent like any other.
+pub fn send(book: &mut Book, _: &Order, _: &mut Rows) -> Counts {
+    let (due, fixed) = (due(book), settling(book));
+    for place in &fixed {
+        book.waiting[*place].sent = true;
     }
-    for (holding, value) in outcome(book, &settled) {
-        let value = u64::try_from(value).expect("nothing is short");
-        match holding {
-            Holding::Shares(account) => book.set_balance(account, value),
-            Holding::Cash(purse) => book.set_cash(purse, value),
-        }
-    }
-    let trades = settled.len() as u64;
-    for place in settled.into_iter().rev() {
-        book.waiting.remove(place);
-    }
+    book.day.sent = true;
     book.day.cycles_run += 1;
-    Counts { settled: 2 * trades, left: due - trades, ..Counts::default() }
+    Counts { left: (due.len() - fixed.len()) as u64, ..Counts::default() }
 }

@@ -6,7 +6,7 @@ use crate::book::{Book, Day};
 use crate::call::Counts;
 use crate::record::{Field, Order, usual_range};
 use crate::rows::Rows;
-use crate::{cancel, close, cycle, matching, movements, requests, windows};
+use crate::{cancel, close, cycle, matching, movements, requests, sent, windows};
 use Field::*;
 
 /// What the rows of a form are, where it writes any (RULES 11.3).
@@ -188,8 +188,9 @@ pub const TABLE: &[Form] = &[
         fields: &[],
         ranges: &[],
         window: windows::cycle,
-        effect: cycle::run,
-        rows: Written::Postings,
+        effect: cycle::send,
+        // Its trades are booked with the answer.
+        rows: Written::Nothing,
         takes_in: 0,
     },
     Form {
@@ -231,6 +232,17 @@ pub const TABLE: &[Form] = &[
         ranges: &[],
         window: windows::custody,
         effect: requests::end,
+        rows: Written::Postings,
+        takes_in: 0,
+    },
+    Form {
+        number: 21,
+        name: "answer cycle",
+        // The quantity is 1 to confirm the cycle and 2 to decline it.
+        fields: &[Quantity],
+        ranges: &[(Quantity, sent::CONFIRMED, sent::DECLINED)],
+        window: windows::answer,
+        effect: sent::answer,
         rows: Written::Postings,
         takes_in: 0,
     },

@@ -19,5 +19,6 @@ pub mod record;
 pub mod refusals;
 pub mod requests;
 pub mod rows;
+pub mod sent;
 pub mod windows;
 pub mod worked;

@@ -107,5 +107,6 @@ pub fn waiting_item(order: &Order) -> Item {
             13 => State::Receive { reference },
             _ => State::ExchangeTrade { reference },
         },
+        sent: false,
     }
 }

@@ -11,6 +11,7 @@ use crate::forms::{self, Form};
 use crate::matching;
 use crate::record::{FIELDS, Field, Fields, Order, RECORD_BYTES};
 use crate::requests;
+use crate::sent;
 use crate::windows;
 
 /// What a refusal looks at.
@@ -44,6 +45,8 @@ pub const TABLE: &[Refusal] = &[
     Refusal { number: 5, forms: all, test: Test::Fields(used_field_is_out_of_range) },
     Refusal { number: 6, forms: all, test: Test::Order(day_is_wrong) },
     Refusal { number: 7, forms: |form| matches!(form, 16 | 17), test: Test::Order(cycles_are_wrong) },
+    Refusal { number: 22, forms: |form| matches!(form, 10 | 11 | 16 | 17), test: Test::Order(cycle_is_sent) },
+    Refusal { number: 23, forms: |form| form == 21, test: Test::Order(no_cycle_is_sent) },
     Refusal { number: 8, forms: |form| form != 1, test: Test::Order(minute_is_past) },
     Refusal { number: 9, forms: all, test: Test::Order(minute_is_outside_window) },
     Refusal { number: 10, forms: |form| matches!(form, 2..=9 | 12..=14 | 19), test: Test::Order(security_is_wrong) },
@@ -55,6 +58,7 @@ pub const TABLE: &[Refusal] = &[
     Refusal { number: 19, forms: |form| matches!(form, 19 | 20), test: Test::Order(request_is_wrong) },
     Refusal { number: 20, forms: |form| form == 20, test: Test::Order(request_is_of_today) },
     Refusal { number: 21, forms: |form| form == 19, test: Test::Order(requests_are_full) },
+    Refusal { number: 24, forms: |form| form == 15, test: Test::Order(item_is_sent) },
     Refusal { number: 16, forms: |form| matches!(form, 3..=9 | 11 | 19), test: Test::Order(balance_is_too_small) },
     Refusal { number: 17, forms: |form| form == 10, test: Test::Order(cash_passes_ceiling) },
     Refusal {
@@ -148,6 +152,17 @@ fn cycles_are_wrong(book: &Book, order: &Order) -> bool {
     if order.form == 17 { !all_run } else { all_run }
 }
 
+/// Cash stands still, and neither a cycle nor the close comes, until the cycle
+/// that is sent is answered.
+fn cycle_is_sent(book: &Book, _: &Order) -> bool {
+    book.day.sent
+}
+
+/// There is nothing to answer.
+fn no_cycle_is_sent(book: &Book, _: &Order) -> bool {
+    !book.day.sent
+}
+
 /// RULES 7.8.
 fn minute_is_past(book: &Book, order: &Order) -> bool {
     order.minute < book.day.last_minute
@@ -227,6 +242,12 @@ fn item_cannot_be_cancelled(book: &Book, order: &Order) -> bool {
     }
 }
 
+/// Of either half. Where there is no such item, 14 has said so.
+fn item_is_sent(book: &Book, order: &Order) -> bool {
+    let place = book.find_waiting(sender(order), order.reference);
+    place.is_some_and(|place| book.waiting[place].sent)
+}
+
 /// RULES 7.19: a new request needs a reference that its member has not open,
 /// an ending a request that leads to its type.
 fn request_is_wrong(book: &Book, order: &Order) -> bool {
@@ -271,7 +292,7 @@ pub fn credited_account(order: &Order) -> Account {
 fn balance_is_too_small(book: &Book, order: &Order) -> bool {
     match order.form {
         3 => book.security(order.security).map_or(0, |security| security.outside) < order.quantity,
-        4..=9 | 19 => book.balance(&debited_account(order)) < order.quantity,
+        4..=9 | 19 => sent::offered(book, &debited_account(order)) < order.quantity,
         11 => {
             let purse = Purse { member: order.debited_member, currency: order.currency };
             book.cash_of(&purse) < order.amount

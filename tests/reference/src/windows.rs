@@ -54,6 +54,13 @@ pub fn cycle(day: &Day, _: &Order) -> Window {
     next_cycle_minute(day).map(|minute| (minute, end_of_work(day.kind)))
 }
 
+/// The day's last answer may come late; an earlier one only while the cycles
+/// behind it still can run.
+pub fn answer(day: &Day, _: &Order) -> Window {
+    let all_run = next_cycle_minute(day).is_none();
+    Some((480, if all_run { 1439 } else { end_of_work(day.kind) }))
+}
+
 pub fn close(day: &Day, _: &Order) -> Window {
     Some((end_of_work(day.kind), 1439))
 }

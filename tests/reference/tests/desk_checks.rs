@@ -115,7 +115,7 @@ fn p10_of_60_50_and_30_only_60_settles() {
     accept(&mut book, &pay_in(2, USD, 1_000, 540));
     let sell = |quantity, reference| trade(seller, buyer, quantity, 10, reference, 1, 541);
     let mut book = due_trades(book, &[sell(60, 1), sell(50, 2), sell(30, 3)]);
-    let counts = accept(&mut book, &form(16, 585));
+    let counts = run_cycle(&mut book, 585);
     assert_eq!((counts.rows, counts.settled, counts.left), (4, 2, 2));
     assert_eq!((book.balance(&seller), book.balance(&buyer)), (40, 60));
     assert_eq!((cash(&book, 1), cash(&book, 2)), (10, 990));
@@ -140,7 +140,7 @@ fn chain(cash_of_c: u64, turned: bool) -> Book {
 fn p11_a_chain_settles_when_its_end_can_pay() {
     for turned in [false, true] {
         let mut book = chain(50, turned);
-        let counts = accept(&mut book, &form(16, 585));
+        let counts = run_cycle(&mut book, 585);
         assert_eq!((counts.rows, counts.settled, counts.left), (8, 4, 0));
         assert_eq!(book.accounts.len(), 1, "an empty account is not kept");
         assert_eq!(book.balance(&account(3, 10, 5)), 100);
@@ -152,7 +152,7 @@ fn p11_a_chain_settles_when_its_end_can_pay() {
 fn p12_a_chain_does_not_settle_when_its_end_cannot_pay() {
     for turned in [false, true] {
         let mut book = chain(0, turned);
-        let counts = accept(&mut book, &form(16, 585));
+        let counts = run_cycle(&mut book, 585);
         assert_eq!((counts.rows, counts.settled, counts.left), (0, 0, 2));
         assert_eq!(book.balance(&account(1, 10, 5)), 100);
         assert_eq!(book.waiting.len(), 2);

@@ -35,11 +35,12 @@ fn what_is_requested_is_held() {
     let mut input: Vec<u8> = example()[..120].to_vec();
     input.extend([request(holder, 100, 9, 541), request(holder, 50, 8, 541)].iter().flat_map(record));
     assert_eq!(print(&input).lines().last(), Some("CUSTODY 101 ISSUED 1000 HELD 400 OUTSIDE 600"));
-    let night = [form(16, 960), form(16, 960), form(16, 960), form(17, 960), open(1, 470)];
-    input.extend(night.iter().flat_map(record));
+    let cycles = [form(16, 960), answer(1, 960)].repeat(3);
+    let night = [form(17, 960), open(1, 470)];
+    input.extend(cycles.iter().chain(&night).flat_map(record));
     input.extend([end_request(7, 120, 9, 510), end_request(7, 91, 8, 510)].iter().flat_map(record));
     let text = print(&input);
-    assert!(text.contains("\n11 0 2\n12 0 2\n"), "{text}");
+    assert!(text.contains("\n14 0 2\n15 0 2\n"), "{text}");
     assert_eq!(text.lines().last(), Some("CUSTODY 101 ISSUED 1000 HELD 350 OUTSIDE 650"));
 }
 

@@ -65,7 +65,7 @@ fn form_18_changes_the_rate_and_the_minute_alone() {
         let mut book = first_day(1);
         accept(&mut book, &deposit(account(7, 20, 5), 400, 540));
         accept(&mut book, &deliver(100, 2, 1, 540));
-        (0..cycles).for_each(|_| assert_eq!(accept(&mut book, &form(16, 825)).rows, 0));
+        (0..cycles).for_each(|_| assert_eq!(run_cycle(&mut book, 825).rows, 0));
         let mut expected = book.clone();
         (expected.rate, expected.day.last_minute) = (7, 900);
         let (counts, rows) = rows_of(&mut book, &set_rate(7, 900));

@@ -55,7 +55,7 @@ fn the_forms_and_the_refusals_that_they_meet() {
         let form = forms::form(number).expect("a form");
         assert_eq!((form.rows, form.takes_in), (Written::Postings, 0));
     }
-    for unknown in (21..32).chain([0]) {
+    for unknown in (22..32).chain([0]) {
         assert_eq!(read(&record(&form(unknown, 540))), Err(3));
         assert_eq!(write(&form(unknown, 540).fields(), &mut [0; 40]), Err(3));
     }

@@ -7,10 +7,10 @@
 use std::slice::{from_raw_parts, from_raw_parts_mut};
 
 use boundary::{
-    BOOK_WORDS, COUNT_WORDS, NO_SUCH_PLACE, WRONG_BOOK, WRONG_COUNTS, WRONG_FIELDS, WRONG_VALUES, decode, encode,
-    request_told, security_told, sizes_told,
+    BOOK_WORDS, COUNT_WORDS, NO_SUCH_PLACE, WRONG_BOOK, WRONG_COUNTS, WRONG_FIELDS, WRONG_VALUES, day_told, decode,
+    encode, item_told, request_told, security_told, sizes_told,
 };
-use reference::book::Book;
+use reference::book::{Account, Book, Purse};
 use reference::call::{Answer, Counts};
 use reference::record::{self, FIELD_COUNT};
 
@@ -80,6 +80,28 @@ fn count_words(counts: &Counts) -> [u64; COUNT_WORDS] {
 /// # Safety
 /// See depository.h.
 #[unsafe(no_mangle)]
+pub unsafe extern "C" fn depository_day(book: *const u64, words: usize, values: *mut u64, values_words: usize) -> u64 {
+    let (words, values) = unsafe { (shared(book, words), unique(values, values_words)) };
+    tell(words, values, day_told)
+}
+
+/// # Safety
+/// See depository.h.
+#[unsafe(no_mangle)]
+pub unsafe extern "C" fn depository_item(
+    book: *const u64,
+    words: usize,
+    place: usize,
+    values: *mut u64,
+    values_words: usize,
+) -> u64 {
+    let (words, values) = unsafe { (shared(book, words), unique(values, values_words)) };
+    tell_of_place(words, values, |book| item_told(book, place))
+}
+
+/// # Safety
+/// See depository.h.
+#[unsafe(no_mangle)]
 pub unsafe extern "C" fn depository_rate(book: *const u64, words: usize, values: *mut u64, values_words: usize) -> u64 {
     let (words, values) = unsafe { (shared(book, words), unique(values, values_words)) };
     tell(words, values, |book| [book.rate])
@@ -97,6 +119,38 @@ pub unsafe extern "C" fn depository_held(
 ) -> u64 {
     let (words, values) = unsafe { (shared(book, words), unique(values, values_words)) };
     tell(words, values, |book| [book.held(security)])
+}
+
+/// # Safety
+/// See depository.h.
+#[unsafe(no_mangle)]
+pub unsafe extern "C" fn depository_balance(
+    book: *const u64,
+    words: usize,
+    security: u64,
+    member: u64,
+    account_type: u64,
+    shareholder: u64,
+    values: *mut u64,
+    values_words: usize,
+) -> u64 {
+    let (words, values) = unsafe { (shared(book, words), unique(values, values_words)) };
+    tell(words, values, |book| [book.balance(&Account { security, member, account_type, shareholder })])
+}
+
+/// # Safety
+/// See depository.h.
+#[unsafe(no_mangle)]
+pub unsafe extern "C" fn depository_cash(
+    book: *const u64,
+    words: usize,
+    member: u64,
+    currency: u64,
+    values: *mut u64,
+    values_words: usize,
+) -> u64 {
+    let (words, values) = unsafe { (shared(book, words), unique(values, values_words)) };
+    tell(words, values, |book| [book.cash_of(&Purse { member, currency })])
 }
 
 /// # Safety

@@ -151,7 +151,7 @@ fn value(sheet: &mut Sheet, random: &mut Random) {
         3 => before + (1 << width),
         4 => before + (1 << 64),
         5 => random.pick(&[u64::MAX.into(), 1 << 64, 1 << 63, 1 << 32]),
-        6 => random.pick(&[20, 21, 64, 65, 1439, 1440, 99, 255, 256]),
+        6 => random.pick(&[21, 22, 64, 65, 1439, 1440, 99, 255, 256]),
         7 => before + 1,
         8 => before.saturating_sub(1),
         _ => u128::from(random.word()) << random.below(60),

@@ -56,6 +56,10 @@ fn cycle() -> Order {
     alone(16, 660)
 }
 
+fn answer(quantity: u64) -> Order {
+    Order { quantity, ..alone(21, 661) }
+}
+
 fn open(kind: u64) -> Order {
     Order { quantity: kind, ..alone(1, 470) }
 }
@@ -219,6 +223,11 @@ fn forms() -> Vec<Import> {
             "form,minute,quantity\nopen day,470,1\n16,660,\nclose,960,0\n",
             Orders(vec![open(1), cycle(), alone(17, 960)]),
         ),
+        case(
+            "a cycle and both its answers",
+            "form,minute,quantity\ncycle,660,\nanswer cycle,661,1\n21,661,2\n",
+            Orders(vec![cycle(), answer(1), answer(2)]),
+        ),
         case("a form's name in capitals", "form,minute\nCYCLE,660\n", Told(neither)),
         case("a form's name with two blanks", "form,minute,quantity\nopen  day,470,1\n", Told(neither)),
         case("a negative form", "form,minute\n-16,660\n", Told(neither)),
@@ -315,9 +324,9 @@ fn refused() -> Vec<Import> {
     let later = "line 3, column 2 (minute): refused by 5, a field that the form uses is out of its range";
     vec![
         case("form 0", "minute,form\n660,0\n", Told(no_form)),
-        case("form 21", "minute,form\n660,21\n", Told(no_form)),
+        case("form 22", "minute,form\n660,22\n", Told(no_form)),
         case("form 48, which is 16 in five bits", "minute,form\n660,48\n", Told(no_form)),
-        case("3 before 4 and 5", "minute,form,security\n1440,21,1\n", Told(no_form)),
+        case("3 before 4 and 5", "minute,form,security\n1440,22,1\n", Told(no_form)),
         case("a field that is not used", "form,minute,security\n16,660,1\n", Told(unused)),
         case("a field that is not used, 0 in its bits", "form,minute,security\n16,660,16384\n", Told(unused)),
         case(
@@ -332,6 +341,8 @@ fn refused() -> Vec<Import> {
         case("a used field left empty", "form,minute,quantity\n1,470,\n", Told(empty)),
         case("a used field that is 0", "form,minute,quantity\n1,470,0\n", Told(empty)),
         case("a day kind of 3", "form,minute,quantity\n1,470,3\n", Told(empty)),
+        case("an answer of 0", "form,minute,quantity\n21,590,0\n", Told(empty)),
+        case("an answer of 3", "form,minute,quantity\nanswer cycle,590,3\n", Told(empty)),
         case("two used fields without a column", "form,minute\n2,500\n", Told(first)),
         case("a column that is missing before one that is wrong", "form,minute,quantity\n2,500,0\n", Told(first)),
         case("orders before a refused one", "form,minute\n16,660\n16,1440\n16,660\n", Told(later)),
@@ -381,6 +392,7 @@ pub fn exports() -> Vec<Export> {
     };
     let line = "deposit,540,101,0,0,0,7,20,0,5,400,0,0,0,0,0,0,0\n";
     let late = "cycle,1439,0,0,0,0,0,0,0,0,0,0,0,0,0,0,0,0\n";
+    let answered = "answer cycle,661,0,0,0,0,0,0,0,0,2,0,0,0,0,0,0,0\n";
     let cut = "unreadable: refused by 2 (the record does not have 40 bytes)\n";
     let three = "unreadable: refused by 3 (there is no such form)\n";
     let four = "unreadable: refused by 4 (a field that the form does not use is not 0)\n";
@@ -389,6 +401,7 @@ pub fn exports() -> Vec<Export> {
         case("no records", &[], ""),
         case("the deposit of RULES 2.7", &[&deposited], line),
         case("two orders", &[&pack(&alone(16, 1439).fields(), 0), &deposited], &format!("{late}{line}")),
+        case("an answer", &[&pack(&answer(2).fields(), 0)], answered),
         case("a rest of 39 bytes", &[&deposited, &deposited[..39]], &format!("{line}{cut}")),
         case("one byte", &[&deposited[..1]], cut),
         case("a form that is none", &[&no_form, &deposited], &format!("{three}{line}")),

@@ -7,17 +7,25 @@ use super::Cell;
 
 /// What can still be asked of an order that the reader refuses with 4 or 5:
 /// its day and its minute.
-pub const ASKED_OF_DAMAGED: [u64; 4] = [6, 7, 8, 9];
+pub const ASKED_OF_DAMAGED: [u64; 6] = [6, 7, 22, 23, 8, 9];
 
 /// Faults of one form that exclude each other.
-const APART: [(u64, u64); 1] = [
-    // 15 looks at an item that 14 has found.
+const APART: [(u64, u64); 4] = [
+    // 15 and 24 look at an item that 14 has found.
     (14, 15),
+    (14, 24),
+    // A cycle is sent only while a day is open.
+    (6, 22),
+    (6, 24),
 ];
 
 /// Forms that share a refusal which asks something else of each: a couple must
 /// be met in both.
 const FORMS_APART: [u64; 2] = [19, 20];
+
+/// Refusals that look at the cycle that is sent: each couple with one of them
+/// must be met in every form that can.
+const OF_SENT_CYCLE: [u64; 3] = [22, 23, 24];
 
 pub fn wanted() -> Vec<Cell> {
     let both = |first: &Refusal, second: &Refusal| Cell::Both { first: first.number, second: second.number };
@@ -27,10 +35,15 @@ pub fn wanted() -> Vec<Cell> {
 /// Both faults are of the order, not of its bytes.
 pub fn wanted_by_form() -> Vec<Cell> {
     let mut cells = Vec::new();
-    for form in FORMS_APART {
+    for form in forms::TABLE.iter().map(|form| form.number) {
         let meets = |refusal: &Refusal| matches!(refusal.test, Test::Order(_)) && (refusal.forms)(form);
+        let asked = |first: u64, second: u64| {
+            FORMS_APART.contains(&form) || OF_SENT_CYCLE.contains(&first) || OF_SENT_CYCLE.contains(&second)
+        };
         let couples = couples_in_order().filter(|(first, second)| meets(first) && meets(second));
-        cells.extend(couples.map(|(a, b)| Cell::BothInForm { form, first: a.number, second: b.number }));
+        let numbers = couples.map(|(first, second)| (first.number, second.number));
+        let wanted = numbers.filter(|couple| !APART.contains(couple) && asked(couple.0, couple.1));
+        cells.extend(wanted.map(|(first, second)| Cell::BothInForm { form, first, second }));
     }
     cells
 }

@@ -1,4 +1,5 @@
-//! What cycles come upon.
+//! What cycles come upon when they are sent, and what is booked when they are
+//! confirmed.
 
 use std::collections::BTreeMap;
 
@@ -10,10 +11,10 @@ use super::arrivals::is_full;
 
 pub const EVENTS: &[&str] = &[
     "cycle with nothing due",
-    "cycle settles all that is due",
-    "cycle settles some and leaves some",
+    "cycle sends all that is due",
+    "cycle sends some and leaves some",
     "cycle leaves all that is due",
-    "64 trades settled in one cycle",
+    "64 trades sent in one cycle",
     "64 trades left in one cycle",
     "trade left for want of shares",
     "trade left for want of cash",
@@ -31,40 +32,46 @@ pub const EVENTS: &[&str] = &[
     "exchange trade settled",
     "USD settled",
     "LBP settled",
-    "cycle opens an account",
-    "cycle empties an account",
-    "cycle settles in a full book",
+    "confirmation opens an account",
+    "confirmation empties an account",
+    "confirmation in a full book",
     "trades of two securities settle in one cycle",
 ];
 
 type Trades<'a> = [&'a Item];
 
 impl Coverage {
-    /// A cycle that is about to run.
+    /// A cycle that is about to be sent.
     pub(super) fn cycle(&mut self, book: &Book) {
         let due = due(book);
         let settling = settling(book);
         let trade = |place: &usize| &book.waiting[*place];
-        let settled: Vec<&Item> = settling.iter().map(trade).collect();
         let left: Vec<&Item> = due.iter().filter(|place| !settling.contains(place)).map(trade).collect();
-        match (settled.len(), left.len()) {
+        match (settling.len(), left.len()) {
             (0, 0) => self.event("cycle with nothing due"),
-            (_, 0) => self.event("cycle settles all that is due"),
+            (_, 0) => self.event("cycle sends all that is due"),
             (0, _) => self.event("cycle leaves all that is due"),
-            _ => self.event("cycle settles some and leaves some"),
+            _ => self.event("cycle sends some and leaves some"),
         }
         self.named(&[
-            (settled.len() == 64, "64 trades settled in one cycle"),
+            (settling.len() == 64, "64 trades sent in one cycle"),
             (left.len() == 64, "64 trades left in one cycle"),
-            (!settled.is_empty() && is_full(book), "cycle settles in a full book"),
+        ]);
+        self.left_trades(book, &due, &settling, &left);
+        self.sending(book, &settling);
+    }
+
+    /// Trades that are about to be booked.
+    pub(super) fn booking(&mut self, book: &Book, settled: &Trades) {
+        self.named(&[
+            (!settled.is_empty() && is_full(book), "confirmation in a full book"),
             (
                 settled.iter().any(|trade| trade.security != settled[0].security),
                 "trades of two securities settle in one cycle",
             ),
         ]);
-        self.settled_trades(book, &settled);
-        self.netting(book, &settled);
-        self.left_trades(book, &due, &settling, &left);
+        self.settled_trades(book, settled);
+        self.netting(book, settled);
     }
 
     fn settled_trades(&mut self, book: &Book, settled: &Trades) {
@@ -116,8 +123,8 @@ impl Coverage {
         for (holding, change) in net.iter().filter(|(holding, _)| is_shares(holding)) {
             let before = i128::from(balance(book, holding));
             self.named(&[
-                (before == 0 && *change > 0, "cycle opens an account"),
-                (before > 0 && before + change == 0, "cycle empties an account"),
+                (before == 0 && *change > 0, "confirmation opens an account"),
+                (before > 0 && before + change == 0, "confirmation empties an account"),
             ]);
         }
     }

@@ -20,11 +20,12 @@ pub enum Edge {
 }
 
 /// The part of a form's window: for instructions 1 if they settle today, for
-/// a cycle its number, else 0.
+/// a cycle and its answer the cycle's number, else 0.
 fn part(book: &Book, order: &Order) -> u64 {
     match order.form {
         12 | 13 => u64::from(order.settlement_day == book.day.number),
         16 => book.day.cycles_run + 1,
+        21 => book.day.cycles_run,
         _ => 0,
     }
 }
@@ -52,14 +53,22 @@ pub fn wanted() -> Vec<Cell> {
     for (form, kind) in forms::TABLE.iter().flat_map(|form| [(form.number, 1), (form.number, 2)]) {
         let parts = match form {
             12 | 13 => 0..=1,
-            16 => 1..=cycle_minutes(kind).len() as u64,
+            16 | 21 => 1..=cycle_minutes(kind).len() as u64,
             _ => 0..=0,
         };
         for (part, edge) in
             parts.flat_map(|part| [(part, Edge::Before), (part, Edge::First), (part, Edge::Last), (part, Edge::After)])
         {
-            // No minute comes before 0, and 1440 is no minute of the day.
-            let nowhere = matches!((form, edge), (1, Edge::Before) | (17, Edge::After));
+            let last_cycle = part == cycle_minutes(kind).len() as u64;
+            let nowhere = match (form, edge) {
+                // No minute comes before 0, and 1440 is no minute of the day.
+                (1, Edge::Before) | (17, Edge::After) => true,
+                // The last answer has until 1439, and each comes behind a
+                // cycle, whose minute is well past 480.
+                (21, Edge::After) => last_cycle,
+                (21, Edge::Before | Edge::First) => true,
+                _ => false,
+            };
             if !nowhere {
                 cells.push(Cell::Edge { form, kind, part, edge });
             }

@@ -9,6 +9,7 @@ mod edges;
 mod endings;
 mod rates;
 mod requests;
+mod sent;
 pub mod table;
 
 use std::collections::BTreeMap;
@@ -72,6 +73,19 @@ pub enum Cell {
         from: u64,
         to: u64,
     },
+    /// A call between a cycle and its answer: 0 if it is accepted, else its
+    /// refusal.
+    Between {
+        form: u64,
+        answer: u64,
+    },
+    /// All that an account of a sent trade offers, or one share more, by what
+    /// the sent trades do to it.
+    Offer {
+        form: u64,
+        net: sent::Net,
+        more: bool,
+    },
     /// A single that fits but for one term.
     NearMiss {
         term: arrivals::Term,
@@ -81,7 +95,8 @@ pub enum Cell {
     Event(&'static str),
 }
 
-const EVENTS: &[&[&str]] = &[SIZES, arrivals::EVENTS, rates::EVENTS, requests::EVENTS, cycles::EVENTS, endings::EVENTS];
+const EVENTS: &[&[&str]] =
+    &[SIZES, arrivals::EVENTS, rates::EVENTS, requests::EVENTS, cycles::EVENTS, sent::EVENTS, endings::EVENTS];
 
 const SIZES: &[&str] = &[
     "area of 0 bytes",
@@ -109,6 +124,7 @@ pub struct Coverage {
     /// Of the list that runs.
     rates: rates::History,
     requests: requests::History,
+    sent: sent::History,
     pub calls: u64,
     pub accepted: u64,
 }
@@ -130,6 +146,7 @@ impl Coverage {
     pub fn new_list(&mut self) {
         self.rates = rates::History::default();
         self.requests = requests::History::default();
+        self.sent = sent::History::default();
     }
 
     pub fn count(&self, cell: &Cell) -> u64 {
@@ -171,18 +188,28 @@ impl Coverage {
     fn accepted_call(&mut self, book: &Book, order: &Order) {
         let kind = if order.form == 1 { order.quantity } else { book.day.kind };
         self.reach(Cell::Accepted { form: order.form, kind });
+        if book.day.sent {
+            self.between(book, order);
+        }
         self.edge(book, order, true);
         self.extremes(order);
         match order.form {
-            1 => self.opening(book),
+            1 => {
+                self.opening(book);
+                self.sent.new_day();
+            }
             5..=9 => self.movement(book, order),
             12 | 13 => self.arrival(book, order),
             15 => self.cancellation(book, order),
             16 => self.cycle(book),
-            17 => self.close(book),
+            17 => {
+                self.close(book);
+                self.close_after_answers(book, order);
+            }
             18 => self.new_rate(book, order),
             19 => self.request(book, order),
             20 => self.ending(book, order),
+            21 => self.answer(book, order),
             _ => {}
         }
     }
@@ -202,6 +229,9 @@ impl Coverage {
     }
 
     fn refused_order(&mut self, book: &Book, order: &Order, refusal: u64) {
+        if book.day.sent {
+            self.refused_between(book, order, refusal);
+        }
         match order.form {
             15 if refusal == 14 => self.cancel_beside_request(book, order),
             19 => self.refused_request(book, order, refusal),
@@ -213,6 +243,7 @@ impl Coverage {
                 1 => self.event("form 1 refused on day 60,000"),
                 _ => self.event("another form refused after day 60,000"),
             },
+            8 => self.refused_after_late_answer(book),
             9 => self.edge(book, order, false),
             14 | 15 if order.form == 15 => self.refused_cancellation(book, order),
             18 => self.refused_for_room(book, order),
@@ -275,6 +306,7 @@ pub fn wanted() -> Vec<Cell> {
     cells.extend(arrivals::wanted());
     cells.extend(rates::wanted());
     cells.extend(requests::wanted());
+    cells.extend(sent::wanted());
     cells.extend(damages::wanted().into_iter().map(Cell::Damage));
     cells.extend(EVENTS.iter().flat_map(|names| names.iter()).map(|name| Cell::Event(name)));
     cells

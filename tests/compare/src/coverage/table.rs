@@ -9,13 +9,15 @@ use super::{Cell, Coverage, wanted};
 type Belongs = fn(&Cell) -> bool;
 
 /// Groups of cells, by the kind of cell.
-const GROUPS: [(&str, Belongs); 8] = [
+const GROUPS: [(&str, Belongs); 10] = [
     ("two faults in one call", |cell| matches!(cell, Cell::Both { .. })),
-    ("two faults in one request or ending", |cell| matches!(cell, Cell::BothInForm { .. })),
+    ("two faults in one form", |cell| matches!(cell, Cell::BothInForm { .. })),
     ("ends of windows", |cell| matches!(cell, Cell::Edge { .. })),
     ("ends of the tolerances", |cell| matches!(cell, Cell::Difference { .. })),
     ("ends of the tolerance in LBP, by its rate", |cell| matches!(cell, Cell::AtRate { .. })),
     ("types of requests and of their endings", |cell| matches!(cell, Cell::Requested { .. } | Cell::Ended { .. })),
+    ("calls between a cycle and its answer", |cell| matches!(cell, Cell::Between { .. })),
+    ("what an account of a sent trade offers", |cell| matches!(cell, Cell::Offer { .. })),
     ("terms by which a single misses", |cell| matches!(cell, Cell::NearMiss { .. })),
     ("kinds of damage to a record", |cell| matches!(cell, Cell::Damage(_))),
 ];

@@ -3,6 +3,7 @@
 use reference::account_types::{BLOCK, FREE, PLEDGE, same_nature};
 use reference::book::{Account, Book, CASH_CEILING, Item, Purse, State};
 use reference::record::Order;
+use reference::sent::offered;
 
 use super::profile::Profile;
 use crate::random::Random;
@@ -69,6 +70,7 @@ impl Desk<'_> {
             18 => Some(self.new_rate()),
             19 => self.request(),
             20 => self.ending(),
+            21 => Some(self.answer_of_cycle()),
             _ => None,
         };
         order.map(|order| Order { form, ..order })
@@ -147,7 +149,7 @@ impl Desk<'_> {
 
     fn withdrawal(&mut self) -> Option<Order> {
         let from = self.kept_account(&FREE)?;
-        let quantity = self.part(self.book.balance(&from));
+        let quantity = self.part(offered(self.book, &from));
         Some(debit(Order { quantity, ..Order::default() }, &from))
     }
 
@@ -171,8 +173,8 @@ impl Desk<'_> {
         Some(self.between(&from, &Account { account_type, ..from }))
     }
 
-    fn between(&mut self, from: &Account, to: &Account) -> Order {
-        let quantity = self.part(self.book.balance(from));
+    pub fn between(&mut self, from: &Account, to: &Account) -> Order {
+        let quantity = self.part(offered(self.book, from));
         let settlement_day = self.book.day.number;
         credit(debit(Order { quantity, settlement_day, ..Order::default() }, from), to)
     }

@@ -8,6 +8,7 @@ pub mod profile;
 mod rates;
 mod requests;
 mod scenario;
+mod sent;
 mod spoil;
 
 use std::collections::VecDeque;
@@ -107,17 +108,24 @@ impl Generator {
         Order { minute, ..self.desk(book).draft(1).expect("a day can open") }
     }
 
-    /// What cycles are left, then the close.
+    /// What cycles are left, each with its answer, then the close.
     fn evening(&mut self, book: &Book) -> Order {
+        if let Some(order) = self.around_sent(book) {
+            return order;
+        }
         if self.random.percent(self.profile.faults) {
-            let form = self.random.pick(&[1, 16, 16, 17, 17]);
+            let form = self.random.pick(&[1, 16, 16, 17, 17, 21]);
             let draft = self.desk(book).draft(form).expect("these forms need nothing");
             let order = self.at_usual_minute(book, draft);
             return self.with_faults(book, order);
         }
-        let form = if next_cycle_minute(&book.day).is_some() { 16 } else { 17 };
-        let order = Order { form, ..Order::default() };
-        let (first, last) = window(&book.day, &order).expect("a cycle is left, or it is the close");
+        let form = match next_cycle_minute(&book.day) {
+            _ if book.day.sent => 21,
+            Some(_) => 16,
+            None => 17,
+        };
+        let order = self.desk(book).draft(form).expect("these forms need nothing");
+        let (first, last) = window(&book.day, &order).expect("a cycle is sent or left, or it is the close");
         let first = first.max(book.day.last_minute);
         let minute = match self.random.below(12) {
             0 => last,
@@ -134,6 +142,9 @@ impl Generator {
         if let Some(order) = self.next_prepared(book) {
             return order;
         }
+        if let Some(order) = self.around_sent(book) {
+            return order;
+        }
         if self.random.percent(self.profile.faults) {
             return self.faulty(book);
         }
@@ -143,6 +154,15 @@ impl Generator {
             return order;
         }
         self.acceptable(book)
+    }
+
+    /// Now and then, while a cycle is sent, an order around its trades.
+    fn around_sent(&mut self, book: &Book) -> Option<Order> {
+        if !book.day.sent || !self.random.percent(self.profile.around_sent) {
+            return None;
+        }
+        let draft = self.desk(book).around_sent()?;
+        Some(self.at_usual_minute(book, draft))
     }
 
     /// Now and then orders that belong together.

@@ -29,6 +29,8 @@ pub struct Profile {
     pub scenarios: u64,
     /// Instructions around a new rate, begun this often, in thousandths.
     pub moving_rates: u64,
+    /// Orders around the trades of a cycle that is sent, in percent.
+    pub around_sent: u64,
     /// Settlement days of instructions are at most this far ahead.
     pub days_ahead: u64,
     /// Quantities, amounts and rates near the fields' ends, in percent.
@@ -39,8 +41,8 @@ pub struct Profile {
 
 /// All forms: 2 admit, 3 deposit, 4 withdrawal, 5 transfer, 6 to 9 pledge to
 /// unblock, 10 and 11 cash, 12 to 14 trades, 15 cancel, 16 cycle, 18 rate, 19
-/// and 20 paper.
-const BUSY: &[u64] = &[0, 0, 4, 12, 12, 10, 5, 5, 5, 5, 14, 4, 16, 16, 10, 5, 8, 0, 2, 6, 4];
+/// and 20 paper, 21 answer.
+const BUSY: &[u64] = &[0, 0, 4, 12, 12, 10, 5, 5, 5, 5, 14, 4, 16, 16, 10, 5, 8, 0, 2, 6, 4, 10];
 
 const USUAL: Profile = Profile {
     name: "busy trading",
@@ -56,6 +58,7 @@ const USUAL: Profile = Profile {
     edges: 3,
     scenarios: 15,
     moving_rates: 3,
+    around_sent: 15,
     days_ahead: 4,
     large_values: 3,
     fridays: 40,
@@ -67,7 +70,7 @@ const FULL_ACCOUNTS: Profile = Profile {
     members: 64,
     shareholders: 60,
     calls_a_day: (60, 300),
-    weights: &[0, 0, 2, 40, 3, 14, 8, 6, 8, 6, 4, 1, 5, 5, 3, 1, 2, 0, 1, 6, 2],
+    weights: &[0, 0, 2, 40, 3, 14, 8, 6, 8, 6, 4, 1, 5, 5, 3, 1, 2, 0, 1, 6, 2, 5],
     faults: 15,
     ..USUAL
 };
@@ -76,7 +79,7 @@ const FULL_ITEMS: Profile = Profile {
     name: "full items",
     members: 12,
     calls_a_day: (20, 120),
-    weights: &[0, 0, 3, 8, 2, 3, 1, 1, 1, 1, 4, 1, 30, 30, 12, 4, 1, 0, 1, 2, 1],
+    weights: &[0, 0, 3, 8, 2, 3, 1, 1, 1, 1, 4, 1, 30, 30, 12, 4, 1, 0, 1, 2, 1, 6],
     faults: 12,
     scenarios: 40,
     days_ahead: 20,
@@ -86,7 +89,7 @@ const FULL_ITEMS: Profile = Profile {
 const FULL_SECURITIES: Profile = Profile {
     name: "full securities",
     securities: 40,
-    weights: &[0, 0, 30, 14, 6, 10, 5, 4, 5, 4, 6, 4, 8, 8, 6, 3, 3, 0, 1, 2, 2],
+    weights: &[0, 0, 30, 14, 6, 10, 5, 4, 5, 4, 6, 4, 8, 8, 6, 3, 3, 0, 1, 2, 2, 6],
     faults: 12,
     ..USUAL
 };
@@ -99,7 +102,7 @@ const CASH: Profile = Profile {
     calls: 9_000,
     members: 64,
     calls_a_day: (20, 200),
-    weights: &[0, 0, 1, 3, 1, 1, 1, 1, 1, 1, 70, 3, 4, 4, 3, 1, 1, 0, 1, 1, 1],
+    weights: &[0, 0, 1, 3, 1, 1, 1, 1, 1, 1, 70, 3, 4, 4, 3, 1, 1, 0, 1, 1, 1, 25],
     faults: 16,
     large_values: 85,
     ..USUAL
@@ -110,7 +113,7 @@ const CANCEL_AND_CLOSE: Profile = Profile {
     members: 4,
     shareholders: 2,
     calls_a_day: (4, 30),
-    weights: &[0, 0, 2, 6, 2, 2, 1, 1, 1, 1, 4, 3, 20, 20, 8, 16, 5, 0, 1, 2, 2],
+    weights: &[0, 0, 2, 6, 2, 2, 1, 1, 1, 1, 4, 3, 20, 20, 8, 16, 5, 0, 1, 2, 2, 12],
     days_ahead: 3,
     ..USUAL
 };
@@ -119,7 +122,7 @@ const EDGES_OF_WINDOWS: Profile = Profile {
     name: "edges of windows",
     securities: 40,
     calls_a_day: (6, 40),
-    weights: &[0, 0, 10, 12, 12, 10, 5, 5, 5, 5, 14, 4, 16, 16, 10, 5, 8, 0, 2, 6, 5],
+    weights: &[0, 0, 10, 12, 12, 10, 5, 5, 5, 5, 14, 4, 16, 16, 10, 5, 8, 0, 2, 6, 5, 12],
     faults: 2,
     edges: 70,
     scenarios: 5,
@@ -129,7 +132,7 @@ const EDGES_OF_WINDOWS: Profile = Profile {
 const FULL_CYCLES: Profile = Profile {
     name: "full cycles",
     calls_a_day: (2, 10),
-    weights: &[0, 0, 2, 6, 4, 3, 1, 1, 1, 1, 6, 4, 0, 0, 0, 0, 4],
+    weights: &[0, 0, 2, 6, 4, 3, 1, 1, 1, 1, 6, 4, 0, 0, 0, 0, 4, 0, 0, 0, 0, 6],
     faults: 2,
     scenarios: 300,
     moving_rates: 0,
@@ -142,7 +145,7 @@ const NETTING: Profile = Profile {
     members: 5,
     shareholders: 1,
     calls_a_day: (10, 60),
-    weights: &[0, 0, 2, 5, 2, 2, 1, 1, 1, 1, 6, 4, 12, 12, 20, 2, 6, 0, 1],
+    weights: &[0, 0, 2, 5, 2, 2, 1, 1, 1, 1, 6, 4, 12, 12, 20, 2, 6, 0, 1, 0, 0, 8],
     faults: 3,
     scenarios: 60,
     days_ahead: 2,
@@ -156,7 +159,7 @@ const MOVING_RATE: Profile = Profile {
     members: 4,
     shareholders: 1,
     calls_a_day: (4, 30),
-    weights: &[0, 0, 1, 3, 1, 1, 1, 1, 1, 1, 6, 1, 24, 24, 2, 4, 3, 0, 6],
+    weights: &[0, 0, 1, 3, 1, 1, 1, 1, 1, 1, 6, 1, 24, 24, 2, 4, 3, 0, 6, 0, 0, 8],
     faults: 3,
     scenarios: 0,
     moving_rates: 120,
@@ -172,12 +175,31 @@ const PAPER: Profile = Profile {
     members: 4,
     shareholders: 1,
     calls_a_day: (6, 40),
-    weights: &[0, 0, 2, 20, 2, 4, 1, 1, 1, 1, 2, 1, 3, 3, 1, 2, 2, 0, 1, 26, 14],
+    weights: &[0, 0, 2, 20, 2, 4, 1, 1, 1, 1, 2, 1, 3, 3, 1, 2, 2, 0, 1, 26, 14, 5],
     faults: 20,
     short_areas: 20,
     scenarios: 0,
     moving_rates: 0,
     large_values: 30,
+    ..USUAL
+};
+
+/// Few members and accounts, so that the trades of a cycle take from one
+/// account and bring to it, while the counter moves what it offers.
+const SENT_CYCLES: Profile = Profile {
+    name: "sent cycles",
+    calls: 3_000,
+    securities: 1,
+    members: 4,
+    shareholders: 1,
+    calls_a_day: (20, 90),
+    weights: &[0, 0, 2, 10, 3, 4, 3, 3, 3, 3, 8, 1, 18, 18, 10, 14, 12, 0, 1, 3, 2, 5],
+    faults: 6,
+    short_areas: 15,
+    scenarios: 40,
+    moving_rates: 0,
+    around_sent: 45,
+    days_ahead: 2,
     ..USUAL
 };
 
@@ -196,6 +218,7 @@ pub fn profiles() -> Vec<Profile> {
         NETTING,
         MOVING_RATE,
         PAPER,
+        SENT_CYCLES,
     ]
 }
 

@@ -3,6 +3,7 @@
 use reference::account_types::{OUTSIDE, PAPER, REQUESTED};
 use reference::book::{Account, Request, RequestName, Sender};
 use reference::record::Order;
+use reference::sent::offered;
 
 use super::draft::{Desk, debit};
 
@@ -30,7 +31,7 @@ impl Desk<'_> {
             None => self.kept_account(&BOOK_ENTRY)?,
         };
         let modest = self.random.percent(50);
-        let balance = self.book.balance(&from);
+        let balance = offered(self.book, &from);
         let quantity = self.part(if modest { balance.div_ceil(8) } else { balance });
         let reference = self.request_reference(from.member);
         Some(debit(Order { quantity, reference, ..Order::default() }, &from))
@@ -49,7 +50,7 @@ impl Desk<'_> {
 
     /// Mostly one of few, so that it comes again; now and then one under which
     /// the member has an item waiting.
-    fn request_reference(&mut self, member: u64) -> u64 {
+    pub fn request_reference(&mut self, member: u64) -> u64 {
         let few = self.random.between(1, 5);
         match self.random.below(10) {
             0..=5 => few,

@@ -5,6 +5,7 @@ use reference::account_types::{BLOCK, FREE, PLEDGE};
 use reference::book::{Account, CASH_CEILING, Item, Purse, Security, State};
 use reference::record::Order;
 use reference::refusals::{self, Refusal, Test, debited_account};
+use reference::sent::offered;
 use reference::windows::window;
 
 use super::draft::{Desk, MOST, credit, debit};
@@ -13,7 +14,7 @@ use super::draft::{Desk, MOST, credit, debit};
 const OTHER_TYPES: [u64; 20] = [1, 9, 11, 12, 13, 19, 21, 22, 50, 80, 90, 91, 100, 111, 112, 119, 121, 122, 150, 255];
 
 /// Refusals that come from the state of the day, whatever an order says.
-const OF_THE_DAY: [u64; 2] = [6, 7];
+const OF_THE_DAY: [u64; 4] = [6, 7, 22, 23];
 
 /// The refusals at which a fault in an order can aim, of those wanted.
 pub fn aims(wanted: impl Fn(&Refusal) -> bool) -> Vec<u64> {
@@ -37,6 +38,7 @@ impl Desk<'_> {
             19 => self.wrong_request(order),
             20 => self.early_ending(order),
             21 => self.one_more_request(order),
+            24 => self.cancel_of_sent(order),
             16 => self.too_much(order),
             17 => self.past_ceiling(order),
             18 => self.growth(order),
@@ -175,7 +177,7 @@ impl Desk<'_> {
     fn too_much(&mut self, order: Order) -> Order {
         let kept = match order.form {
             3 => self.book.security(order.security).map_or(0, |security: &Security| security.outside),
-            4..=9 | 19 => self.book.balance(&debited_account(&order)),
+            4..=9 | 19 => offered(self.book, &debited_account(&order)),
             _ => self.book.cash_of(&Purse { member: order.debited_member, currency: order.currency }),
         };
         if kept >= MOST {

@@ -1,9 +1,8 @@
 //! What is held of each security, kept beside what is outside (RULES 3.19).
 
 use super::Figure::*;
-use super::orders::{Party, credit, debit, ending, form, open, request};
-use super::{List, Step, accepted, admission, moved, refused};
-use crate::call::{Answer, Counts};
+use super::orders::{Party, answer, credit, debit, ending, form, open, request};
+use super::{List, Step, accepted, admission, left, moved, refused, settled};
 use crate::record::Order;
 
 /// The largest issue.
@@ -111,9 +110,9 @@ fn cycle_of_both() -> Vec<Step> {
     steps.extend(pair(1, (7, 20, 5), (8, 20, 5), 90, 1_000).map(accepted));
     steps.extend(pair(2, (8, 10, 6), (7, 10, 6), 74, 1_900).map(of_102).map(accepted));
     steps.extend(pair(3, (8, 10, 6), (9, 10, 6), 5, 10).map(of_102).map(accepted));
-    let counts = Counts { rows: 8, settled: 4, left: 1, ..Counts::default() };
     steps.extend([
-        Step::Call(form(16, 585), Answer::Accepted(counts)),
+        left(form(16, 585), 1),
+        settled(answer(590, 1), 2),
         Step::Book(&[Held(101, 300), Outside(101, 700), Held(102, 80), Outside(102, 420)]),
         Step::Book(&[Accounts(&[
             (101, 7, 20, 5, 110),

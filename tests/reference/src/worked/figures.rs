@@ -1,7 +1,8 @@
 //! What a worked list says of a book.
 
-use crate::book::{Account, Book, Item, State};
+use crate::book::{Account, Book, Item, Purse, State};
 use crate::printing::custody_line;
+use crate::sent;
 
 /// One figure of a book.
 pub enum Figure {
@@ -17,6 +18,16 @@ pub enum Figure {
     References(&'static [&'static [u64]]),
     /// All accounts: security, member, type, shareholder and balance.
     Accounts(&'static [(u64, u64, u64, u64, u64)]),
+    /// How many accounts there are.
+    AccountCount(usize),
+    /// All cash: member, currency and amount.
+    Cash(&'static [(u64, u64, u64)]),
+    /// How many cycles have run today.
+    Cycles(u64),
+    /// Whether a cycle is sent.
+    Sent(bool),
+    /// How many items are fixed by the cycle that is sent.
+    Marked(usize),
     /// How many requests for paper are open.
     Requests(usize),
     /// A security's outside count.
@@ -43,6 +54,11 @@ impl Figure {
                 same("references", &expected, &items.iter().map(references).collect())
             }
             Figure::Accounts(all) => same("accounts", &all.iter().copied().map(account).collect(), &book.accounts),
+            Figure::AccountCount(count) => same("count of accounts", count, &book.accounts.len()),
+            Figure::Cash(all) => same("cash", &all.iter().copied().map(purse).collect(), &book.cash),
+            Figure::Cycles(run) => same("cycles run", run, &book.day.cycles_run),
+            Figure::Sent(sent) => same("a cycle is sent", sent, &book.day.sent),
+            Figure::Marked(count) => same("items of the sent cycle", count, &sent::trades(book).len()),
             Figure::Requests(count) => same("open requests", count, &book.requests.len()),
             Figure::Outside(code, outside) => {
                 same("outside", &Some(*outside), &book.security(*code).map(|security| security.outside))
@@ -61,6 +77,10 @@ impl Figure {
 
 fn account((security, member, account_type, shareholder, balance): (u64, u64, u64, u64, u64)) -> (Account, u64) {
     (Account { security, member, account_type, shareholder }, balance)
+}
+
+fn purse((member, currency, amount): (u64, u64, u64)) -> (Purse, u64) {
+    (Purse { member, currency }, amount)
 }
 
 fn references(item: &Item) -> Vec<u64> {

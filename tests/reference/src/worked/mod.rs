@@ -7,14 +7,16 @@ mod figures;
 mod orders;
 mod rate;
 mod requests;
+mod sent;
 
 use crate::book::Book;
 use crate::call::{Answer, Counts};
 use crate::record::Order;
 use crate::rows::ROW_BYTES;
+use crate::sent::CONFIRMED;
 use crate::windows::{end_of_work, next_cycle_minute};
 use figures::{Figure, same};
-use orders::{form, open};
+use orders::{answer, form, open};
 
 /// A list starts from the fresh book.
 pub struct List {
@@ -42,7 +44,7 @@ pub struct Reply {
 
 /// All lists.
 pub fn lists() -> Vec<List> {
-    [rate::lists(), requests::lists(), custody::lists()].into_iter().flatten().collect()
+    [rate::lists(), requests::lists(), custody::lists(), sent::lists()].into_iter().flatten().collect()
 }
 
 /// An accepted call that writes no row and counts nothing.
@@ -53,6 +55,16 @@ fn accepted(order: Order) -> Step {
 /// A call that writes a movement's two rows.
 fn moved(order: Order) -> Step {
     Step::Call(order, Answer::Accepted(Counts { rows: 2, ..Counts::default() }))
+}
+
+/// A cycle that leaves so many trades.
+fn left(order: Order, trades: u64) -> Step {
+    Step::Call(order, Answer::Accepted(Counts { left: trades, ..Counts::default() }))
+}
+
+/// An answer that books so many trades.
+fn settled(order: Order, trades: u64) -> Step {
+    Step::Call(order, Answer::Accepted(Counts { rows: 4 * trades, settled: 2 * trades, ..Counts::default() }))
 }
 
 fn refused(order: Order, number: u64) -> Step {
@@ -106,17 +118,18 @@ where
     Ok(reply)
 }
 
-/// Cycles and close come in the last minute of the work, the next day is of
-/// kind 1 and opens at 470.
+/// Cycles, each confirmed, and close come in the last minute of the work; the
+/// next day is of kind 1 and opens at 470.
 fn on_to_day<S>(send: &mut S, day: u64, last: &mut Reply) -> Result<(), String>
 where
     S: FnMut(&Order) -> Result<Reply, String>,
 {
     while last.book.day.number < day || !last.book.day.open {
         let today = &last.book.day;
-        let minute = end_of_work(today.kind);
+        let minute = end_of_work(today.kind).max(today.last_minute);
         let order = match next_cycle_minute(today) {
             _ if !today.open => open(1, 470),
+            _ if today.sent => answer(minute, CONFIRMED),
             Some(_) => form(16, minute),
             None => form(17, minute),
         };

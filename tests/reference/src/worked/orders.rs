@@ -13,6 +13,11 @@ pub fn open(kind: u64, minute: u64) -> Order {
     Order { quantity: kind, ..form(1, minute) }
 }
 
+/// The answer of a cycle: 1 confirms it, 2 declines it.
+pub fn answer(minute: u64, quantity: u64) -> Order {
+    Order { quantity, ..form(21, minute) }
+}
+
 /// Shares from a party.
 pub fn debit((member, account_type, shareholder): Party, quantity: u64, order: Order) -> Order {
     Order {

@@ -111,6 +111,11 @@ pub fn cancel(sender: u64, reference: u64, minute: u64) -> Order {
     Order { debited_member: sender, reference, ..form(15, minute) }
 }
 
+/// 1 confirms the cycle that is sent, 2 declines it.
+pub fn answer(quantity: u64, minute: u64) -> Order {
+    Order { quantity, ..form(21, minute) }
+}
+
 pub fn set_rate(rate: u64, minute: u64) -> Order {
     Order { quantity: rate, ..form(18, minute) }
 }
@@ -185,11 +190,21 @@ pub fn first_day(kind: u64) -> Book {
     book
 }
 
+/// Sends a cycle, which writes and settles nothing, and confirms it: the
+/// counts of the answer, and the trades that the cycle left.
+pub fn run_cycle(book: &mut Book, minute: u64) -> Counts {
+    let sent = accept(book, &form(16, minute));
+    assert_eq!(sent, Counts { left: sent.left, ..Counts::default() });
+    let confirmed = accept(book, &answer(1, minute));
+    assert_eq!(confirmed.left, 0, "what is left is counted once");
+    Counts { left: sent.left, ..confirmed }
+}
+
 /// Runs what cycles are left and closes: the counts of the close.
 pub fn end_day(book: &mut Book) -> Counts {
     while let Some(earliest) = reference::windows::next_cycle_minute(&book.day) {
         let minute = earliest.max(book.day.last_minute);
-        accept(book, &form(16, minute));
+        run_cycle(book, minute);
     }
     let minute = reference::windows::end_of_work(book.day.kind).max(book.day.last_minute);
     accept(book, &form(17, minute))
