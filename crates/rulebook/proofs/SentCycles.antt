@@ -1,0 +1,3 @@
+-- What is proved of cycles that are sent and answered, a file for each theorem. Assumes nothing.
+pub mod Staying
+pub mod Refusals
