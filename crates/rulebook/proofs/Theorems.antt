@@ -31,6 +31,7 @@ use Rattle.rulebook.proofs.Rematerialization.{awaited-of-calls, ending-
 use Rattle.rulebook.proofs.Custody.{held-by-form, held-of-calls}
 use Rattle.rulebook.proofs.SentCycles.Refusals.{answer-refusals}
 use Rattle.rulebook.proofs.SentCycles.Staying.{fixed-stays}
+use Rattle.rulebook.proofs.SentCycles.Confirming.{confirmed-as-sent}
 use Rattle.rulebook.proofs.Desk.{desk}
 
 -- the writer writes where nothing refuses
@@ -90,5 +91,6 @@ theorems = record {
   heldOfCalls = held-of-calls;
   answerRefusals = answer-refusals;
   fixedStays = fixed-stays;
+  confirmedAsSent = confirmed-as-sent;
   desk = desk;
 }

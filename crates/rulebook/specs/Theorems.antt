@@ -16,7 +16,7 @@ use Rattle.rulebook.specs.AdmittedTypes.{AdmittedTypes}
 use Rattle.rulebook.specs.Rates.{RateOfCalls, Tolerances, RateAlone, RateRefusals}
 use Rattle.rulebook.specs.Rematerialization.{AwaitedOfCalls, EndingCovered, RequestStays, RequestEnds, RequestRefusals, EndingRefusals}
 use Rattle.rulebook.specs.Custody.{HeldByForm, HeldOfCalls}
-use Rattle.rulebook.specs.SentCycles.{AnswerRefusals, FixedStays}
+use Rattle.rulebook.specs.SentCycles.{AnswerRefusals, FixedStays, ConfirmedAsSent}
 use Rattle.rulebook.specs.Desk.{Desk}
 use Rattle.rulebook.specs.declared.Order.{Order}
 use Rattle.rulebook.specs.declared.Read.{Read}
@@ -71,5 +71,7 @@ pub record Theorems : Type 0 where
   pub answerRefusals : AnswerRefusals
   -- RULES 12.27: what a cycle has fixed stays until it is answered
   pub fixedStays : FixedStays
+  -- RULES 12.28: a confirmation books and writes what the cycle selected when it was sent
+  pub confirmedAsSent : ConfirmedAsSent
   -- RULES, appendix A
   pub desk : Desk
