@@ -1,4 +1,5 @@
 -- What is proved of cycles that are sent and answered, a file for each theorem. Assumes nothing.
 pub mod Staying
 pub mod Confirming
+pub mod Finishing
 pub mod Refusals

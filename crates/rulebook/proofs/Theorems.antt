@@ -32,6 +32,7 @@ use Rattle.rulebook.proofs.Custody.{held-by-form, held-of-calls}
 use Rattle.rulebook.proofs.SentCycles.Refusals.{answer-refusals}
 use Rattle.rulebook.proofs.SentCycles.Staying.{fixed-stays}
 use Rattle.rulebook.proofs.SentCycles.Confirming.{confirmed-as-sent}
+use Rattle.rulebook.proofs.SentCycles.Finishing.{day-finishes}
 use Rattle.rulebook.proofs.Desk.{desk}
 
 -- the writer writes where nothing refuses
@@ -92,5 +93,6 @@ theorems = record {
   answerRefusals = answer-refusals;
   fixedStays = fixed-stays;
   confirmedAsSent = confirmed-as-sent;
+  dayFinishes = day-finishes;
   desk = desk;
 }

@@ -1,19 +1,17 @@
 -- What a confirmation books and writes is what the cycle selected when it was sent, whatever calls came in between. Assumes nothing.
 use mathlib.Core.Path.{_≡_, refl, ap, _∙_}
-use mathlib.Core.Bool.{true, false}
+use mathlib.Core.Bool.{true}
 use mathlib.Core.List.{List, [], _∷_, map}
-use Prim.Native.Nat.{ℕ}
-use Rattle.plain.specs.Lists.{some, total, first}
 use Rattle.plain.proofs.Lists.{total-map}
 use Rattle.rulebook.specs.Ledger.{Ledger, putDay, putHoldings, putWaiting}
 use Rattle.rulebook.specs.Movements.{Movement, booked}
 use Rattle.rulebook.specs.Rows.{postingRows}
 use Rattle.rulebook.specs.Waiting.{sidesOf, sides, withSent}
-use Rattle.rulebook.specs.Cycle.{selection, withMark, seller, buyer, legs, settled, fixing}
+use Rattle.rulebook.specs.Cycle.{selection, withMark, seller, buyer, legs, settled}
 use Rattle.rulebook.specs.Forms.{outcome, counts, cycle, confirm, forms, rowOf, effect}
 use Rattle.rulebook.specs.Call.{putMinute}
-use Rattle.rulebook.specs.Calls.{Call, callsOn, bookAfter, acceptedCalls}
-use Rattle.rulebook.specs.SentCycles.{answersCycle, AsSent, ConfirmedAsSent}
+use Rattle.rulebook.specs.Calls.{bookAfter}
+use Rattle.rulebook.specs.SentCycles.{AsSent, ConfirmedAsSent}
 use Rattle.rulebook.specs.declared.Item.{Item}
 use Rattle.rulebook.specs.declared.Order.{Order}
 use Rattle.rulebook.proofs.ByCall.{effect-at}

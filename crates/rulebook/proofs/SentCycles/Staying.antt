@@ -1,6 +1,6 @@
 -- What a sent cycle has fixed stays, over every list of calls in which none answers it. Assumes nothing.
 use mathlib.Core.Path.{_≡_, refl, sym, _∙_}
-use mathlib.Core.Bool.{Bool, true, false, false≢true}
+use mathlib.Core.Bool.{true, false, false≢true}
 use mathlib.Core.List.{List, [], _∷_}
 use Prim.Native.Nat.{ℕ}
 use Rattle.plain.specs.Lists.{_is_, some, first}
@@ -8,7 +8,7 @@ use Rattle.plain.proofs.Lists.{_and_, some-append}
 use Rattle.plain.proofs.Tests.{neither}
 use Rattle.rulebook.specs.Ledger.{Ledger, putDay, putHoldings, putWaiting, putRate, putRequests}
 use Rattle.rulebook.specs.Cycle.{settled}
-use Rattle.rulebook.specs.Forms.{Outcome, outcome, moving, silent, admit, deposit, withdraw, transfer, instruct, trade, cancel, setRate, requestPaper, endRequest, forms, effect}
+use Rattle.rulebook.specs.Forms.{outcome, moving, silent, admit, deposit, withdraw, transfer, instruct, trade, cancel, setRate, requestPaper, endRequest, forms, effect}
 use Rattle.rulebook.specs.Record.{readOf}
 use Rattle.rulebook.specs.Refusals.{refusals}
 use Rattle.rulebook.specs.Call.{Result, putMinute}
@@ -19,7 +19,7 @@ use Rattle.rulebook.specs.declared.Order.{Order}
 use Rattle.rulebook.specs.declared.Read.{Read}
 use Rattle.rulebook.proofs.ByCall.{Effect, AllForms, acceptedCall, not-read, by-form, by-answer}
 use Rattle.rulebook.proofs.Orders.{Accepted, accepted, opens-next, none-sent}
-use Rattle.rulebook.proofs.EveryCall.{order-premise, call-premise}
+use Rattle.rulebook.proofs.EveryCall.{call-premise}
 use Rattle.rulebook.proofs.EveryCall.Fixed.{inFixed, instruct-fixed, trade-fixed, cancel-fixed}
 
 -- the cycle is still sent, and its fixed trades are the same
