@@ -32,6 +32,7 @@ use Rattle.rulebook.proofs.Custody.{held-by-form, held-of-calls}
 use Rattle.rulebook.proofs.SentCycles.Refusals.{answer-refusals}
 use Rattle.rulebook.proofs.SentCycles.Staying.{fixed-stays}
 use Rattle.rulebook.proofs.SentCycles.Confirming.{confirmed-as-sent}
+use Rattle.rulebook.proofs.SentCycles.Declining.{declined-as-unsent}
 use Rattle.rulebook.proofs.SentCycles.Finishing.{day-finishes}
 use Rattle.rulebook.proofs.Desk.{desk}
 
@@ -93,6 +94,7 @@ theorems = record {
   answerRefusals = answer-refusals;
   fixedStays = fixed-stays;
   confirmedAsSent = confirmed-as-sent;
+  declinedAsUnsent = declined-as-unsent;
   dayFinishes = day-finishes;
   desk = desk;
 }

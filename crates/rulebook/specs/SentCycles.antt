@@ -76,7 +76,7 @@ pub record DeclinedAsUnsent : Type 0 where
       (book : Ledger) (o : Order) (bytes : List ℕ) → Premise book → book.day.sent ≡ true → readOf bytes ≡ Read.Order o
       → (o.form is 21) ≡ false → first (refusals book o) ≡ 0
       → (effect (unsent book) o .after ≡ unsent (effect book o .after)) × (effect (unsent book) o .rows ≡ effect book o .rows)
-      × (first (refusals (unsent book) o) ≡ 0)
+      × (effect (unsent book) o .counts ≡ effect book o .counts) × (first (refusals (unsent book) o) ≡ 0)
 
 -- RULES 12.30: what an account offers is exactly the most that can leave it with nothing short over what is fixed
 unfoldable pub OfferExact : Type 0
