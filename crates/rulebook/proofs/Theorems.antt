@@ -33,6 +33,7 @@ use Rattle.rulebook.proofs.SentCycles.Refusals.{answer-refusals}
 use Rattle.rulebook.proofs.SentCycles.Staying.{fixed-stays}
 use Rattle.rulebook.proofs.SentCycles.Confirming.{confirmed-as-sent}
 use Rattle.rulebook.proofs.SentCycles.Declining.{declined-as-unsent}
+use Rattle.rulebook.proofs.SentCycles.Offering.{offer-exact}
 use Rattle.rulebook.proofs.SentCycles.Finishing.{day-finishes}
 use Rattle.rulebook.proofs.Desk.{desk}
 
@@ -95,6 +96,7 @@ theorems = record {
   fixedStays = fixed-stays;
   confirmedAsSent = confirmed-as-sent;
   declinedAsUnsent = declined-as-unsent;
+  offerExact = offer-exact;
   dayFinishes = day-finishes;
   desk = desk;
 }

@@ -16,7 +16,7 @@ use Rattle.rulebook.specs.AdmittedTypes.{AdmittedTypes}
 use Rattle.rulebook.specs.Rates.{RateOfCalls, Tolerances, RateAlone, RateRefusals}
 use Rattle.rulebook.specs.Rematerialization.{AwaitedOfCalls, EndingCovered, RequestStays, RequestEnds, RequestRefusals, EndingRefusals}
 use Rattle.rulebook.specs.Custody.{HeldByForm, HeldOfCalls}
-use Rattle.rulebook.specs.SentCycles.{AnswerRefusals, FixedStays, ConfirmedAsSent, DeclinedAsUnsent, DayFinishes}
+use Rattle.rulebook.specs.SentCycles.{AnswerRefusals, FixedStays, ConfirmedAsSent, DeclinedAsUnsent, OfferExact, DayFinishes}
 use Rattle.rulebook.specs.Desk.{Desk}
 use Rattle.rulebook.specs.declared.Order.{Order}
 use Rattle.rulebook.specs.declared.Read.{Read}
@@ -75,6 +75,8 @@ pub record Theorems : Type 0 where
   pub confirmedAsSent : ConfirmedAsSent
   -- RULES 12.29: a declined cycle leaves everything as if it had not been sent, but that it has run
   pub declinedAsUnsent : DeclinedAsUnsent
+  -- RULES 12.30: what an account offers is the most that can leave it
+  pub offerExact : OfferExact
   -- RULES 12.31: a day can always be finished
   pub dayFinishes : DayFinishes
   -- RULES, appendix A

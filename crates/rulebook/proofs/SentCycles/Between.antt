@@ -19,6 +19,7 @@ use Rattle.rulebook.specs.declared.Order.{Order}
 use Rattle.rulebook.specs.declared.State.{State}
 use Rattle.rulebook.specs.declared.State.the-variants.{Trade}
 use Rattle.rulebook.proofs.ByCall.{Effect, AllForms, not-read, by-form}
+use Rattle.rulebook.proofs.SentCycles.Staying.{not-while-sent}
 use Rattle.rulebook.proofs.Orders.{Accepted, opens-next, none-sent}
 
 -- an item that is not fixed
@@ -105,7 +106,8 @@ sides-unsent ws = total-map (λ item. sidesOf item.state) (λ item. sidesOf item
 
 -- form by form
 abbrev Acts : ℕ → Effect → Type 0
-Acts n f = (b : Ledger) (o : Order) → o.form ≡ n → Premise b → Accepted b o → b.day.sent ≡ true → (n is 21) ≡ false → Same (f (unsent b) o) (f b o)
+Acts n f =
+    (b : Ledger) (o : Order) → o.form ≡ n → Premise b → Accepted b o → b.day.sent ≡ true → (n is 21) ≡ false → Same (f (unsent b) o) (f b o)
 
 instruct-same : (b : Ledger) (o : Order) → Same (instruct (unsent b) o) (instruct b o)
 unfolding instruct silent outcome putDay putWaiting
@@ -136,10 +138,6 @@ cancel-same b o =
       ap (λ (n : ℕ). counts n 0 (sides (cancelled (marking (senderOf o) o.reference (declined b.waiting)))) 0 0 0) (ap length rows)
           ∙ ap (λ (n : ℕ). counts (length (map (λ item. notice (noticeOf 4 item)) (cancelled now))) 0 n 0 0 0) gone-sides,
     )
-
--- forms that a sent cycle refuses
-not-while-sent : {A : Type 0} (b : Ledger) → b.day.sent ≡ false → b.day.sent ≡ true → A
-not-while-sent b n s = absurd (false≢true (sym n ∙ s))
 
 forms-act : AllForms (λ n f. Acts n f.effect) 1 forms
 unfolding forms admit deposit withdraw transfer setRate requestPaper endRequest moving silent outcome putDay putHoldings putWaiting putRate putRequests

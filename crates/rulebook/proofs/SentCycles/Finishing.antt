@@ -136,7 +136,9 @@ module _ (m : ℕ) (late : m ≤ 1439) (b : Ledger) (p : Premise b) (day : OpenA
         never-grows b (closes m) (unfold closes order in refl) (p .sizes),
       )
 
-  run-day : b.day.sent ≡ false → allRun b.day ≡ false → m ≡ officeEnd b.day.kind → resultOf b (send (runs m)) .book .day ≡ withMinute m (cycleSent b.day)
+  run-day :
+      b.day.sent ≡ false → allRun b.day ≡ false → m ≡ officeEnd b.day.kind
+      → resultOf b (send (runs m)) .book .day ≡ withMinute m (cycleSent b.day)
   unfolding runs order effect forms rowOf cycle outcome putMinute putDay putWaiting
   run-day s r e = ap (λ (x : Ledger). x.day) (sent-does b (runs m) (writes-run m late) (passes-run s r e))
 

@@ -29,12 +29,14 @@ Stays b after = (after.day.sent ≡ true) × (inFixed after.waiting ≡ inFixed 
 abbrev Keeps : ℕ → Effect → Type 0
 Keeps n f = (b : Ledger) (o : Order) → o.form ≡ n → Premise b → Accepted b o → b.day.sent ≡ true → (n is 21) ≡ false → Stays b (f b o .after)
 
--- forms that a sent cycle refuses, and the form that its day refuses
-not-while-sent : {A : Type 0} (b : Ledger) → b.day.sent ≡ false → b.day.sent ≡ true → A
+-- forms that come only where no cycle is sent
+pub not-while-sent : {A : Type 0} (b : Ledger) → b.day.sent ≡ false → b.day.sent ≡ true → A
 not-while-sent b n s = absurd (false≢true (sym n ∙ s))
 
 forms-keep : AllForms (λ n f. Keeps n f.effect) 1 forms
-unfolding forms admit deposit withdraw transfer instruct trade cancel setRate requestPaper endRequest moving silent outcome putHoldings putWaiting putRate putRequests
+unfolding
+    forms admit deposit withdraw transfer instruct trade cancel setRate requestPaper endRequest moving silent outcome putHoldings putWaiting putRate
+    putRequests
 forms-keep =
     (λ b o e p a s t. absurd (false≢true (sym (opens-next b o e a.right-day .0) ∙ p.day.sent-open s)))
     and (λ b o e p a s t. (s, refl)) and (λ b o e p a s t. (s, refl)) and (λ b o e p a s t. (s, refl)) and (λ b o e p a s t. (s, refl))
