@@ -1,24 +1,32 @@
 -- A declined cycle leaves everything as if it had not been sent, but that it has run. Assumes nothing.
-use mathlib.Core.Path.{_≡_, refl, ap, _∙_}
+use mathlib.Core.Path.{_≡_, refl, sym, ap, _∙_}
 use mathlib.Core.Bool.{Bool, true, false, not, _&&_, and-false}
 use mathlib.Core.List.{List, [], _∷_, map}
+use Prim.Native.Nat.{ℕ}
 use native.Mathlib.Omega.{arith}
+use borrow.Author.Tests.{eqb-true, le-ltb}
 use lib.ListN.{length-map}
-use borrow.Author.Tests.{le-ltb}
-use Rattle.plain.specs.Lists.{_is_, _below_, _oneOf_, some, first, Each}
-use Rattle.plain.proofs.Lists.{_and_}
+use Rattle.plain.specs.Lists.{if_then_else_, _is_, _below_, _oneOf_, some, first, Each}
+use Rattle.plain.proofs.Lists.{_and_, some-append}
+use Rattle.plain.proofs.Tests.{neither}
 use Rattle.rulebook.specs.Ledger.{Ledger, putDay, putWaiting, cycleAnswered, accountOf}
 use Rattle.rulebook.specs.Waiting.{senderOf, sentBy, withSent, notCancellable}
 use Rattle.rulebook.specs.Cycle.{Marked, selection, fixing, declined, offers, sharesTaken, takesShares}
-use Rattle.rulebook.specs.Forms.{outcome, silent, cancel, cycle, decline, answerCycle, forms, rowOf, windowOf, effect}
+use Rattle.rulebook.specs.Forms.{outcome, silent, cycle, decline, answerCycle, forms, rowOf, windowOf, effect}
 use Rattle.rulebook.specs.Windows.{allRun}
 use Rattle.rulebook.specs.Refusals.{wrongDay, wrongCycle, awaitsAnswer, nothingSent, goesBack, outsideWindow, wrongReference, wrongCancel, cancelsSent, debitsShares, tooLittle, noSpace, dayTests, orderTests, itemTests, requestTests, roomTests, refusals}
 use Rattle.rulebook.specs.Premise.{Premise}
+use Rattle.rulebook.specs.SentCycles.{answersCycle, unsent, isAccepted, onlyAccepted, oneMoreRun, DeclinedAsUnsent}
+use Rattle.rulebook.specs.Record.{readOf}
+use Rattle.rulebook.specs.Call.{Result, refused, putMinute, accepted as acceptedResult, orderCall, readCall, shortArea, callOf}
+use Rattle.rulebook.specs.Calls.{Call, call, resultOf, recordIn, callsOn, bookAfter, acceptedOf, acceptedCalls}
 use Rattle.rulebook.specs.declared.Account.{Account}
-use Rattle.rulebook.specs.SentCycles.{unsent, oneMoreRun, DeclinedAsUnsent}
+use Rattle.rulebook.specs.declared.Read.{Read}
 use Rattle.rulebook.specs.declared.Day.{Day}
 use Rattle.rulebook.specs.declared.Item.{Item}
 use Rattle.rulebook.specs.declared.Order.{Order}
+use Rattle.rulebook.proofs.EveryCall.{call-premise}
+use Rattle.rulebook.proofs.SentCycles.Staying.{call-keeps}
 use Rattle.rulebook.proofs.ByCall.{AllForms, by-form, effect-at}
 use Rattle.rulebook.proofs.Orders.{Accepted, accepted, little-parts, debit-enough}
 use Rattle.rulebook.proofs.Rounds.{selection-items}
@@ -155,6 +163,63 @@ module _ (b : Ledger) (o : Order) (p : Premise b) (a : Accepted b o) (s : b.day.
       free : cancelsSent (declined b.waiting) o ≡ false
       free = unfold cancelsSent in rw (none-fixed-named (sentBy (senderOf o) o.reference) b.waiting) (and-false (o.form is 15))
 
+-- ---- lists of calls
+
+-- a call that is accepted leads without the cycle to the same book; one that is refused leaves the book as it is
+abbrev Led : Ledger → Read → Result → Result → Type 0
+Led b r x without = some answersCycle (acceptedOf x.answer r x.area) ≡ false → (if isAccepted x.answer then without.book else unsent b) ≡ unsent x.book
+
+module _ (b : Ledger) (p : Premise b) (s : b.day.sent ≡ true) where
+  order-leads :
+      (o : Order) (area bytes : List ℕ) → readOf bytes ≡ Read.Order o → Led b (Read.Order o) (orderCall b o area) (orderCall (unsent b) o area)
+  unfolding orderCall acceptedResult refused acceptedOf isAccepted putMinute putDay putWaiting
+  order-leads o area bytes e = go (first (refusals b o) is 0) refl
+    where
+      go : (t : Bool) → (first (refusals b o) is 0) ≡ t → Led b (Read.Order o) (orderCall b o area) (orderCall (unsent b) o area)
+      go true q =
+          let a = accepted b o bytes e (eqb-true _ 0 q) in
+          simp q λ w.
+          let t = neither (o.form is 21) false w .0 in
+          rw (meets b o p a s t) (ap (putMinute o.minute) (order-same b o p a s t .0))
+      go false q = simp q (λ w. refl)
+
+  read-leads : (r : Read) (area bytes : List ℕ) → readOf bytes ≡ r → Led b r (readCall b r area) (readCall (unsent b) r area)
+  unfolding readCall refused acceptedOf isAccepted
+  read-leads (Read.Order o) area bytes e = order-leads o area bytes e
+  read-leads (Read.Refused n) area bytes e = λ w. refl
+
+  call-leads : (c : Call) → Led b (recordIn c) (resultOf b c) (resultOf (unsent b) c)
+  unfolding resultOf recordIn callOf refused acceptedOf isAccepted
+  call-leads (call bytes area) = go (shortArea area) refl
+    where
+      go : (t : Bool) → shortArea area ≡ t → Led b (readOf bytes) (callOf b bytes area) (callOf (unsent b) bytes area)
+      go true q = simp q (λ w. refl)
+      go false q = simp q (read-leads (readOf bytes) area bytes refl)
+
+meanwhile :
+    (b : Ledger) (calls : List Call) → Premise b → b.day.sent ≡ true → some answersCycle (acceptedCalls (callsOn b calls)) ≡ false
+    → unsent (bookAfter b calls) ≡ bookAfter (unsent b) (onlyAccepted b calls)
+unfolding callsOn bookAfter acceptedCalls onlyAccepted
+meanwhile b [] p s w = refl
+meanwhile b (c ∷ rest) p s w =
+    let x : Result = resultOf b c in
+    let now = acceptedOf x.answer (recordIn c) x.area in
+    let later = acceptedCalls (callsOn x.book rest) in
+    let t = neither (some answersCycle now) (some answersCycle later) (sym (some-append answersCycle now later) ∙ w) in
+    let k = call-keeps b c p s (t .0) in
+    meanwhile x.book rest (call-premise b c p) (k .0) (t .1) ∙ go (isAccepted x.answer) refl (call-leads b p s c (t .0))
+  where
+    go :
+        (t : Bool) → isAccepted (resultOf b c .answer) ≡ t
+        → (if isAccepted (resultOf b c .answer) then resultOf (unsent b) c .book else unsent b) ≡ unsent (resultOf b c .book)
+        → bookAfter (unsent (resultOf b c .book)) (onlyAccepted (resultOf b c .book) rest) ≡ bookAfter (unsent b) (onlyAccepted b (c ∷ rest))
+    go true q e =
+        let f : resultOf (unsent b) c .book ≡ unsent (resultOf b c .book) = simp q at e in
+        simp q (ap (λ (x : Ledger). bookAfter x (onlyAccepted (resultOf b c .book) rest)) (sym f))
+    go false q e =
+        let f : unsent b ≡ unsent (resultOf b c .book) = simp q at e in
+        simp q (ap (λ (x : Ledger). bookAfter x (onlyAccepted (resultOf b c .book) rest)) (sym f))
+
 pub declined-as-unsent : DeclinedAsUnsent
 declined-as-unsent = record {
   declines = declines;
@@ -163,4 +228,5 @@ declined-as-unsent = record {
       let a = accepted b o bytes r z in
       let same = order-same b o p a s t in
       (same .0, same .1, same .2, meets b o p a s t);
+  meanwhile = meanwhile;
 }

@@ -64,7 +64,7 @@ order-keeps b o bytes area e z p s w =
     by-form (λ n f. Keeps n f.effect) forms-keep (λ m none b o e p a s t. absurd (not-read none e a.ranges.form)) o.form b o refl p (accepted b o bytes e z) s
     (neither (o.form is 21) false w .0)
 
-call-keeps : (b : Ledger) (c : Call) → CallKeeps b (acceptedOf (resultOf b c .answer) (recordIn c) (resultOf b c .area)) (resultOf b c .book)
+pub call-keeps : (b : Ledger) (c : Call) → CallKeeps b (acceptedOf (resultOf b c .answer) (recordIn c) (resultOf b c .area)) (resultOf b c .book)
 call-keeps = by-answer CallKeeps (λ b p s w. (s, refl)) order-keeps
 
 pub calls-keep :
