@@ -18,6 +18,8 @@ pub mod Rates
 pub mod Rematerialization
 -- held counts: what each form does to them, and that they are what the accounts hold, over every list of calls
 pub mod Custody
+-- sent cycles: what they fix stays, is booked as it was sent, or waits on as if it had not been; what an account offers; that a day can be finished
+pub mod SentCycles
 -- the premise: the fresh book meets it (`fresh-premise`) and every call keeps it (`call-premise`), so the number of accounts that a book carries is
 -- the number of those with a balance (`accounts-counted`)
 pub mod EveryCall

@@ -202,6 +202,31 @@ rounds-keep P f (suc n) h ms p = go (anyShort h ms) refl (rounds-keep P f n h (d
     go true e later = simp e later
     go false e later = simp e p
 
+-- ---- which items there are, and in which order
+
+drop-items : (test : Item → Bool) (ms : List Marked) → map (λ m. m .1) (dropLast test ms) ≡ map (λ m. m .1) ms
+unfolding dropLast
+drop-items test [] = refl
+drop-items test (m ∷ rest) = go (passes test rest) refl (m .0 && test (m .1)) refl (drop-items test rest)
+  where
+    go :
+        (s : Bool) → passes test rest ≡ s → (t : Bool) → (m .0 && test (m .1)) ≡ t → map (λ m. m .1) (dropLast test rest) ≡ map (λ m. m .1) rest
+        → map (λ m. m .1) (dropLast test (m ∷ rest)) ≡ map (λ m. m .1) (m ∷ rest)
+    go true e t q ih = simp (e, ih)
+    go false e true q ih = simp (e, q)
+    go false e false q ih = simp (e, q)
+
+taken-items : (day : ℕ) (waiting : List Item) → map (λ m. m .1) (taken day waiting) ≡ waiting
+unfolding taken
+taken-items day [] = refl
+taken-items day (w ∷ rest) = rw (taken-items day rest)
+
+pub selection-items : (book : Ledger) → map (λ m. m .1) (selection book) ≡ book.waiting
+unfolding selection selectionOf
+selection-items book =
+    rounds-keep (λ ms. map (λ m. m .1) ms ≡ book.waiting) (λ test ms e. drop-items test ms ∙ e) (length book.waiting) book.holdings
+    (taken book.day.number book.waiting) (taken-items book.day.number book.waiting)
+
 -- ---- each item settles or is left waiting
 
 module _ (figure : Item → ℕ) where

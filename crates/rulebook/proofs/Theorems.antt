@@ -22,13 +22,19 @@ use Rattle.rulebook.specs.declared.Written.{Written}
 use Rattle.rulebook.proofs.RoundTrips.{write-read, read-write, read-writable, first-bytes}
 use Rattle.rulebook.proofs.Rounds.{short-found, none-found, nothing-short}
 use Rattle.rulebook.proofs.CheckingOrder.{checking-order}
-use Rattle.rulebook.proofs.Sizes.{cycle-space}
+use Rattle.rulebook.proofs.Sizes.{cycle-space, answer-space}
 use Rattle.rulebook.proofs.EveryCall.{fresh-premise, call-premise}
 use Rattle.rulebook.proofs.Demand3.{demand3}
 use Rattle.rulebook.proofs.AdmittedTypes.{admitted-types}
 use Rattle.rulebook.proofs.Rates.{rate-of-calls, tolerances, rate-alone, rate-refusals}
 use Rattle.rulebook.proofs.Rematerialization.{awaited-of-calls, ending-covered, request-stays, request-ends, request-refusals, ending-refusals}
 use Rattle.rulebook.proofs.Custody.{held-by-form, held-of-calls}
+use Rattle.rulebook.proofs.SentCycles.Refusals.{answer-refusals}
+use Rattle.rulebook.proofs.SentCycles.Staying.{fixed-stays}
+use Rattle.rulebook.proofs.SentCycles.Confirming.{confirmed-as-sent}
+use Rattle.rulebook.proofs.SentCycles.Declining.{declined-as-unsent}
+use Rattle.rulebook.proofs.SentCycles.Offering.{offer-exact}
+use Rattle.rulebook.proofs.SentCycles.Finishing.{day-finishes}
 use Rattle.rulebook.proofs.Desk.{desk}
 
 -- the writer writes where nothing refuses
@@ -69,6 +75,7 @@ theorems = record {
   noneFound = none-found;
   nothingShort = nothing-short;
   cycleHasRoom = λ book o form p. cycle-space book o form (p .sizes);
+  answerHasRoom = λ book o form p. answer-space book o form (p .sizes);
   freshMeets = fresh-premise;
   callsKeep = call-premise;
   balanced = demand3;
@@ -85,5 +92,11 @@ theorems = record {
   endingRefusals = ending-refusals;
   heldByForm = held-by-form;
   heldOfCalls = held-of-calls;
+  answerRefusals = answer-refusals;
+  fixedStays = fixed-stays;
+  confirmedAsSent = confirmed-as-sent;
+  declinedAsUnsent = declined-as-unsent;
+  offerExact = offer-exact;
+  dayFinishes = day-finishes;
   desk = desk;
 }

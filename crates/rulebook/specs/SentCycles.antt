@@ -14,11 +14,12 @@ use Rattle.rulebook.specs.Cycle.{NothingShort, selection, withMark, legs
 use Rattle.rulebook.specs.Forms.{effect, confirm}
 use Rattle.rulebook.specs.Record.{readOf}
 use Rattle.rulebook.specs.Refusals.{wrongDay, nothingSent, goesBack, outsideWindow, refusals}
-use Rattle.rulebook.specs.Call.{putMinute}
-use Rattle.rulebook.specs.Calls.{Call, callsOn, bookAfter, Accepted, acceptedCalls}
+use Rattle.rulebook.specs.Call.{Result, putMinute}
+use Rattle.rulebook.specs.Calls.{Call, resultOf, callsOn, bookAfter, Accepted, acceptedCalls}
 use Rattle.rulebook.specs.Premise.{Premise}
 use Rattle.rulebook.specs.Desk.{runs, answers, closes, send}
 use Rattle.rulebook.specs.declared.Account.{Account}
+use Rattle.rulebook.specs.declared.Answer.{Answer}
 use Rattle.rulebook.specs.declared.Day.{Day}
 use Rattle.rulebook.specs.declared.Order.{Order}
 use Rattle.rulebook.specs.declared.Read.{Read}
@@ -58,6 +59,18 @@ AnswerRefusals =
 abbrev pub unsent : Ledger → Ledger
 unsent book = putDay (cycleAnswered book.day) (putWaiting (declined book.waiting) book)
 
+-- the calls of a list that are accepted, in order
+unfoldable pub isAccepted : Answer → Bool
+isAccepted (Answer.Accepted counts) = true
+isAccepted (Answer.Refused number) = false
+
+unfoldable pub onlyAccepted : Ledger → List Call → List Call
+onlyAccepted book [] = []
+onlyAccepted book (c ∷ rest) =
+    let result : Result = resultOf book c in
+    let later = onlyAccepted result.book rest in
+    if isAccepted result.answer then c ∷ later else later
+
 -- the day with one cycle more that has run
 abbrev pub oneMoreRun : Day → Day
 oneMoreRun day = record { opened = day.opened; number = day.number; kind = day.kind; cycles = day.cycles + 1; minute = day.minute; sent = day.sent }
@@ -76,7 +89,11 @@ pub record DeclinedAsUnsent : Type 0 where
       (book : Ledger) (o : Order) (bytes : List ℕ) → Premise book → book.day.sent ≡ true → readOf bytes ≡ Read.Order o
       → (o.form is 21) ≡ false → first (refusals book o) ≡ 0
       → (effect (unsent book) o .after ≡ unsent (effect book o .after)) × (effect (unsent book) o .rows ≡ effect book o .rows)
-      × (first (refusals (unsent book) o) ≡ 0)
+      × (effect (unsent book) o .counts ≡ effect book o .counts) × (first (refusals (unsent book) o) ≡ 0)
+  -- over every list of calls in which none answers it: those that are accepted would have led to the same book
+  pub meanwhile :
+      (book : Ledger) (calls : List Call) → Premise book → book.day.sent ≡ true → some answersCycle (acceptedCalls (callsOn book calls)) ≡ false
+      → unsent (bookAfter book calls) ≡ bookAfter (unsent book) (onlyAccepted book calls)
 
 -- RULES 12.30: what an account offers is exactly the most that can leave it with nothing short over what is fixed
 unfoldable pub OfferExact : Type 0

@@ -16,6 +16,7 @@ use Rattle.rulebook.specs.AdmittedTypes.{AdmittedTypes}
 use Rattle.rulebook.specs.Rates.{RateOfCalls, Tolerances, RateAlone, RateRefusals}
 use Rattle.rulebook.specs.Rematerialization.{AwaitedOfCalls, EndingCovered, RequestStays, RequestEnds, RequestRefusals, EndingRefusals}
 use Rattle.rulebook.specs.Custody.{HeldByForm, HeldOfCalls}
+use Rattle.rulebook.specs.SentCycles.{AnswerRefusals, FixedStays, ConfirmedAsSent, DeclinedAsUnsent, OfferExact, DayFinishes}
 use Rattle.rulebook.specs.Desk.{Desk}
 use Rattle.rulebook.specs.declared.Order.{Order}
 use Rattle.rulebook.specs.declared.Read.{Read}
@@ -38,6 +39,8 @@ pub record Theorems : Type 0 where
   pub nothingShort : (book : Ledger) → NothingShort book.holdings (selection book)
   -- RULES 3.10: a cycle always has room
   pub cycleHasRoom : (book : Ledger) (o : Order) → o.form ≡ 16 → Premise book → noSpace book o ≡ false
+  -- and so does its answer
+  pub answerHasRoom : (book : Ledger) (o : Order) → o.form ≡ 21 → Premise book → noSpace book o ≡ false
   -- RULES 12.15 to 12.17: the fresh book meets the premise, and every call keeps it, so a caller never has to show it
   pub freshMeets : Premise fresh
   pub callsKeep : (book : Ledger) (c : Call) → Premise book → Premise (resultOf book c .book)
@@ -64,5 +67,17 @@ pub record Theorems : Type 0 where
   -- RULES 12.24 to 12.26: what each form does to held counts, and that they are what the accounts hold
   pub heldByForm : HeldByForm
   pub heldOfCalls : HeldOfCalls
+  -- RULES 6.21: what an answer to a cycle meets
+  pub answerRefusals : AnswerRefusals
+  -- RULES 12.27: what a cycle has fixed stays until it is answered
+  pub fixedStays : FixedStays
+  -- RULES 12.28: a confirmation books and writes what the cycle selected when it was sent
+  pub confirmedAsSent : ConfirmedAsSent
+  -- RULES 12.29: a declined cycle leaves everything as if it had not been sent, but that it has run
+  pub declinedAsUnsent : DeclinedAsUnsent
+  -- RULES 12.30: what an account offers is the most that can leave it
+  pub offerExact : OfferExact
+  -- RULES 12.31: a day can always be finished
+  pub dayFinishes : DayFinishes
   -- RULES, appendix A
   pub desk : Desk

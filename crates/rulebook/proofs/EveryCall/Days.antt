@@ -144,7 +144,7 @@ unfolding allRun
 answered-day b o e d a = record {
   number = d.number;
   kind = d.kind;
-  cycles = d.cycles;
+  cycles = omega (arith, d.cycles);
   minute = a.ranges.minute;
   number-least = d.number-least;
   kind-least = d.kind-least;

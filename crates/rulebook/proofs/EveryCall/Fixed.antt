@@ -40,7 +40,7 @@ pub record Fixed (b : Ledger) : Type 0 where
 abbrev Unsent : Item → Type 0
 Unsent i = i.sent ≡ false
 
-over-none : (figure : Item → ℕ) (ws : List Item) → Each Unsent ws → over figure (fixed ws) ≡ 0
+pub over-none : (figure : Item → ℕ) (ws : List Item) → Each Unsent ws → over figure (fixed ws) ≡ 0
 unfolding over fixed
 over-none figure [] e = refl
 over-none figure (w ∷ rest) e = simp (e .0) (omega (arith, over-none figure rest (e .1)))
@@ -336,7 +336,7 @@ not-settled-unsent (w ∷ rest) = go (w .sent) refl (not-settled-unsent rest)
     go true e ih = simp e ih
     go false e ih = simp e (refl, ih)
 
-declined-unsent : (ws : List Item) → Each Unsent (declined ws)
+pub declined-unsent : (ws : List Item) → Each Unsent (declined ws)
 unfolding declined withSent
 declined-unsent [] = tt
 declined-unsent (w ∷ rest) = (refl, declined-unsent rest)
