@@ -32,12 +32,6 @@ none-both one other (x ∷ rest) e = go (one x) e (none-both one other rest)
     go true p later = absurd (false≢true (sym p))
     go false p later = later p
 
--- what stands at a place inside a list
-an-item : {A : Type 0} (l : List A) (i : ℕ) → i < length l → (x : A) × ((d : A) → x ≡ getD l i d)
-an-item [] i h = absurd (omega arith)
-an-item (x ∷ rest) zero h = (x, λ d. refl)
-an-item (x ∷ rest) (suc i) h = an-item rest i (omega arith)
-
 -- a list with an element that passes
 pub some-at : {A : Type 0} (test : A → Bool) (l : List A) (i : ℕ) (d : A) → i < length l → test (getD l i d) ≡ true → some test l ≡ true
 some-at test [] i d h e = absurd (omega arith)
@@ -95,10 +89,6 @@ module _ (b : Ledger) (o : Order) (s : ℕ) (f : Found) (form : o.form ≡ 15) (
       unfolding wrongCancel
       cancel-at p x here = rw (eq-eqb o.form 15 form, ← sender) (by-one (notCancellable s) b p s o.reference i passes x here)
 
-      pub sent-at : Premise b → (r : Bool) → ((d : Item) → r ≡ getD b.waiting i d .sent) → cancelsSent b.waiting o ≡ r
+      pub sent-at : Premise b → (x : Item) → x ≡ getD b.waiting i x → cancelsSent b.waiting o ≡ x .sent
       unfolding cancelsSent
-      sent-at p r told =
-          let there = an-item b.waiting i cancel-inside in
-          rw (eq-eqb o.form 15 form, ← sender)
-          (by-one (λ item. item.sent) b p s o.reference i passes (there .0) (there .1 (there .0)) ∙ ap (λ item. item.sent) (there .1 (there .0))
-          ∙ sym (told (there .0)))
+      sent-at p x here = rw (eq-eqb o.form 15 form, ← sender) (by-one (λ item. item.sent) b p s o.reference i passes x here)

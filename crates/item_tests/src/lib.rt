@@ -49,7 +49,8 @@ fn cancels_sent(book: &[u64], order: Order) -> bool
     let Found::At(i) = found else {
         return false;
     };
-    book_items::is_sent(book, i)
+    let item = book_items::item_at(book, i);
+    item.sent
 }
 
 // The first refusal of the items' stage; 0 where none applies.

@@ -92,16 +92,12 @@ none-taken a [] e = refl
 none-taken a (x ∷ rest) e = simp (e .0) (omega (arith, none-taken a rest (e .1)))
 
 module _ (b : Ledger) (p : Premise b) (a : Account) where
-  -- while no cycle is sent, and where the fixed trades bring as much as they take
+  -- while no cycle is sent
   pub offers-unsent : b.day.sent ≡ false → b.holdings.balance a ≡ offers b.holdings b.waiting a
   unfolding offers
   offers-unsent n = omega (arith, none-taken a b.waiting (all-unsent b p n))
 
   module _ (taken brought : ℕ) (t : taken ≡ sharesTaken a (fixed b.waiting)) (r : brought ≡ sharesBrought a (fixed b.waiting)) where
-    pub offers-all : taken ≤ brought → b.holdings.balance a ≡ offers b.holdings b.waiting a
-    unfolding offers
-    offers-all h = omega (arith, t, r)
-
     pub offers-rest : b.holdings.balance a - (taken - brought) ≡ offers b.holdings b.waiting a
     unfolding offers
     offers-rest = rw (t, r) refl

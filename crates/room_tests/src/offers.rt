@@ -1,6 +1,6 @@
 // What an account offers while a cycle is sent (RULES 9.22): its balance, less what the fixed trades take from it net.
 ghost use mathlib.Core.Path.{_≡_};
-ghost use Prim.Native.Nat.{_<_};
+ghost use Prim.Native.Nat.{_-_, _≤_, _<_};
 ghost use lib.ListN.{length, getD};
 ghost use Rattle.plain.specs.Lists.{if_then_else_};
 ghost use Rattle.rulebook.specs.Ledger.{sameAccount};
@@ -76,6 +76,17 @@ fn fixed_flows(book: &[u64], account: Account) -> Flow
     }
 }
 
+// What an account keeps free of its balance: all of it, where as much or more is brought than taken.
+fn left_of(balance: Shares, flow: Flow) -> Shares
+    requires { ⌜ flow .taken .0 - flow .brought .0 ≤ balance .0 ⌝ }
+    ensures { λ r. ⌜ r .0 ≡ balance .0 - (flow .taken .0 - flow .brought .0) ⌝ }
+{
+    if flow.taken.0 <= flow.brought.0 {
+        return balance;
+    }
+    Shares(balance.0 - (flow.taken.0 - flow.brought.0))
+}
+
 // Nothing is fixed while no cycle is sent, and then the list is not walked.
 pub(crate) fn offered(book: &[u64], account: Account) -> Shares
     requires { ⌜ Kept (now book) × AccountInRange account ⌝ }
@@ -83,14 +94,8 @@ pub(crate) fn offered(book: &[u64], account: Account) -> Shares
 {
     let balance = book_holdings::balance(book, account);
     let day = book::day(book);
-    if !day.sent {
-        return balance;
+    if day.sent {
+        return left_of(balance, fixed_flows(book, account));
     }
-    let flow = fixed_flows(book, account);
-    let taken = flow.taken.0;
-    let brought = flow.brought.0;
-    if taken <= brought {
-        return balance;
-    }
-    Shares(balance.0 - (taken - brought))
+    balance
 }
