@@ -55,7 +55,8 @@ module _ (b : Ledger) (marks : ℕ) where
   module _ (book : List ℕ) (i : ℕ) (f : Fixing book i) where
     pub fixing-next :
         i < length b.waiting → (on : Bool) → on ≡ isOn marks i → (after : List ℕ)
-        → Means after (putWaiting (set (ledgerOf book .waiting) i (withSent on (getD (ledgerOf book .waiting) i noItem))) (ledgerOf book)) → Fixing after (i + 1)
+        → Means after (putWaiting (set (ledgerOf book .waiting) i (withSent on (getD (ledgerOf book .waiting) i noItem))) (ledgerOf book))
+        → Fixing after (i + 1)
     unfolding putWaiting
     fixing-next l on e after m =
         let k = next (putWaiting (set (ledgerOf book .waiting) i (withSent on (itemIn (ledgerOf book .waiting) i)))) (f .means) (unfold putWaiting in m) in

@@ -116,6 +116,6 @@ rate-alone b o area e z = rw (z, effect-at 18 b o e) (unfold forms rowOf setRate
 
 pub rate-refusals : RateRefusals
 unfolding
-    RateRefusals refusals dayTests orderTests itemTests requestTests roomTests wrongCycle awaitsAnswer nothingSent wrongSecurity wrongPair wrongTypes wrongParties wrongDays
-    wrongReference wrongCancel cancelsSent wrongRequest endsTooSoon tooManyRequests tooLittle overCeiling
+    RateRefusals refusals dayTests orderTests itemTests requestTests roomTests wrongCycle awaitsAnswer nothingSent wrongSecurity wrongPair wrongTypes
+    wrongParties wrongDays wrongReference wrongCancel cancelsSent wrongRequest endsTooSoon tooManyRequests tooLittle overCeiling
 rate-refusals b o e p = simp (e, never-grows b o (simp e) (p .sizes))

@@ -108,14 +108,14 @@ request-stays b calls m n = calls-keep m n b calls
 
 pub request-refusals : RequestRefusals
 unfolding
-    RequestRefusals refusals dayTests orderTests itemTests requestTests roomTests wrongCycle awaitsAnswer nothingSent wrongParties wrongDays wrongReference wrongCancel cancelsSent endsTooSoon
-    overCeiling
+    RequestRefusals refusals dayTests orderTests itemTests requestTests roomTests wrongCycle awaitsAnswer nothingSent wrongParties wrongDays
+    wrongReference wrongCancel cancelsSent endsTooSoon overCeiling
 request-refusals b o e = simp e
 
 pub ending-refusals : EndingRefusals
 unfolding
-    EndingRefusals refusals dayTests orderTests itemTests requestTests roomTests wrongCycle awaitsAnswer nothingSent wrongSecurity wrongParties wrongDays wrongReference wrongCancel cancelsSent
-    tooManyRequests tooLittle overCeiling
+    EndingRefusals refusals dayTests orderTests itemTests requestTests roomTests wrongCycle awaitsAnswer nothingSent wrongSecurity wrongParties
+    wrongDays wrongReference wrongCancel cancelsSent tooManyRequests tooLittle overCeiling
 ending-refusals b o e = simp e
 
 -- ---- a request can be ended on every later day

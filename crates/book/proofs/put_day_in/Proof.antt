@@ -24,8 +24,10 @@ returns c =
     let a = o .before .before .args in
     let e = flag (a .day .opened) (o .bit-of .result) (o .bit-of .ensures .0) in
     let f = flag (a .day .sent) (s .bit-of2 .result) (s .bit-of2 .ensures .0) in
-    subst (λ (l : List ℕ). (dayIn l ≡ a .day) × (getD l 1 0 ≤ 1)) (sym (c .before .before .write .ensures))
-    ((λ i. record { number = a .day .number; opened = e i; kind = a .day .kind; cycles = a .day .cycles; minute = a .day .minute; sent = f i }), o .bit-of .ensures .1)
+    subst (λ (l : List ℕ). (dayIn l ≡ a .day) × (getD l 1 0 ≤ 1)) (sym (c .before .before .write .ensures)) (
+      (λ i. record { number = a .day .number; opened = e i; kind = a .day .kind; cycles = a .day .cycles; minute = a .day .minute; sent = f i }),
+      o .bit-of .ensures .1,
+    )
 
 pub put-day-in-spec : {M : Type 1} → statement M
 put-day-in-spec = tie.close (tie.spec (λ c κs. search needs) (λ c κs. search needs) (λ c. search needs) (λ c κs. search needs) (λ c. search needs) returns)

@@ -352,7 +352,9 @@ answer-keeps b o e p a step =
 cycle-keeps : Keeps 16 cycle
 unfolding cycle outcome putDay putWaiting fixing
 cycle-keeps b o e p a step = record {
-  sent = each-map (IfMarked b.day.number) (SentFits (cycle b o .after .day)) (λ (m : Marked). withSent (m .0) (m .1)) (λ m f s. (refl, unfold due withSent in f s)) (selection b) (selection-due b);
+  sent =
+      each-map (IfMarked b.day.number) (SentFits (cycle b o .after .day)) (λ (m : Marked). withSent (m .0) (m .1))
+      (λ m f s. (refl, unfold due withSent in f s)) (selection b) (selection-due b);
   covered = unfold fixing in short-fixing b.holdings (selection b) (nothing-short b);
 }
 

@@ -72,7 +72,8 @@ moving-kept b minute ms w i r v d g = record {
 
 -- whatever becomes of the requests
 moves-with :
-    (n : ℕ) → (n oneOf (17 ∷ 21 ∷ [])) ≡ false → (b : Ledger) (o : Order) (r : Requests) (ms : List Movement) → o.form ≡ n → Premise b → Accepted b o → AllGet b.holdings ms
+    (n : ℕ) → (n oneOf (17 ∷ 21 ∷ [])) ≡ false → (b : Ledger) (o : Order) (r : Requests) (ms : List Movement) → o.form ≡ n → Premise b → Accepted b o
+    → AllGet b.holdings ms
     → Kept o.minute (moving ms (putRequests r b) .after)
 unfolding putRequests putMinute putDay
 moves-with n l b o r ms e p a g =

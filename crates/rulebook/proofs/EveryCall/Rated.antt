@@ -20,8 +20,8 @@ Rates n f = (b : Ledger) (o : Order) → f b o .after .rate ≡ (if n is 18 then
 
 all-rates : AllForms (λ n f. Rates n f.effect) 1 forms
 unfolding
-    forms openDay admit deposit withdraw transfer payIn payOut instruct trade cancel cycle confirm decline close setRate requestPaper endRequest moving silent outcome putDay
-    putHoldings putWaiting putRate putRequests
+    forms openDay admit deposit withdraw transfer payIn payOut instruct trade cancel cycle confirm decline close setRate requestPaper endRequest
+    moving silent outcome putDay putHoldings putWaiting putRate putRequests
 all-rates =
     (λ b o. refl) and (λ b o. refl) and (λ b o. refl) and (λ b o. refl) and (λ b o. refl) and (λ b o. refl) and (λ b o. refl) and (λ b o. refl)
     and (λ b o. refl) and (λ b o. refl) and (λ b o. refl) and (λ b o. refl) and (λ b o. refl) and (λ b o. refl) and (λ b o. refl) and (λ b o. refl)

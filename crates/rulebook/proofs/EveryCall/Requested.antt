@@ -37,15 +37,16 @@ Asks n f = (b : Ledger) (o : Order) → (f b o .after .requests ≡ requestsAfte
 
 all-ask : AllForms (λ n f. Asks n f.effect) 1 forms
 unfolding
-    forms openDay admit deposit withdraw transfer payIn payOut instruct trade cancel cycle confirm decline close setRate requestPaper endRequest moving silent outcome putDay
-    putHoldings putWaiting putRate putRequests
+    forms openDay admit deposit withdraw transfer payIn payOut instruct trade cancel cycle confirm decline close setRate requestPaper endRequest
+    moving silent outcome putDay putHoldings putWaiting putRate putRequests
 all-ask =
     (λ b o. (refl, omega arith)) and (λ b o. (refl, omega arith)) and (λ b o. (refl, omega arith)) and (λ b o. (refl, omega arith))
     and (λ b o. (refl, omega arith)) and (λ b o. (refl, omega arith)) and (λ b o. (refl, omega arith)) and (λ b o. (refl, omega arith))
     and (λ b o. (refl, omega arith)) and (λ b o. (refl, omega arith)) and (λ b o. (refl, omega arith)) and (λ b o. (refl, omega arith))
     and (λ b o. (refl, omega arith)) and (λ b o. (refl, omega arith)) and (λ b o. (refl, omega arith)) and (λ b o. (refl, omega arith))
     and (λ b o. (refl, omega arith)) and (λ b o. (refl, omega arith)) and (λ b o. (refl, omega arith)) and (λ b o. (refl, omega arith))
-    and (λ b o. either-answer (λ x. (x .after .requests ≡ b.requests) × (b.day.number ≤ x .after .day .number)) b o (refl, omega arith) (refl, omega arith)) and tt
+    and (λ b o.
+    either-answer (λ x. (x .after .requests ≡ b.requests) × (b.day.number ≤ x .after .day .number)) b o (refl, omega arith) (refl, omega arith)) and tt
 
 pub effect-requests :
     (b : Ledger) (o : Order) → (effect b o .after .requests ≡ requestsAfter o.form b o) × (b.day.number ≤ effect b o .after .day .number)

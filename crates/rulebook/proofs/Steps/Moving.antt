@@ -236,7 +236,8 @@ unfolding transfer accountOf
 shifts n t w off types b o e p a =
     let y = types o (right-types n b o e a.types) in
     moves-one n b o (account (accountOf o.security o.debited)) (account (accountOf o.security o.credited)) o.quantity.0 (off .0) p w tt tt
-    (debit-enough b o a.little (simp (e, t))) (debit-offered b o a.little (simp (e, t))) (account-proper o.security o.debited a.fits.security a.fits.debited (y .from))
+    (debit-enough b o a.little (simp (e, t))) (debit-offered b o a.little (simp (e, t)))
+    (account-proper o.security o.debited a.fits.security a.fits.debited (y .from))
     (account-proper o.security o.credited a.fits.security a.fits.credited (y .to)) a.fits.quantity
     (record {
       held = λ c. simp (off .1 .0, off .1 .1 .0, off .1 .1 .1 .1 .1 .1 .0);
