@@ -1,4 +1,4 @@
-// What an account offers while a cycle is sent (RULES 9.22): its balance, less what the fixed trades take from it net.
+// What an account offers while a cycle is sent (RULES 9.22): all but the shares by which the fixed trades debit it more than they credit it.
 ghost use mathlib.Core.Path.{_≡_};
 ghost use Prim.Native.Nat.{_-_, _≤_, _<_};
 ghost use lib.ListN.{length, getD};

@@ -143,6 +143,6 @@ notSettled book = withoutMark (fixed book.waiting)
 unfoldable pub declined : List Item → List Item
 declined = map (withSent false)
 
--- RULES 9.22: what an account offers: its balance, less what the fixed trades take from it net, which is nothing where they bring as much or more
+-- RULES 9.22: what an account offers: all but the shares by which the fixed trades debit it more than they credit it
 unfoldable pub offers : Holdings → List Item → Account → ℕ
 offers h waiting a = h.balance a - (sharesTaken a (fixed waiting) - sharesBrought a (fixed waiting))

@@ -238,7 +238,7 @@ pub record Desk : Type 0 where
   pub p20 : (custody started ≡ (0, 1_000)) × (custody inCustody ≡ (400, 600)) × (custody withdrawn ≡ (370, 630))
   -- A.21: and what ends outside is not held any more
   pub p21 : custody (calls dayAfter (endsPaper 510 91 1 ∷ [])) ≡ (270, 730)
-  -- A.22: while a cycle is sent cash stands still (22), 7 offers 5 of its 105, 8 all of its 10, and no sent trade can be cancelled (24)
+  -- A.22: while a cycle is sent no cash moves (22), 7 offers 5 of its 105, 8 all of its 10, and no sent trade can be cancelled (24)
   pub p22 :
       map meanwhile (
       paysIn 586 9 1 ∷ withdraws 586 7 6 ∷ withdraws 586 7 5 ∷ withdraws 586 8 11 ∷ withdraws 586 8 10 ∷ cancels 586 7 1
