@@ -10,7 +10,7 @@ use Rattle.rulebook.specs.Movements.{account, credit, debit}
 use Rattle.rulebook.specs.Premise.{accountCount}
 use Rattle.rulebook.specs.declared.Account.{Account}
 use Rattle.rulebook.proofs.Bounds.{part-most}
-use Rattle.rulebook.proofs.Rounds.{same-eq}
+use Rattle.rulebook.proofs.Accounts.{same-eq}
 use Rattle.rulebook.proofs.Sizes.{counted-some, counted-most}
 use Rattle.rulebook.specs.Ranges.{AccountInRange}
 

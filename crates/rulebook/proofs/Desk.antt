@@ -12,7 +12,9 @@ use Rattle.rulebook.specs.Windows.{byKind, cycleMinutes, allRun, officeE
 use Rattle.rulebook.specs.Rows.{postingWidths, noticeWidths, postingBytes, postingIn, postingOf, noticeBytes, deliverReference, receiveReference, noticeOf, postingRows, rowBytes, rowsBytes}
 use Rattle.rulebook.specs.Waiting.{itemOf, isDeliver, isReceive, isTrade, ownReference, sidesOf, sides, senderOf, sentBy, notCancellable, withState, withSent, marked, bothMarked, marking, cancelled, staying, unmarked}
 use Rattle.rulebook.specs.Matching.{tolerance, agree, pairsWith, pairOf, arrive, sharedTerms, sameTerms}
-use Rattle.rulebook.specs.Cycle.{seller, buyer, taken, due, selectionOf, over, sharesBrought, sharesTaken, cashBrought, cashTaken, bringsShares, takesShares, bringsCash, takesCash, sharesMissing, cashMissing, debitsShort, anyShort, dropLast, rounds, selection, withMark, withoutMark, legs, settled, notSettled, dropped, fixing, fixed, declined, offers}
+use Rattle.rulebook.specs.Shortfall.{seller, buyer, takes, brings, missing, debitsShort, anyShort}
+use Rattle.rulebook.specs.Selection.{tradesIn, drops, dropLast, rounds, dropping, passes, selectionIn, tradesLeft, isSent, due, entryBy, entries, selection}
+use Rattle.rulebook.specs.Cycle.{legs, settled, notSettled, leftBy, fixing, fixed, declined, offers}
 use Rattle.rulebook.specs.Close.{closeKind, leaves, deletedAtClose, suspendedAtClose, closeNotice}
 use Rattle.rulebook.specs.Forms.{counts, outcome, moving, silent, openDay, admit, deposit, withdraw, transfer, payIn, payOut, instruct, trade, cancel, cycle, confirm, decline, answerCycle, close, forms, rowOf, used, least, most, windowOf, effect, setRate, requestPaper, endRequest}
 use Rattle.rulebook.specs.Refusals.{wrongDay, wrongCycle, awaitsAnswer, nothingSent, goesBack, outsideWindow, wrongSecurity, wrongPair, wrongParties, wrongDays, wrongReference, wrongCancel, cancelsSent, wrongRequest, endsTooSoon, tooManyRequests, tooLittle, overCeiling, noSpace, dayTests, orderTests, itemTests, requestTests, roomTests, refusals}
@@ -31,8 +33,8 @@ unfolding
     booked byKind cycleMinutes allRun officeEnd postingWidths noticeWidths postingBytes postingIn postingOf noticeBytes deliverReference
     receiveReference noticeOf postingRows rowBytes rowsBytes itemOf isDeliver isReceive isTrade ownReference sidesOf sides senderOf sentBy
     notCancellable withState withSent marked bothMarked marking cancelled staying unmarked tolerance sharedTerms sameTerms agree pairsWith pairOf
-    arrive seller buyer taken over sharesBrought sharesTaken cashBrought cashTaken bringsShares takesShares bringsCash takesCash sharesMissing
-    cashMissing due selectionOf debitsShort anyShort dropLast rounds selection withMark withoutMark legs settled notSettled dropped fixing fixed
+    arrive seller buyer takes brings missing debitsShort anyShort tradesIn drops dropLast rounds dropping passes selectionIn tradesLeft isSent due
+    entryBy entries selection legs settled notSettled leftBy fixing fixed
     declined offers closeKind leaves deletedAtClose suspendedAtClose closeNotice counts outcome moving silent openDay admit deposit withdraw transfer
     payIn payOut instruct trade cancel cycle confirm decline answerCycle close setRate requestPaper endRequest forms rowOf windowOf effect wrongDay
     wrongCycle awaitsAnswer nothingSent goesBack outsideWindow wrongSecurity wrongPair wrongParties wrongDays wrongReference wrongCancel cancelsSent

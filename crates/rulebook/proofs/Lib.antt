@@ -28,8 +28,9 @@ pub mod EveryCall
 -- movements: what they do to each place (`booked-exact`), and what each change that they make keeps (`booked-puts`)
 pub mod Places
 pub mod Booking
--- the cycle: nothing is short once its rounds end (`selection-done`), so no debit of a settlement is cut off at 0 (`Steps.Settling.cycle-exact`)
-pub mod Rounds
+-- the cycle: what it selects makes nothing short (`Selection.Fixing.nothing-short`), so no debit of a settlement is cut off at 0 (`Steps.Settling.cycle-exact`)
+pub mod Selection
+pub mod Settled
 -- refusal 18: forms that never get it (`never-grows`), a cycle among them (`cycle-space`); for the others a test on the book before the call
 pub mod Sizes
 pub mod Space
@@ -50,6 +51,7 @@ pub mod Below
 -- to sums
 pub mod TypeTable
 pub mod Types
+pub mod Accounts
 pub mod Held
 pub mod Securities
 -- one request that is opened or ended, and that its shares are there

@@ -11,7 +11,7 @@ use Rattle.rulebook.specs.Ledger.{Holdings, sameAccount, outsideOf, putB
 use Rattle.rulebook.specs.declared.Account.{Account}
 use Rattle.rulebook.specs.Movements.{Place, account, type91, type90, cashOf, member0, Movement, move, credit, debit, credits, debits, recounted, booked, bookHas, putAt}
 use Rattle.rulebook.specs.Premise.{withCode}
-use Rattle.rulebook.proofs.Rounds.{same-eq}
+use Rattle.rulebook.proofs.Accounts.{same-eq}
 use Rattle.rulebook.proofs.Booking.{recounted-keeps, recounted-beside}
 use Rattle.rulebook.proofs.Securities.{count-same, counts-kept, counts-put}
 

@@ -17,7 +17,7 @@ use Rattle.rulebook.specs.Close.{leaves}
 use Rattle.rulebook.specs.Forms.{outcome, moving, silent, openDay, admit, deposit, withdraw, transfer, payIn, payOut, instruct, trade, cancel, cycle, confirm, decline, close, forms, effect, setRate, requestPaper, endRequest}
 use Rattle.rulebook.specs.Premise.{Sizes}
 use Rattle.rulebook.proofs.ByCall.{Effect, AllForms, either-answer, by-form}
-use Rattle.rulebook.proofs.Rounds.{settled-length}
+use Rattle.rulebook.proofs.Settled.{settled-length}
 
 pub posting-length : (ms : List Movement) → length (postingRows ms) ≡ 2 * length ms
 unfolding postingRows

@@ -21,7 +21,8 @@ use Rattle.rulebook.specs.Refusals.{noSpace}
 use Rattle.rulebook.specs.Premise.{Sizes}
 use Rattle.rulebook.proofs.ByCall.{Effect, AllForms, either-answer, by-form}
 use Rattle.rulebook.proofs.Booking.{recounted-beside, booked-puts}
-use Rattle.rulebook.proofs.Rounds.{settled-length, fixing-length}
+use Rattle.rulebook.proofs.Selection.Fixing.{fixing-length}
+use Rattle.rulebook.proofs.Settled.{settled-length}
 
 pub fresh-sizes : Sizes fresh
 unfolding fresh

@@ -14,13 +14,13 @@ use Rattle.rulebook.specs.Ledger.{Holdings}
 use Rattle.bits.specs.Layout.{pack}
 use Rattle.rulebook.specs.Field.{widths}
 use Rattle.rulebook.specs.Record.{fieldsOf, readOf, recordOf, writeRefusal, writtenOf, areaWritten}
-use Rattle.rulebook.specs.Cycle.{Marked, NothingShort, anyShort, debitsShort, seller, selection, sharesMissing, cashMissing}
 use Rattle.rulebook.specs.declared.Item.{Item}
 use Rattle.rulebook.specs.Theorems.{Theorems}
 use Rattle.rulebook.specs.declared.Order.{Order}
 use Rattle.rulebook.specs.declared.Written.{Written}
 use Rattle.rulebook.proofs.RoundTrips.{write-read, read-write, read-writable, first-bytes}
-use Rattle.rulebook.proofs.Rounds.{short-found, none-found, nothing-short}
+use Rattle.rulebook.proofs.Selection.Quiet.{none-short, short-none}
+use Rattle.rulebook.proofs.Selection.Choice.{selected, nothing-fits, enough-turns, selection-selected}
 use Rattle.rulebook.proofs.CheckingOrder.{checking-order}
 use Rattle.rulebook.proofs.Sizes.{cycle-space, answer-space}
 use Rattle.rulebook.proofs.EveryCall.{fresh-premise, call-premise}
@@ -71,9 +71,12 @@ theorems = record {
   readWrite = λ octets o area fine r room. let e = read-writable octets o area r room in (writes o area e, bytes-there o area e ∙ read-write octets o fine r);
   firstBytes = first-bytes-of;
   checkingOrder = checking-order;
-  shortFound = short-found;
-  noneFound = none-found;
-  nothingShort = nothing-short;
+  shortFound = none-short;
+  noneFound = short-none;
+  selected = selection-selected;
+  selectedIn = λ most h es u. selected h es u most;
+  nothingFits = nothing-fits;
+  enoughTurns = enough-turns;
   cycleHasRoom = λ book o form p. cycle-space book o form (p .sizes);
   answerHasRoom = λ book o form p. answer-space book o form (p .sizes);
   freshMeets = fresh-premise;

@@ -15,7 +15,8 @@ use Rattle.rulebook.specs.Movements.{Place, account, type90, type91, cas
 use Rattle.rulebook.specs.Rows.{Row, notice, noticeOf, postingRows}
 use Rattle.rulebook.specs.Waiting.{itemOf, singleOf, sides, senderOf, marking, cancelled, staying, unmarked}
 use Rattle.rulebook.specs.Matching.{tolerance, arrive}
-use Rattle.rulebook.specs.Cycle.{selection, dropped, fixing, settled, notSettled, declined, legs}
+use Rattle.rulebook.specs.Selection.{selection}
+use Rattle.rulebook.specs.Cycle.{leftBy, fixing, settled, notSettled, declined, legs}
 use Rattle.rulebook.specs.Close.{deletedAtClose, suspendedAtClose, leaves, closeNotice}
 use Rattle.rulebook.specs.declared.Order.{Order}
 use Rattle.rulebook.specs.declared.Item.{Item}
@@ -109,7 +110,7 @@ cancel book order =
 
 -- RULES 6.16: the trades that nothing lacks are fixed; those dropped are left; the cycle is sent, and counts as run. Nothing is booked
 unfoldable pub cycle : Ledger → Order → Outcome
-cycle book order = settles 0 (dropped book) (putDay (cycleSent book.day) (putWaiting (fixing (selection book)) book)) []
+cycle book order = settles 0 (leftBy book) (putDay (cycleSent book.day) (putWaiting (fixing (selection book)) book)) []
 
 -- RULES 6.17: what leaves today is deleted or suspended, in list order, with a notice each; marks are dropped; the day is closed
 unfoldable pub close : Ledger → Order → Outcome

@@ -8,6 +8,8 @@ pub mod Windows
 pub mod Rows
 pub mod Waiting
 pub mod Matching
+pub mod Shortfall
+pub mod Selection
 pub mod Cycle
 pub mod Close
 pub mod Forms
@@ -24,5 +26,6 @@ pub mod Rates
 pub mod Rematerialization
 pub mod Custody
 pub mod Desk
+pub mod Selected
 pub mod SentCycles
 pub mod Theorems

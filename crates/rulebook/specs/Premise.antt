@@ -11,7 +11,9 @@ use Rattle.rulebook.specs.Ledger.{Holdings, Ledger, Requests, accountOf,
 use Rattle.rulebook.specs.declared.Day.{Day}
 use Rattle.rulebook.specs.declared.Account.{Account}
 use Rattle.rulebook.specs.Windows.{cycleMinutes, allRun, officeEnd}
-use Rattle.rulebook.specs.Cycle.{due, fixed, NothingShort}
+use Rattle.rulebook.specs.Shortfall.{NothingShort}
+use Rattle.rulebook.specs.Selection.{due}
+use Rattle.rulebook.specs.Cycle.{fixed}
 use Rattle.rulebook.specs.Waiting.{sentBy, bothMarked}
 use Rattle.rulebook.specs.declared.Party.{Party}
 use Rattle.rulebook.specs.declared.Security.{Security}

@@ -10,7 +10,9 @@ use Rattle.rulebook.specs.Movements.{account, type91, move, booked}
 use Rattle.rulebook.specs.Windows.{cycleMinutes, officeEnd}
 use Rattle.rulebook.specs.Rows.{postingRows}
 use Rattle.rulebook.specs.Waiting.{sides}
-use Rattle.rulebook.specs.Cycle.{NothingShort, selection, withMark, legs, fixed, settled, declined, offers}
+use Rattle.rulebook.specs.Shortfall.{NothingShort}
+use Rattle.rulebook.specs.Selection.{tradesIn, selection}
+use Rattle.rulebook.specs.Cycle.{legs, fixed, settled, declined, offers}
 use Rattle.rulebook.specs.Forms.{effect, confirm}
 use Rattle.rulebook.specs.Record.{readOf}
 use Rattle.rulebook.specs.Refusals.{wrongDay, nothingSent, goesBack, outsideWindow, refusals}
@@ -36,9 +38,9 @@ FixedStays =
 
 -- RULES 12.28: what a confirmation books and writes on a later book is what the cycle selected when it was sent
 pub record AsSent (book later : Ledger) : Type 0 where
-  pub rows : confirm later .rows ≡ postingRows (legs (withMark (selection book)))
-  pub holdings : confirm later .after .holdings ≡ booked (legs (withMark (selection book))) later.holdings
-  pub sides : confirm later .counts .settled ≡ sides (withMark (selection book))
+  pub rows : confirm later .rows ≡ postingRows (legs (tradesIn (selection book)))
+  pub holdings : confirm later .after .holdings ≡ booked (legs (tradesIn (selection book))) later.holdings
+  pub sides : confirm later .counts .settled ≡ sides (tradesIn (selection book))
 
 -- a form 16 is accepted on a book, then come calls of which none answers it
 unfoldable pub ConfirmedAsSent : Type 0

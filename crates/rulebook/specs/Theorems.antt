@@ -7,7 +7,10 @@ use lib.ListN.{length, take}
 use Rattle.bits.specs.Bits.{Octets}
 use Rattle.rulebook.specs.Ledger.{Holdings, Ledger, fresh}
 use Rattle.rulebook.specs.Record.{readOf, writtenOf, areaWritten}
-use Rattle.rulebook.specs.Cycle.{Marked, NothingShort, anyShort, selection}
+use Rattle.rulebook.specs.declared.Item.{Item}
+use Rattle.rulebook.specs.Shortfall.{NothingShort, anyShort}
+use Rattle.rulebook.specs.Selection.{Entry, selectionIn, fullSelection, entries, selection}
+use Rattle.rulebook.specs.Selected.{NoneLeft, Selected, NothingFits, EnoughTurns}
 use Rattle.rulebook.specs.Refusals.{noSpace}
 use Rattle.rulebook.specs.Checks.{CheckingOrder}
 use Rattle.rulebook.specs.Calls.{Call, resultOf, Demand3}
@@ -33,10 +36,15 @@ pub record Theorems : Type 0 where
       (o : Order) (area : List ℕ) → o.form ≡ 3 → o.minute ≡ 540 → writtenOf o area ≡ Written.Record → take 2 (areaWritten o area) ≡ 0x1A ∷ 0x1C ∷ []
   -- RULES 7.0: a call answers with the first of its checks that applies
   pub checkingOrder : CheckingOrder
-  -- RULES 9.4, 9.7: the test on the trades that are taken finds whatever is short, and nothing is short when a cycle settles
-  pub shortFound : (h : Holdings) (marked : List Marked) → anyShort h marked ≡ false → NothingShort h marked
-  pub noneFound : (h : Holdings) (marked : List Marked) → NothingShort h marked → anyShort h marked ≡ false
-  pub nothingShort : (book : Ledger) → NothingShort book.holdings (selection book)
+  -- RULES 9.4: the test on the trades finds whatever is short
+  pub shortFound : (h : Holdings) (trades : List Item) → anyShort h trades ≡ false → NothingShort h trades
+  pub noneFound : (h : Holdings) (trades : List Item) → NothingShort h trades → anyShort h trades ≡ false
+  -- RULES 9.7, 12.33: nothing is short with what a cycle fixes, and each due trade is fixed or left, having lacked something
+  pub selected : (book : Ledger) → Selected book.holdings (entries book) (selection book)
+  -- RULES 12.34, 12.35: the same with any number of passes; once they end, what is left fits beside nothing that is in
+  pub selectedIn : (most : ℕ) (h : Holdings) (es : List Entry) → NoneLeft es → Selected h es (selectionIn most h es)
+  pub nothingFits : (h : Holdings) (es : List Entry) → NothingFits h (fullSelection h es)
+  pub enoughTurns : (h : Holdings) (es : List Entry) → EnoughTurns h es
   -- RULES 3.10: a cycle always has room
   pub cycleHasRoom : (book : Ledger) (o : Order) → o.form ≡ 16 → Premise book → noSpace book o ≡ false
   -- and so does its answer

@@ -6,7 +6,8 @@ use Prim.Native.Nat.{ℕ, zero, suc, _+_, _≤_, zero-le}
 use Rattle.rulebook.specs.Calls.{Call, Made, callsOn, bookAfter, Accepted, acceptedCalls, sum, sidesTaken, sidesSettled, sidesCancelled, sidesDeleted, sidesSuspended}
 use Rattle.plain.proofs.Lists.{_and_, keep-split, total-append, total-map}
 use Rattle.plain.specs.Lists.{if_then_else_, _is_, _atMost_, keep, total}
-use Rattle.rulebook.proofs.Rounds.{settled-total, fixing-total}
+use Rattle.rulebook.proofs.Selection.Fixing.{fixing-total}
+use Rattle.rulebook.proofs.Settled.{settled-total}
 use Rattle.rulebook.proofs.ByCall.{Effect, AllForms, either-answer, by-form, by-call}
 use Rattle.rulebook.specs.Call.{putMinute}
 use native.Mathlib.Omega.{arith}
@@ -20,7 +21,8 @@ use Rattle.rulebook.specs.Matching.{tolerance, pairsWith, pairOf, arrive
 use Rattle.rulebook.specs.Close.{closeKind, leaves, deletedAtClose, suspendedAtClose}
 use Rattle.rulebook.specs.Forms.{counts, outcome, moving, silent, openDay, admit, deposit, withdraw, transfer, payIn, payOut, instruct, trade, cancel, cycle, confirm, decline, answerCycle, close, forms, effect, takesIn, setRate, requestPaper, endRequest}
 use Rattle.rulebook.specs.declared.Counts.{Counts}
-use Rattle.rulebook.specs.Cycle.{selection, fixing, settled, notSettled, declined}
+use Rattle.rulebook.specs.Selection.{selection}
+use Rattle.rulebook.specs.Cycle.{fixing, settled, notSettled, declined}
 
 -- matching
 

@@ -15,17 +15,21 @@ use Rattle.plain.specs.Lists.{if_then_else_, _is_, _oneOf_, some, total, keep, 
 use Rattle.plain.proofs.Lists.{_and_, total-map, each-so, each-append, each-map, each-kept}
 use Rattle.plain.proofs.Tests.{neither}
 use Rattle.rulebook.specs.Ledger.{Ledger, Holdings, putDay, putHoldings, putWaiting, putRate, putRequests}
-use Rattle.rulebook.specs.Movements.{account, cashOf}
+use Rattle.rulebook.specs.Movements.{Place, account, type91, type90, cashOf, member0}
 use Rattle.rulebook.specs.Waiting.{isTrade, isDeliver, isReceive, itemOf, singleOf, senderOf, sentBy, withState, withSent, marked, marking, bothMarked, staying, unmarked}
 use Rattle.rulebook.specs.Matching.{tolerance, pairsWith, pairOf, arrive}
-use Rattle.rulebook.specs.Cycle.{Marked, NothingShort, due, over, seller, buyer, takesShares, bringsShares, takesCash, bringsCash, sharesTaken, sharesBrought, cashTaken, cashBrought, sharesMissing, cashMissing, selection, withMark, withoutMark, fixing, fixed, settled, notSettled, declined, offers}
+use Rattle.rulebook.specs.Shortfall.{seller, buyer, takes, brings, missing, NothingShort}
+use Rattle.rulebook.specs.Selection.{Entry, isTaken, isSent, tradesIn, due, selection}
+use Rattle.rulebook.specs.Cycle.{fixing, fixed, settled, notSettled, declined, offers}
 use Rattle.rulebook.specs.Close.{leaves}
 use Rattle.rulebook.specs.Forms.{Outcome, outcome, moving, silent, openDay, admit, deposit, withdraw, transfer, payIn, payOut, instruct, trade, cancel, cycle, confirm, decline, answerCycle, close, setRate, requestPaper, endRequest, forms, effect}
 use Rattle.rulebook.specs.Refusals.{cancelsSent}
 use Rattle.rulebook.specs.Premise.{SentFits, Premise}
 use Rattle.rulebook.proofs.ByCall.{Effect, AllForms, either-answer, not-read, by-form}
 use Rattle.rulebook.proofs.Orders.{Accepted, opens-next, none-sent}
-use Rattle.rulebook.proofs.Rounds.{nothing-short, IfMarked, selection-due, is-due}
+use Rattle.rulebook.proofs.Selection.Quiet.{by-places}
+use Rattle.rulebook.proofs.Selection.Alone.{sent-alone}
+use Rattle.rulebook.proofs.Selection.Fixing.{nothing-short, selection-alone, IfIn, selection-due, is-due, fixing-fixed}
 use Rattle.rulebook.proofs.Halves.{Half}
 use Rattle.rulebook.proofs.Steps.OneCall.{Step}
 use Rattle.rulebook.proofs.EveryCall.Items.{Agreed, pairs, arrive-each}
@@ -40,17 +44,14 @@ pub record Fixed (b : Ledger) : Type 0 where
 abbrev Unsent : Item → Type 0
 Unsent i = i.sent ≡ false
 
-pub over-none : (figure : Item → ℕ) (ws : List Item) → Each Unsent ws → over figure (fixed ws) ≡ 0
-unfolding over fixed
-over-none figure [] e = refl
-over-none figure (w ∷ rest) e = simp (e .0) (omega (arith, over-none figure rest (e .1)))
+pub none-in-fixed : (ws : List Item) → Each Unsent ws → fixed ws ≡ []
+unfolding fixed
+none-in-fixed [] e = refl
+none-in-fixed (w ∷ rest) e = simp (e .0) (none-in-fixed rest (e .1))
 
 pub none-fixed : (h : Holdings) (ws : List Item) → Each Unsent ws → NothingShort h (fixed ws)
-unfolding sharesMissing cashMissing sharesTaken cashTaken
-none-fixed h ws e = record {
-  shares = λ a. omega (arith, over-none (takesShares a) ws e);
-  cash = λ m c. omega (arith, over-none (takesCash m c) ws e);
-}
+unfolding missing
+none-fixed h ws e p = rw (none-in-fixed ws e) (omega arith)
 
 unsent-fixed : (b : Ledger) → Each Unsent b.waiting → Fixed b
 unsent-fixed b e = record {
@@ -66,51 +67,27 @@ all-unsent b p n = each-so (SentFits b.day) Unsent (λ i f. go i (i .sent) refl 
     go i true e f = absurd (false≢true (sym n ∙ f e .0))
     go i false e f = e
 
--- ---- the sums over what is fixed are those of the fixed trades alone
-
-over-marked : (figure : Item → ℕ) (ms : List Marked) → over figure ms ≡ total figure (withMark ms)
-unfolding over withMark
-over-marked figure [] = refl
-over-marked figure (m ∷ rest) = go (m .0) refl (over-marked figure rest)
-  where
-    go : (t : Bool) → m .0 ≡ t → over figure rest ≡ total figure (withMark rest) → over figure (m ∷ rest) ≡ total figure (withMark (m ∷ rest))
-    go true e ih = simp e (omega (arith, ih))
-    go false e ih = simp e (omega (arith, ih))
-
-over-same : (figure : Item → ℕ) (ms ns : List Marked) → withMark ms ≡ withMark ns → over figure ms ≡ over figure ns
-over-same figure ms ns e = over-marked figure ms ∙ ap (total figure) e ∙ sym (over-marked figure ns)
-
-short-same : (h : Holdings) (ms ns : List Marked) → withMark ms ≡ withMark ns → NothingShort h ms → NothingShort h ns
-unfolding sharesMissing cashMissing sharesTaken sharesBrought cashTaken cashBrought
-short-same h ms ns e n = record {
-  shares = λ a. omega (arith, n .shares a, over-same (takesShares a) ms ns e, over-same (bringsShares a) ms ns e);
-  cash = λ m c. omega (arith, n .cash m c, over-same (takesCash m c) ms ns e, over-same (bringsCash m c) ms ns e);
-}
-
 -- ---- what comes and goes beside the fixed trades
 
-abbrev pub inFixed : List Item → List Item
-inFixed ws = withMark (fixed ws)
-
-marked-last : (i : Item) → Unsent i → (ws : List Item) → inFixed (ws ++ (i ∷ [])) ≡ inFixed ws
-unfolding withMark fixed
+marked-last : (i : Item) → Unsent i → (ws : List Item) → fixed (ws ++ (i ∷ [])) ≡ fixed ws
+unfolding fixed
 marked-last i e [] = simp e
 marked-last i e (w ∷ rest) = go (w .sent) refl (marked-last i e rest)
   where
-    go : (t : Bool) → w.sent ≡ t → inFixed (rest ++ (i ∷ [])) ≡ inFixed rest → inFixed (w ∷ (rest ++ (i ∷ []))) ≡ inFixed (w ∷ rest)
+    go : (t : Bool) → w.sent ≡ t → fixed (rest ++ (i ∷ [])) ≡ fixed rest → fixed (w ∷ (rest ++ (i ∷ []))) ≡ fixed (w ∷ rest)
     go true p ih = simp p (ap (λ (x : List Item). w ∷ x) ih)
     go false p ih = simp p ih
 
-marked-cons : (w : Item) (xs ys : List Item) → inFixed xs ≡ inFixed ys → inFixed (w ∷ xs) ≡ inFixed (w ∷ ys)
-unfolding withMark fixed
+marked-cons : (w : Item) (xs ys : List Item) → fixed xs ≡ fixed ys → fixed (w ∷ xs) ≡ fixed (w ∷ ys)
+unfolding fixed
 marked-cons w xs ys e = go (w .sent) refl
   where
-    go : (t : Bool) → w.sent ≡ t → inFixed (w ∷ xs) ≡ inFixed (w ∷ ys)
+    go : (t : Bool) → w.sent ≡ t → fixed (w ∷ xs) ≡ fixed (w ∷ ys)
     go true p = simp p (ap (λ (x : List Item). w ∷ x) e)
     go false p = simp p e
 
-marked-skip : (w : Item) (xs : List Item) → Unsent w → inFixed (w ∷ xs) ≡ inFixed xs
-unfolding withMark fixed
+marked-skip : (w : Item) (xs : List Item) → Unsent w → fixed (w ∷ xs) ≡ fixed xs
+unfolding fixed
 marked-skip w xs e = simp e
 
 -- a single is not fixed
@@ -131,7 +108,7 @@ single-unsent i e f = go (i .sent) refl
     go false s = s
 
 pub arrive-marked :
-    (limit : ℕ) (new : Item) → Unsent new → (ws : List Item) → Each TradesOnly ws → inFixed (arrive limit new ws) ≡ inFixed ws
+    (limit : ℕ) (new : Item) → Unsent new → (ws : List Item) → Each TradesOnly ws → fixed (arrive limit new ws) ≡ fixed ws
 unfolding arrive
 arrive-marked limit new u [] e = marked-last new u []
 arrive-marked limit new u (w ∷ rest) e = go (pairsWith limit new w) refl (arrive-marked limit new u rest (e .1))
@@ -148,7 +125,7 @@ arrive-marked limit new u (w ∷ rest) e = go (pairsWith limit new w) refl (arri
         pairs (Unsent w) limit new w p (λ q a. single-unsent w (simp q) (e .0))
         (λ q a. single-unsent w (simp (q, a .receives)) (e .0))
 
-    go : (t : Bool) → pairsWith limit new w ≡ t → inFixed (arrive limit new rest) ≡ inFixed rest → inFixed (arrive limit new (w ∷ rest)) ≡ inFixed (w ∷ rest)
+    go : (t : Bool) → pairsWith limit new w ≡ t → fixed (arrive limit new rest) ≡ fixed rest → fixed (arrive limit new (w ∷ rest)) ≡ fixed (w ∷ rest)
     go true p ih = simp p (marked-last pair (pair-unsent (isDeliver w.state)) rest ∙ sym (marked-skip w rest (left p)))
     go false p ih = simp p (marked-cons w (arrive limit new rest) rest ih)
 
@@ -156,7 +133,7 @@ arrive-marked limit new u (w ∷ rest) e = go (pairsWith limit new w) refl (arri
 
 pub cancel-marked :
     (s r : ℕ) (ws : List Item) → some (λ item. sentBy s r item && item.sent) ws ≡ false → Each Half ws
-    → inFixed (staying (marking s r ws)) ≡ inFixed ws
+    → fixed (staying (marking s r ws)) ≡ fixed ws
 unfolding staying marking
 cancel-marked s r [] n e = refl
 cancel-marked s r (w ∷ rest) n e =
@@ -168,8 +145,8 @@ cancel-marked s r (w ∷ rest) n e =
 
     go :
         (t : Bool) → sentBy s r w ≡ t → (u : Bool) → bothMarked (marked s w .state) ≡ u
-        → (sentBy s r w && w.sent) ≡ false → inFixed (staying (marking s r rest)) ≡ inFixed rest
-        → inFixed (staying (marking s r (w ∷ rest))) ≡ inFixed (w ∷ rest)
+        → (sentBy s r w && w.sent) ≡ false → fixed (staying (marking s r rest)) ≡ fixed rest
+        → fixed (staying (marking s r (w ∷ rest))) ≡ fixed (w ∷ rest)
     go true p true q m ih = let z : Unsent w = simp p at m in simp (p, q) (ih ∙ sym (marked-skip w rest z))
     go true p false q m ih =
         let z : Unsent w = simp p at m in
@@ -194,41 +171,32 @@ mark-sent day s r i f = go (sentBy s r i)
     go true e = let m : isTrade (marked s i .state) ≡ isTrade i.state = mark-trade s i i.state in (f e .0, simp m (f e .1))
     go false e = f e
 
--- the marks of a choice, put onto the items
-pub fixing-marked : (ms : List Marked) → inFixed (fixing ms) ≡ map (withSent true) (withMark ms)
-unfolding withMark fixed fixing withSent
-fixing-marked [] = refl
-fixing-marked (m ∷ rest) = go (m .0) refl (fixing-marked rest)
-  where
-    go : (t : Bool) → m .0 ≡ t → inFixed (fixing rest) ≡ map (withSent true) (withMark rest)
-        → inFixed (withSent (m .0) (m .1) ∷ fixing rest) ≡ map (withSent true) (withMark (m ∷ rest))
-    go true e ih = simp e (ap (λ (x : List Item). withSent true (m .1) ∷ x) ih)
-    go false e ih = simp e ih
+-- what a trade takes and brings does not ask whether it is fixed
+takes-sent : (p : Place) (i : Item) → takes p (withSent true i) ≡ takes p i
+unfolding takes seller withSent
+takes-sent (account a) i = refl
+takes-sent (type91 s) i = refl
+takes-sent (type90 s) i = refl
+takes-sent (cashOf m c) i = refl
+takes-sent (member0 c) i = refl
 
-over-fixing :
-    (figure : Item → ℕ) → ((i : Item) → figure (withSent true i) ≡ figure i) → (ms : List Marked) → over figure (fixed (fixing ms)) ≡ over figure ms
-over-fixing figure same ms =
-    over-marked figure (fixed (fixing ms)) ∙ ap (total figure) (fixing-marked ms) ∙ total-map figure figure (withSent true) same (withMark ms)
-    ∙ sym (over-marked figure ms)
+brings-sent : (p : Place) (i : Item) → brings p (withSent true i) ≡ brings p i
+unfolding brings buyer withSent
+brings-sent (account a) i = refl
+brings-sent (type91 s) i = refl
+brings-sent (type90 s) i = refl
+brings-sent (cashOf m c) i = refl
+brings-sent (member0 c) i = refl
 
-short-fixing : (h : Holdings) (ms : List Marked) → NothingShort h ms → NothingShort h (fixed (fixing ms))
-unfolding sharesMissing cashMissing sharesTaken sharesBrought cashTaken cashBrought
-short-fixing h ms n = record {
-  shares = λ a.
-      omega (
-        arith,
-        n .shares a,
-        over-fixing (takesShares a) (λ i. unfold takesShares seller withSent in refl) ms,
-        over-fixing (bringsShares a) (λ i. unfold bringsShares buyer withSent in refl) ms,
-      );
-  cash = λ m c.
-      omega (
-        arith,
-        n .cash m c,
-        over-fixing (takesCash m c) (λ i. unfold takesCash withSent in refl) ms,
-        over-fixing (bringsCash m c) (λ i. unfold bringsCash withSent in refl) ms,
-      );
-}
+short-sent : (h : Holdings) (ts : List Item) → NothingShort h ts → NothingShort h (map (withSent true) ts)
+unfolding missing
+short-sent h ts n p =
+    omega (
+      arith,
+      n p,
+      total-map (takes p) (takes p) (withSent true) (takes-sent p) ts,
+      total-map (brings p) (brings p) (withSent true) (brings-sent p) ts,
+    )
 
 -- ---- form by form
 
@@ -238,13 +206,11 @@ Keeps n f = (b : Ledger) (o : Order) → o.form ≡ n → Premise b → Accepted
 -- what movements leave of an account while a cycle is sent is still enough for what is fixed
 spared : (n : ℕ) → (n is 21) ≡ false → (b : Ledger) (o : Order) (x : Outcome) → Premise b → Step n b o x → b.day.sent ≡ true
     → NothingShort (x .after .holdings) (fixed b.waiting)
-unfolding sharesMissing cashMissing offers
+unfolding missing offers
 spared n t b o x p step s =
     let free = step .spares t s in
-    record {
-      shares = λ a. omega (arith, p.covered .shares a, free .shares a, step .changes (account a));
-      cash = λ m c. omega (arith, p.covered .cash m c, free .cash m c, step .changes (cashOf m c));
-    }
+    by-places (x .after .holdings) (fixed b.waiting) (λ a. omega (arith, p.covered (account a), free .shares a, step .changes (account a)))
+    (λ m c. omega (arith, p.covered (cashOf m c), free .cash m c, step .changes (cashOf m c)))
 
 -- forms that leave the waiting list as it is
 same-list : (n : ℕ) → (n is 21) ≡ false → (b : Ledger) (o : Order) (x : Outcome) → Premise b → Step n b o x → x.after.day ≡ b.day → x.after.waiting ≡ b.waiting
@@ -259,9 +225,9 @@ same-list n t b o x p step d w = go (b.day.sent) refl
     go false s = unsent-fixed x.after (rw w (all-unsent b p s))
 
 -- forms that change what waits beside the fixed trades
-same-fixed : (b : Ledger) (ws : List Item) → Premise b → Each (SentFits b.day) ws → inFixed ws ≡ inFixed b.waiting → Fixed (putWaiting ws b)
+same-fixed : (b : Ledger) (ws : List Item) → Premise b → Each (SentFits b.day) ws → fixed ws ≡ fixed b.waiting → Fixed (putWaiting ws b)
 unfolding putWaiting
-same-fixed b ws p s e = record { sent = s; covered = short-same b.holdings (fixed b.waiting) (fixed ws) (sym e) p.covered }
+same-fixed b ws p s e = record { sent = s; covered = rw e p.covered }
 
 unsent-fits : (day : Day) (i : Item) → Unsent i → SentFits day i
 unsent-fits day i e s = absurd (false≢true (sym e ∙ s))
@@ -270,7 +236,7 @@ trades-only : (b : Ledger) → Premise b → Each TradesOnly b.waiting
 trades-only b p = each-so (SentFits b.day) TradesOnly (λ i f s. is-due b.day.number i (f s .1) .0) b.waiting p.sent
 
 abbrev pub KeepsFixed : ℕ → Effect → Type 0
-KeepsFixed n f = (b : Ledger) (o : Order) → o.form ≡ n → Premise b → Accepted b o → inFixed (f b o .after .waiting) ≡ inFixed b.waiting
+KeepsFixed n f = (b : Ledger) (o : Order) → o.form ≡ n → Premise b → Accepted b o → fixed (f b o .after .waiting) ≡ fixed b.waiting
 
 pub instruct-fixed : (n : ℕ) → KeepsFixed n instruct
 unfolding instruct silent outcome putWaiting
@@ -327,14 +293,13 @@ close-keeps b o e p a step =
     (keep (λ item. not (leaves b.day.number item)) b.waiting)
     (each-kept Unsent Unsent (λ item. not (leaves b.day.number item)) (λ i t f. f) b.waiting (all-unsent b p (none-sent b o 17 e refl a.answered))))
 
-not-settled-unsent : (ws : List Item) → Each Unsent (withoutMark (fixed ws))
-unfolding withoutMark fixed
-not-settled-unsent [] = tt
-not-settled-unsent (w ∷ rest) = go (w .sent) refl (not-settled-unsent rest)
+not-settled-unsent : (b : Ledger) → Each Unsent (notSettled b)
+unfolding notSettled
+not-settled-unsent b = each-kept (λ i. Unit {0}) Unsent (λ i. not i.sent) (λ i n u. not-true i.sent n) b.waiting (any b.waiting)
   where
-    go : (t : Bool) → w.sent ≡ t → Each Unsent (withoutMark (fixed rest)) → Each Unsent (withoutMark (fixed (w ∷ rest)))
-    go true e ih = simp e ih
-    go false e ih = simp e (refl, ih)
+    any : (ws : List Item) → Each (λ i. Unit {0}) ws
+    any [] = tt
+    any (w ∷ rest) = (tt, any rest)
 
 pub declined-unsent : (ws : List Item) → Each Unsent (declined ws)
 unfolding declined withSent
@@ -344,18 +309,18 @@ declined-unsent (w ∷ rest) = (refl, declined-unsent rest)
 answer-keeps : Keeps 21 answerCycle
 answer-keeps b o e p a step =
     either-answer (λ x. Fixed (x .after)) b o
-    (unsent-fixed (confirm b .after) (unfold confirm outcome putDay putHoldings putWaiting notSettled in not-settled-unsent b.waiting))
+    (unsent-fixed (confirm b .after) (unfold confirm outcome putDay putHoldings putWaiting in not-settled-unsent b))
     (unsent-fixed (decline b .after) (unfold decline silent outcome putDay putWaiting in declined-unsent b.waiting))
 
 -- the cycle fixes what makes nothing short
 
 cycle-keeps : Keeps 16 cycle
-unfolding cycle outcome putDay putWaiting fixing
+unfolding cycle outcome putDay putWaiting
 cycle-keeps b o e p a step = record {
   sent =
-      each-map (IfMarked b.day.number) (SentFits (cycle b o .after .day)) (λ (m : Marked). withSent (m .0) (m .1))
-      (λ m f s. (refl, unfold due withSent in f s)) (selection b) (selection-due b);
-  covered = unfold fixing in short-fixing b.holdings (selection b) (nothing-short b);
+      unfold fixing in each-map (IfIn b.day.number) (SentFits (cycle b o .after .day)) (λ (x : Entry). withSent (isSent (selection b) x) x.item)
+      (λ x f s. (refl, unfold due withSent in f (sym (sent-alone (selection b) (selection-alone b) x) ∙ unfold withSent in s))) (selection b) (selection-due b);
+  covered = rw (fixing-fixed (selection b) (selection-alone b)) (short-sent b.holdings (tradesIn (selection b)) (nothing-short b));
 }
 
 forms-keep : AllForms (λ n f. Keeps n f.effect) 1 forms

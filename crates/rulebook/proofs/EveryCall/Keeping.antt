@@ -18,14 +18,16 @@ use Rattle.rulebook.specs.Ledger.{Ledger, Holdings, Requests, accountOf,
 use Rattle.rulebook.specs.Movements.{account, type91, Movement, booked}
 use Rattle.rulebook.specs.Waiting.{isTrade, itemOf, senderOf, sentBy, marking, staying, bothMarked, singleOf, withSent}
 use Rattle.rulebook.specs.Matching.{tolerance}
-use Rattle.rulebook.specs.Cycle.{buyer, settled, notSettled, declined, legs}
+use Rattle.rulebook.specs.Shortfall.{buyer}
+use Rattle.rulebook.specs.Cycle.{settled, notSettled, declined, legs}
 use Rattle.rulebook.specs.Close.{leaves}
 use Rattle.rulebook.specs.Forms.{outcome, moving, silent, openDay, admit, deposit, withdraw, transfer, payIn, payOut, instruct, trade, cancel, cycle, confirm, decline, answerCycle, close, forms, rowOf, used, least, effect, setRate, endedRequest, requestPaper, endRequest}
 use Rattle.rulebook.specs.Refusals.{asksSecurity}
 use Rattle.rulebook.specs.Call.{putMinute}
 use Rattle.rulebook.specs.Premise.{SecurityFits, AccountFits, StateFits, ItemFits, RequestFits, Premise, today, sent}
 use Rattle.rulebook.proofs.ByCall.{Effect, AllForms, either-answer, not-read, by-form}
-use Rattle.rulebook.proofs.Rounds.{fixing-fits, settled-fits, notSettled-fits, Due, settled-due}
+use Rattle.rulebook.proofs.Selection.Fixing.{fixing-fits, Due}
+use Rattle.rulebook.proofs.Settled.{settled-fits, notSettled-fits, settled-due}
 use Rattle.rulebook.proofs.Types.{free-type, pledged-type, requested-type, ends-free, alike-free, deposit-free, transfer-free, pledge-types, release-types, block-types, unblock-types}
 use Rattle.rulebook.proofs.Orders.{Accepted, needs, needed, is-admitted, right-types, is-open, opens-next, none-waits, is-ended}
 use Rattle.rulebook.proofs.EveryCall.Owners.{Owned, Gets, AllGet, still-admitted, booked-admitted, account-admitted, booked-owned}

@@ -12,7 +12,7 @@ use Rattle.rulebook.specs.Ledger.{Holdings, fresh, admitted, putBalance,
 use Rattle.rulebook.specs.declared.Account.{Account}
 use Rattle.rulebook.specs.Movements.{Place, account, type91, type90, cashOf, member0, Movement, credit, debit, credits, debits, booked}
 use Rattle.rulebook.specs.Premise.{withCode, SecurityFits, AccountFits, CashFits}
-use Rattle.rulebook.proofs.Rounds.{same-eq}
+use Rattle.rulebook.proofs.Accounts.{same-eq}
 use Rattle.rulebook.proofs.Securities.{changed, known, unknown}
 use Rattle.rulebook.proofs.Places.{isAccount, isCash, brought, credit-balance, debit-balance, credit-cash, debit-cash, booked-codes}
 use Rattle.rulebook.proofs.Booking.{recounted-beside, booked-puts}

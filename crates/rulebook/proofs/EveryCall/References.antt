@@ -12,9 +12,11 @@ use Rattle.plain.proofs.Lists.{keep-most, total-append, total-map}
 use Rattle.rulebook.specs.Ledger.{Ledger}
 use Rattle.rulebook.specs.Waiting.{isDeliver, isReceive, ownReference, sentBy, withState, withSent, marked, bothMarked, marking, staying, unmarked}
 use Rattle.rulebook.specs.Matching.{pairsWith, pairOf, arrive}
-use Rattle.rulebook.specs.Cycle.{selection, fixing, notSettled, declined}
+use Rattle.rulebook.specs.Selection.{selection}
+use Rattle.rulebook.specs.Cycle.{fixing, notSettled, declined}
 use Rattle.rulebook.specs.Premise.{sent}
-use Rattle.rulebook.proofs.Rounds.{settled-total, fixing-total}
+use Rattle.rulebook.proofs.Selection.Fixing.{fixing-total}
+use Rattle.rulebook.proofs.Settled.{settled-total}
 use Rattle.rulebook.proofs.EveryCall.Items.{Agreed, pairs}
 
 abbrev pub hit : Bool → ℕ

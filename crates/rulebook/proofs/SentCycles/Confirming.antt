@@ -7,7 +7,9 @@ use Rattle.rulebook.specs.Ledger.{Ledger, putDay, putHoldings, putWaitin
 use Rattle.rulebook.specs.Movements.{Movement, booked}
 use Rattle.rulebook.specs.Rows.{postingRows}
 use Rattle.rulebook.specs.Waiting.{sidesOf, sides, withSent}
-use Rattle.rulebook.specs.Cycle.{selection, withMark, seller, buyer, legs, settled}
+use Rattle.rulebook.specs.Shortfall.{seller, buyer}
+use Rattle.rulebook.specs.Selection.{tradesIn, selection}
+use Rattle.rulebook.specs.Cycle.{legs, fixed, settled}
 use Rattle.rulebook.specs.Forms.{outcome, counts, cycle, confirm, forms, rowOf, effect}
 use Rattle.rulebook.specs.Call.{putMinute}
 use Rattle.rulebook.specs.Calls.{bookAfter}
@@ -16,7 +18,7 @@ use Rattle.rulebook.specs.declared.Item.{Item}
 use Rattle.rulebook.specs.declared.Order.{Order}
 use Rattle.rulebook.proofs.ByCall.{effect-at}
 use Rattle.rulebook.proofs.EveryCall.{order-premise}
-use Rattle.rulebook.proofs.EveryCall.Fixed.{inFixed, fixing-marked}
+use Rattle.rulebook.proofs.Selection.Fixing.{selection-alone, fixing-fixed}
 use Rattle.rulebook.proofs.SentCycles.Staying.{calls-keep}
 
 -- neither legs nor sides ask whether a trade is fixed
@@ -36,15 +38,15 @@ module _ (b : Ledger) (o : Order) (e : o.form ≡ 16) where
   unfolding putMinute putDay putWaiting forms rowOf cycle outcome
   is-sent = rw (effect-at 16 b o e)
 
-  selected : inFixed (putMinute o.minute (effect b o .after) .waiting) ≡ map (withSent true) (withMark (selection b))
+  selected : fixed (putMinute o.minute (effect b o .after) .waiting) ≡ map (withSent true) (tradesIn (selection b))
   unfolding putMinute putDay putWaiting forms rowOf cycle outcome
-  selected = rw (effect-at 16 b o e) (fixing-marked (selection b))
+  selected = rw (effect-at 16 b o e) (fixing-fixed (selection b) (selection-alone b))
 
 -- what confirms a book whose fixed trades are those
-confirms : (b later : Ledger) → settled later ≡ map (withSent true) (withMark (selection b)) → AsSent b later
+confirms : (b later : Ledger) → settled later ≡ map (withSent true) (tradesIn (selection b)) → AsSent b later
 unfolding confirm outcome counts putDay putHoldings putWaiting
 confirms b later e =
-    let chosen = withMark (selection b) in
+    let chosen = tradesIn (selection b) in
     let l : legs (settled later) ≡ legs chosen = ap legs e ∙ sent-legs chosen in
     record {
       rows = ap postingRows l;

@@ -11,7 +11,10 @@ use Rattle.plain.proofs.Lists.{_and_, some-append}
 use Rattle.plain.proofs.Tests.{neither}
 use Rattle.rulebook.specs.Ledger.{Ledger, putDay, putWaiting, cycleAnswered, accountOf}
 use Rattle.rulebook.specs.Waiting.{senderOf, sentBy, withSent, notCancellable}
-use Rattle.rulebook.specs.Cycle.{Marked, selection, fixing, declined, offers, sharesTaken, takesShares}
+use Rattle.rulebook.specs.Movements.{account}
+use Rattle.rulebook.specs.Shortfall.{takes}
+use Rattle.rulebook.specs.Selection.{Entry, isSent, selection}
+use Rattle.rulebook.specs.Cycle.{fixing, declined, offers}
 use Rattle.rulebook.specs.Forms.{outcome, silent, cycle, decline, answerCycle, forms, rowOf, windowOf, effect}
 use Rattle.rulebook.specs.Windows.{allRun}
 use Rattle.rulebook.specs.Refusals.{wrongDay, wrongCycle, awaitsAnswer, nothingSent, goesBack, outsideWindow, wrongReference, wrongCancel, cancelsSent, debitsShares, tooLittle, noSpace, dayTests, orderTests, itemTests, requestTests, roomTests, refusals}
@@ -29,8 +32,8 @@ use Rattle.rulebook.proofs.EveryCall.{call-premise}
 use Rattle.rulebook.proofs.SentCycles.Staying.{call-keeps}
 use Rattle.rulebook.proofs.ByCall.{AllForms, by-form, effect-at}
 use Rattle.rulebook.proofs.Orders.{Accepted, accepted, little-parts, debit-enough}
-use Rattle.rulebook.proofs.Rounds.{selection-items}
-use Rattle.rulebook.proofs.EveryCall.Fixed.{over-none, all-unsent, declined-unsent}
+use Rattle.rulebook.proofs.Selection.Fixing.{selection-items}
+use Rattle.rulebook.proofs.EveryCall.Fixed.{none-in-fixed, all-unsent, declined-unsent}
 use Rattle.rulebook.proofs.SentCycles.Between.{one-unsent, order-same}
 
 -- ---- what a decline leaves
@@ -46,13 +49,14 @@ unfolding declined
 unsent-same [] e = refl
 unsent-same (w ∷ rest) e = rw (one-unsent w (e .0), unsent-same rest (e .1))
 
-fixing-declined : (ms : List Marked) → declined (fixing ms) ≡ declined (map (λ m. m .1) ms)
-unfolding declined fixing withSent
-fixing-declined [] = refl
-fixing-declined (m ∷ rest) = rw (fixing-declined rest)
+marks-declined : (test : Entry → Bool) (es : List Entry) → declined (map (λ e. withSent (test e) e.item) es) ≡ declined (map (λ e. e.item) es)
+unfolding declined withSent
+marks-declined test [] = refl
+marks-declined test (e ∷ rest) = rw (marks-declined test rest)
 
 selection-declined : (b : Ledger) → Premise b → b.day.sent ≡ false → declined (fixing (selection b)) ≡ b.waiting
-selection-declined b p s = fixing-declined (selection b) ∙ ap declined (selection-items b) ∙ unsent-same b.waiting (all-unsent b p s)
+unfolding fixing
+selection-declined b p s = marks-declined (isSent (selection b)) (selection b) ∙ ap declined (selection-items b) ∙ unsent-same b.waiting (all-unsent b p s)
 
 sends : (b : Ledger) (o : Order) → Premise b → b.day.sent ≡ false → o.form ≡ 16 → unsent (effect b o .after) ≡ putDay (oneMoreRun b.day) b
 unfolding forms rowOf cycle outcome putDay putWaiting
@@ -93,7 +97,7 @@ module _ (b : Ledger) (o : Order) (p : Premise b) (a : Accepted b o) (s : b.day.
       from = accountOf o.security o.debited
 
       all : offers b.holdings (declined b.waiting) from ≡ b.holdings.balance from
-      all = unfold offers sharesTaken in omega (arith, over-none (takesShares from) (declined b.waiting) (declined-unsent b.waiting))
+      all = unfold offers in rw (none-in-fixed (declined b.waiting) (declined-unsent b.waiting)) (omega arith)
 
       go : (u : Bool) → debitsShares o.form ≡ u → (u && offers b.holdings (declined b.waiting) from below o.quantity.0) ≡ false
       go true e = le-ltb (offers b.holdings (declined b.waiting) from) o.quantity.0 (omega (arith, all, debit-enough b o a.little e))

@@ -6,14 +6,16 @@ use Prim.Native.Nat.{ℕ, _-_, _≤_}
 use native.Mathlib.Omega.{arith}
 use Rattle.plain.specs.Lists.{if_then_else_}
 use Rattle.rulebook.specs.Ledger.{Holdings, sameAccount}
-use Rattle.rulebook.specs.Movements.{account, type91, move, credit, debit, credits, debits, booked}
-use Rattle.rulebook.specs.Cycle.{sharesMissing, cashMissing, fixed, offers}
+use Rattle.rulebook.specs.Movements.{account, type91, cashOf, move, credit, debit, credits, debits, booked}
+use Rattle.rulebook.specs.Shortfall.{missing, NothingShort}
+use Rattle.rulebook.specs.Cycle.{fixed, offers}
 use Rattle.rulebook.specs.SentCycles.{OfferExact}
 use Rattle.rulebook.specs.declared.Account.{Account}
 use Rattle.rulebook.proofs.Booking.{recounted-beside}
 use Rattle.rulebook.proofs.Held.{same-self}
 use Rattle.rulebook.proofs.Places.{credit-balance, debit-balance, credit-cash, debit-cash}
-use Rattle.rulebook.proofs.Rounds.{same-eq}
+use Rattle.rulebook.proofs.Accounts.{same-eq}
+use Rattle.rulebook.proofs.Selection.Quiet.{by-places}
 
 -- what leaves an account changes no other balance and no cash
 module _ (a : Account) (security n : ℕ) (h : Holdings) where
@@ -38,13 +40,12 @@ module _ (a : Account) (security n : ℕ) (h : Holdings) where
       omega (arith, r, debit-cash m c (account a) n out, credit-cash m c (type91 security) n h)
 
 pub offer-exact : OfferExact
-unfolding OfferExact offers sharesMissing cashMissing
+unfolding OfferExact offers missing
 offer-exact b security a n p l = (
-  (λ o. record {
-    shares = λ x. enough o x (sameAccount a x) refl;
-    cash = λ m c. rw (left-cash a security n b.holdings m c) (p.covered .cash m c);
-  }),
-  (λ short. omega (arith, l, short .shares a, own)),
+  (λ o.
+      by-places (left a security n b.holdings) (fixed b.waiting) (λ x. enough o x (sameAccount a x) refl)
+      (λ m c. rw (left-cash a security n b.holdings m c) (p.covered (cashOf m c)))),
+  (λ short. omega (arith, l, short (account a), own)),
 )
   where
     own : left a security n b.holdings .balance a ≡ b.holdings.balance a - n
@@ -53,10 +54,10 @@ offer-exact b security a n p l = (
     -- the account itself keeps what the fixed trades take from it, and every other keeps what it has
     enough :
         n ≤ offers b.holdings b.waiting a → (x : Account) (t : Bool) → sameAccount a x ≡ t
-        → sharesMissing (left a security n b.holdings) (fixed b.waiting) x ≡ 0
+        → missing (left a security n b.holdings) (fixed b.waiting) (account x) ≡ 0
     enough o x true e =
-        subst (λ (y : Account). sharesMissing (left a security n b.holdings) (fixed b.waiting) y ≡ 0) (same-eq a x e)
-        (omega (arith, l, o, own, p.covered .shares a))
+        subst (λ (y : Account). missing (left a security n b.holdings) (fixed b.waiting) (account y) ≡ 0) (same-eq a x e)
+        (omega (arith, l, o, own, p.covered (account a)))
     enough o x false e =
         let same : left a security n b.holdings .balance x ≡ b.holdings.balance x = left-balance a security n b.holdings x ∙ simp e (omega arith) in
-        omega (arith, same, p.covered .shares x)
+        omega (arith, same, p.covered (account x))

@@ -7,7 +7,7 @@ use Rattle.plain.specs.Lists.{_is_, some, first}
 use Rattle.plain.proofs.Lists.{_and_, some-append}
 use Rattle.plain.proofs.Tests.{neither}
 use Rattle.rulebook.specs.Ledger.{Ledger, putDay, putHoldings, putWaiting, putRate, putRequests}
-use Rattle.rulebook.specs.Cycle.{settled}
+use Rattle.rulebook.specs.Cycle.{fixed, settled}
 use Rattle.rulebook.specs.Forms.{outcome, moving, silent, admit, deposit, withdraw, transfer, instruct, trade, cancel, setRate, requestPaper, endRequest, forms, effect}
 use Rattle.rulebook.specs.Record.{readOf}
 use Rattle.rulebook.specs.Refusals.{refusals}
@@ -20,11 +20,11 @@ use Rattle.rulebook.specs.declared.Read.{Read}
 use Rattle.rulebook.proofs.ByCall.{Effect, AllForms, acceptedCall, not-read, by-form, by-answer}
 use Rattle.rulebook.proofs.Orders.{Accepted, accepted, opens-next, none-sent}
 use Rattle.rulebook.proofs.EveryCall.{call-premise}
-use Rattle.rulebook.proofs.EveryCall.Fixed.{inFixed, instruct-fixed, trade-fixed, cancel-fixed}
+use Rattle.rulebook.proofs.EveryCall.Fixed.{instruct-fixed, trade-fixed, cancel-fixed}
 
 -- the cycle is still sent, and its fixed trades are the same
 abbrev Stays : Ledger → Ledger → Type 0
-Stays b after = (after.day.sent ≡ true) × (inFixed after.waiting ≡ inFixed b.waiting)
+Stays b after = (after.day.sent ≡ true) × (fixed after.waiting ≡ fixed b.waiting)
 
 abbrev Keeps : ℕ → Effect → Type 0
 Keeps n f = (b : Ledger) (o : Order) → o.form ≡ n → Premise b → Accepted b o → b.day.sent ≡ true → (n is 21) ≡ false → Stays b (f b o .after)

@@ -20,7 +20,7 @@ use Rattle.rulebook.specs.Cycle.{offers}
 use Rattle.rulebook.specs.Forms.{outcome, counts, moving, admit, deposit, withdraw, transfer, payIn, payOut, forms, rowOf, used, least}
 use Rattle.rulebook.specs.Refusals.{asksSecurity, debitsShares, wrongSecurity}
 use Rattle.rulebook.specs.Premise.{withCode, Premise}
-use Rattle.rulebook.proofs.Rounds.{same-eq}
+use Rattle.rulebook.proofs.Accounts.{same-eq}
 use Rattle.rulebook.proofs.Orders.{is-admitted, not-admitted, little-parts, debit-offered, debit-enough, right-types, needed, none-sent}
 use Rattle.rulebook.proofs.Securities.{known, unknown, new-count, new-none, new-issued}
 use Rattle.rulebook.proofs.Places.{brought, Known, Bears, booked-exact, one-enough}

@@ -10,11 +10,12 @@ use Rattle.rulebook.specs.AccountTypes.{pledgedOrBlocked}
 use Rattle.rulebook.specs.Ledger.{Ledger, Holdings, accountOf, putSecurities, putDay, putHoldings, putWaiting}
 use Rattle.rulebook.specs.declared.Account.{Account}
 use Rattle.rulebook.specs.Movements.{Place, account, type91, type90, cashOf, member0, Movement, recounted, booked, bookHas}
-use Rattle.rulebook.specs.Cycle.{Marked, seller, buyer, over, bringsShares, takesShares, bringsCash, takesCash, sharesTaken, sharesBrought, cashTaken, cashBrought, sharesMissing, cashMissing, NothingShort, withMark, fixed, settled, legs, offers}
+use Rattle.rulebook.specs.Shortfall.{seller, buyer, takes, brings, missing, NothingShort}
+use Rattle.rulebook.specs.Cycle.{fixed, settled, legs, offers}
 use Rattle.rulebook.specs.Forms.{Outcome, outcome, counts, silent, confirm, decline, answerCycle, forms, rowOf}
 use Rattle.rulebook.proofs.ByCall.{either-answer}
-use Rattle.rulebook.proofs.Rounds.{settled-fits}
-use Rattle.plain.specs.Lists.{Each}
+use Rattle.rulebook.proofs.Settled.{settled-fits}
+use Rattle.plain.specs.Lists.{total, Each}
 use Rattle.plain.proofs.Lists.{each-so}
 use Rattle.rulebook.specs.declared.Order.{Order}
 use Rattle.rulebook.specs.Premise.{ItemFits, Premise, today}
@@ -63,37 +64,27 @@ module _ (test : ℕ → Bool) (not-quiet : (t : ℕ) → Quiet t → test t ≡
         omega (arith, l .1, party-apart test t.security t.credited (not-quiet _ (e .0 .credited .quiet)) t.quantity.0 a q),
       )
 
--- what the legs bring and take is what the cycle counts
-module _
-    (p : Place)
-    (out into : Item → ℕ)
-    (takes : (t : Item) → taken p (legs (t ∷ [])) ≡ out t)
-    (brings : (t : Item) → brought p (legs (t ∷ [])) ≡ into t)
-  where
-    abbrev Counts : List Marked → Type 0
-    Counts ms = (taken p (legs (withMark ms)) ≡ over out ms) × (brought p (legs (withMark ms)) ≡ over into ms)
+-- what the legs take from a place and bring there is what the trades do
+legs-take : (p : Place) (t : Item) → taken p (legs (t ∷ [])) ≡ takes p t
+unfolding legs takes
+legs-take (account a) t = omega arith
+legs-take (type91 s) t = refl
+legs-take (type90 s) t = refl
+legs-take (cashOf m c) t = omega arith
+legs-take (member0 c) t = refl
 
-    legs-step : (b : Bool) (i : Item) (rest : List Marked) → Counts rest → Counts ((b, i) ∷ rest)
-    unfolding legs withMark over
-    legs-step true i rest ih = (omega (arith, takes i), omega (arith, brings i))
-    legs-step false i rest ih = (omega arith, omega arith)
+legs-bring : (p : Place) (t : Item) → brought p (legs (t ∷ [])) ≡ brings p t
+unfolding legs brings
+legs-bring (account a) t = omega arith
+legs-bring (type91 s) t = refl
+legs-bring (type90 s) t = refl
+legs-bring (cashOf m c) t = omega arith
+legs-bring (member0 c) t = refl
 
-    legs-count : (ms : List Marked) → Counts ms
-    unfolding legs withMark over
-    legs-count [] = (refl, refl)
-    legs-count (m ∷ rest) = legs-step (m .0) (m .1) rest (legs-count rest)
-
-shares-legs :
-    (a : Account) (ms : List Marked) → (taken (account a) (legs (withMark ms)) ≡ sharesTaken a ms)
-    × (brought (account a) (legs (withMark ms)) ≡ sharesBrought a ms)
-unfolding legs sharesTaken sharesBrought takesShares bringsShares
-shares-legs a ms = legs-count (account a) (takesShares a) (bringsShares a) (λ t. omega arith) (λ t. omega arith) ms
-
-cash-legs :
-    (m c : ℕ) (ms : List Marked) → (taken (cashOf m c) (legs (withMark ms)) ≡ cashTaken m c ms)
-    × (brought (cashOf m c) (legs (withMark ms)) ≡ cashBrought m c ms)
-unfolding legs cashTaken cashBrought takesCash bringsCash
-cash-legs m c ms = legs-count (cashOf m c) (takesCash m c) (bringsCash m c) (λ t. omega arith) (λ t. omega arith) ms
+legs-totals : (p : Place) (ts : List Item) → (taken p (legs ts) ≡ total (takes p) ts) × (brought p (legs ts) ≡ total (brings p) ts)
+unfolding legs
+legs-totals p [] = (refl, refl)
+legs-totals p (t ∷ rest) = let l = legs-totals p rest in (omega (arith, legs-take p t, l .0), omega (arith, legs-bring p t, l .1))
 
 abbrev SameSums : List Movement → Type 0
 SameSums ms =
@@ -113,18 +104,10 @@ unfolding legs recounted
 legs-inside [] h = refl
 legs-inside (t ∷ rest) h = legs-inside rest h
 
-none-taken : (p : Place) → ((q : Place) → isAt p q ≡ false) → (ms : List Movement) → taken p ms ≡ 0
-none-taken p f [] = refl
-none-taken p f (m ∷ rest) = simp (f m.from) (omega (arith, none-taken p f rest))
-
 -- where nothing is short over the fixed trades, each place has enough for what they take from it
 cycle-enough : (b : Ledger) → NothingShort b.holdings (fixed b.waiting) → Enough b.holdings (legs (settled b))
-unfolding settled sharesMissing cashMissing
-cycle-enough b n (account a) = let l = shares-legs a (fixed b.waiting) in omega (arith, n .shares a, l .0, l .1)
-cycle-enough b n (type91 s) = omega (arith, legs-sums (settled b) .1 s .0)
-cycle-enough b n (type90 s) = omega (arith, none-taken (type90 s) (λ q. refl) (legs (settled b)))
-cycle-enough b n (cashOf m c) = let l = cash-legs m c (fixed b.waiting) in omega (arith, n .cash m c, l .0, l .1)
-cycle-enough b n (member0 c) = omega (arith, none-taken (member0 c) (λ q. refl) (legs (settled b)))
+unfolding settled missing
+cycle-enough b n p = let l = legs-totals p (settled b) in omega (arith, n p, l .0, l .1)
 
 -- so no debit of a settlement is cut off at 0: each account and each member's cash changes by exactly what the fixed trades bring and take
 pub cycle-exact :
@@ -165,4 +148,4 @@ unfolding offers settled
 requests-offered b a p q =
     let P : Item → Type 0 = ItemFits b.day.number (today b.day) b.holdings in
     let i = each-so P ItemPosts (item-posts b.day.number (today b.day) b.holdings) (settled b) (settled-fits P b p.items) in
-    omega (arith, shares-legs a (fixed b.waiting) .0, legs-apart awaits (λ t y. y .2) a q (settled b) i .0)
+    omega (arith, legs-totals (account a) (settled b) .0, legs-apart awaits (λ t y. y .2) a q (settled b) i .0)

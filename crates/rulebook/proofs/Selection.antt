@@ -1,0 +1,17 @@
+-- What is proved of selections. Assumes nothing.
+
+-- what is missing: a test over the trades finds every place that is short
+pub mod Quiet
+-- the dropping ends with nothing short, and keeps what each that goes lacked
+pub mod Dropping
+-- passes keep nothing short, come to an end, and leave only what does not fit
+pub mod Adding
+-- all of it: `selected`, `nothing-fits`, `enough-turns`
+pub mod Choice
+-- where each trade goes by itself
+pub mod Alone
+-- of a book: what a cycle selects and fixes
+pub mod Fixing
+-- for code: the numbers fit a word, and a pass as it is walked
+pub mod Bounds
+pub mod Walking

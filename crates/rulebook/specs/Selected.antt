@@ -1,0 +1,77 @@
+-- What is proved of a selection (RULES 12.33 to 12.35).
+use Prim.Native.Nat.{ℕ, _+_, _≤_, _<_}
+use mathlib.Core.Bool.{Bool, true, false, not, _||_}
+use mathlib.Core.List.{List, map, _++_}
+use mathlib.Core.Path.{_≡_}
+use Rattle.plain.specs.Lists.{some, total, Each}
+use Rattle.rulebook.specs.declared.Item.{Item}
+use Rattle.rulebook.specs.Ledger.{Holdings}
+use Rattle.rulebook.specs.Movements.{Place}
+use Rattle.rulebook.specs.Shortfall.{Shortfall, missing, NothingShort, lacksSome, shortfall, debitsShort}
+use Rattle.rulebook.specs.Selection.{Standing, Entry, notDue, taken, left, tradesOf, isTaken, isLeft, tradesIn}
+use Rattle.rulebook.specs.Selection.{countIn, countLeft, tradesLeft, fits, rounds, onePass, passes}
+
+-- ---- of a selection, with passes or without
+
+-- a claim on what the trades of each entry that is left lacked
+abbrev pub IfLeft : (List Item → List Shortfall → Type 0) → List Item → Standing → Type 0
+IfLeft P trades notDue = Unit {0}
+IfLeft P trades taken = Unit {0}
+IfLeft P trades (left lacked) = P trades lacked
+
+abbrev pub WhereLeft : (List Item → List Shortfall → Type 0) → List Entry → Type 0
+WhereLeft P es = Each (λ e. IfLeft P (tradesOf e) e.standing) es
+
+-- it is what they lacked at one moment with them among the trades that were in: one figure a trade, and some figure above 0
+pub record Moment (h : Holdings) (trades : List Item) (lacked : List Shortfall) : Type 0 where
+  pub now : List Item
+  pub among : (figure : Item → ℕ) → total figure trades ≤ total figure now
+  pub exact : lacked ≡ map (shortfall h now) trades
+  pub above : some lacksSome lacked ≡ true
+
+-- what a selection does not change: the item, what goes with it, and whether it is due
+pub record Spot : Type 0 where
+  pub item : Item
+  pub others : List Item
+  pub isDue : Bool
+
+abbrev pub spot : Entry → Spot
+spot e = record { item = e.item; others = e.others; isDue = isTaken e.standing || isLeft e.standing }
+
+-- before a selection nothing is left
+abbrev pub NoneLeft : List Entry → Type 0
+NoneLeft es = Each (λ e. isLeft e.standing ≡ false) es
+
+pub record Selected (h : Holdings) (before after : List Entry) : Type 0 where
+  -- nothing is short with the trades that are in
+  pub quiet : NothingShort h (tradesIn after)
+  -- each that is left lacked something when it went
+  pub lacked : WhereLeft (Moment h) after
+  -- place by place, what is due is in or left, and nothing else is
+  pub same : map spot after ≡ map spot before
+  -- so of every figure, those in and those left have together what the due ones have
+  pub parts : (figure : Item → ℕ) → total figure (tradesIn after) + total (λ l. figure l.trade) (tradesLeft after) ≡ total figure (tradesIn before)
+
+-- more rounds than there are entries in, and more passes than there are left, change nothing
+pub record EnoughTurns (h : Holdings) (es : List Entry) : Type 0 where
+  pub rounds-enough : (n k : ℕ) → countIn es ≤ n → countIn es ≤ k → rounds n h es ≡ rounds k h es
+  pub passes-enough : (n k : ℕ) → countLeft es ≤ n → countLeft es ≤ k → passes n h es ≡ passes k h es
+
+-- ---- of one with passes until none puts anything back
+
+-- some account, or some member's cash, misses something
+abbrev pub SomethingShort : Holdings → List Item → Type 0
+SomethingShort h trades = (place : Place) × (0 < missing h trades place)
+
+-- one that is left would make something short, alone beside those that are in
+abbrev pub Unfit : Holdings → (now : List Item) → Entry → Type 0
+Unfit h now e = isLeft e.standing ≡ true → SomethingShort h (now ++ tradesOf e)
+
+pub record NothingFits (h : Holdings) (after : List Entry) : Type 0 where
+  pub unfit : Each (Unfit h (tradesIn after)) after
+  -- a further pass would put nothing back
+  pub ended : onePass h after ≡ after
+
+-- where nothing is short, only the places that an added one debits can become so
+abbrev pub OwnTest : Holdings → (now : List Item) → Entry → Type 0
+OwnTest h now e = NothingShort h now → fits h now e ≡ not (some (debitsShort h (now ++ tradesOf e)) (tradesOf e))
