@@ -2,22 +2,24 @@
 use Prim.Native.Nat.{ℕ, _+_, _*_}
 use native.Mathlib.Omega.{arith}
 use mathlib.Core.Bool.{true, false, false≢true}
-use mathlib.Core.List.{List, [], _∷_, map}
+use mathlib.Core.List.{List, [], _∷_, _++_, map}
 use mathlib.Core.Path.{_≡_, refl, sym, ap, subst, _∙_}
-use lib.ListN.{length}
+use lib.ListN.{length, drop}
 use Rattle.plain.specs.Lists.{Each}
 use Rattle.rulebook.specs.Ledger.{Ledger, putDay, putHoldings, putWaiting, cycleAnswered}
 use Rattle.rulebook.specs.Movements.{booked}
-use Rattle.rulebook.specs.Rows.{postingRows}
+use Rattle.rulebook.specs.Rows.{postingRows, rowsBytes}
 use Rattle.rulebook.specs.Waiting.{isTrade, sidesOf, sides, withSent}
-use Rattle.rulebook.specs.Cycle.{Marked, anyShort, withMark, withoutMark, fixing, fixed, settled, notSettled, declined, legs}
+use Rattle.rulebook.specs.Shortfall.{NothingShort}
+use Rattle.rulebook.specs.Cycle.{fixed, settled, notSettled, declined, legs}
 use Rattle.rulebook.specs.Forms.{counts, outcome, silent, confirm, decline}
 use Rattle.rulebook.specs.Premise.{Premise}
 use Rattle.rulebook.specs.declared.Counts.{Counts}
 use Rattle.rulebook.specs.declared.Item.{Item}
 use Rattle.rulebook.specs.declared.State.{State}
 use Rattle.rulebook.specs.declared.State.the-variants.{Single, Pair, Trade}
-use Rattle.rulebook.proofs.Rounds.{Due, none-found, settled-due}
+use Rattle.rulebook.proofs.Selection.Fixing.{Due}
+use Rattle.rulebook.proofs.Settled.{settled-due}
 use Rattle.rulebook.proofs.RowCounts.{posting-length, legs-length}
 use Rattle.words.specs.Places.{listFrom}
 use Rattle.words.proofs.Places.{from-same, from-map}
@@ -25,9 +27,11 @@ use Rattle.book.specs.Meaning.{ledgerOf}
 use Rattle.book.specs.Stored.{Means}
 use Rattle.book.specs.Handled.{Handled}
 use Rattle.book.proofs.Parts.{next}
-use Rattle.marks.specs.Marks.{itemIn, isOn, markedOf, countOn, withRows}
+use Rattle.marks.specs.Marks.{Marked, withMark, withoutMark, itemIn, isOn, markedOf, countOn, withRows}
 use Rattle.marks.proofs.Masks.{none-on}
 use Rattle.marks.proofs.Marking.{listed, count-marked}
+use Rattle.fixing.specs.Borne.{bearing, borne}
+use Rattle.fixing.proofs.Borne.{borne-fixed, borne-rest}
 
 -- ---- a trade has two sides
 
@@ -44,17 +48,27 @@ sides-two day (t ∷ rest) e = omega (arith, two t.state (e .0 .0), sides-two da
 
 -- ---- confirmed
 
-module _ (b : Ledger) (p : Premise b) (marks : ℕ) (on-items : markedOf marks b.waiting ≡ fixed b.waiting) where
+module _ (b : Ledger) (p : Premise b) (marks : ℕ) (on-items : markedOf marks b.waiting ≡ borne b.waiting) where
+  -- the marked items are the fixed ones
+  are-fixed : withMark (markedOf marks b.waiting) ≡ settled b
+  unfolding settled
+  are-fixed = ap withMark on-items ∙ borne-fixed b.waiting
+
+  wait-on : withoutMark (markedOf marks b.waiting) ≡ notSettled b
+  unfolding notSettled
+  wait-on = ap withoutMark on-items ∙ borne-rest b.waiting
+
   -- what is fixed can be booked now
-  pub none-short : anyShort b.holdings (markedOf marks b.waiting) ≡ false
-  none-short = subst (λ (ms : List Marked). anyShort b.holdings ms ≡ false) (sym on-items) (none-found b.holdings (fixed b.waiting) p.covered)
+  pub none-short : NothingShort b.holdings (withMark (markedOf marks b.waiting))
+  unfolding settled
+  none-short = subst (NothingShort b.holdings) (sym are-fixed) p.covered
 
   abbrev number : ℕ
   number = countOn (isOn marks) (length b.waiting)
 
   on-settled : number ≡ length (settled b)
-  unfolding settled markedOf
-  on-settled = sym (count-marked (itemIn b.waiting) (length b.waiting) (isOn marks)) ∙ ap (λ (ms : List Marked). length (withMark ms)) on-items
+  unfolding markedOf
+  on-settled = sym (count-marked (itemIn b.waiting) (length b.waiting) (isOn marks)) ∙ ap length are-fixed
 
   same-counts : counts (4 * number) (2 * number) 0 0 0 0 ≡ counts (length (postingRows (legs (settled b)))) (sides (settled b)) 0 0 0 0
   unfolding counts
@@ -81,22 +95,23 @@ module _ (b : Ledger) (p : Premise b) (marks : ℕ) (on-items : markedOf marks b
       pub confirmed :
           (area area′ : List ℕ) (r : Counts) → area′ ≡ withRows (markedOf marks b.waiting) area → r ≡ counts (4 * number) (2 * number) 0 0 0 0
           → Handled (confirm b) third area area′ r
-      unfolding confirm outcome settled notSettled putDay putHoldings putWaiting
+      unfolding confirm outcome putDay putHoldings putWaiting
       confirmed area area′ r w e = record {
         stored = dated .stored;
         ledger =
             next (λ x. putDay (cycleAnswered (x .day)) x) stays dated .ledger
-            ∙ ap (λ (ms : List Marked). putDay (cycleAnswered b.day) (putWaiting (withoutMark ms) (putHoldings (booked (legs (withMark ms)) b.holdings) b)))
-            on-items;
+            ∙ ap (λ (ts : List Item). putDay (cycleAnswered b.day) (putWaiting (withoutMark (markedOf marks b.waiting)) (putHoldings (booked (legs ts) b.holdings) b)))
+            are-fixed
+            ∙ ap (λ (ws : List Item). putDay (cycleAnswered b.day) (putWaiting ws (putHoldings (booked (legs (settled b)) b.holdings) b))) wait-on;
         counted = e ∙ same-counts;
-        written = w ∙ ap (λ (ms : List Marked). withRows ms area) on-items;
+        written = w ∙ ap (λ (ts : List Item). rowsBytes (postingRows (legs ts)) ++ drop (16 * length (postingRows (legs ts))) area) are-fixed;
       }
 
 -- ---- declined
 
 -- with no mark no item is fixed
-no-marks : (ws : List Item) → fixing (markedOf 0 ws) ≡ declined ws
-unfolding fixing markedOf declined
+no-marks : (ws : List Item) → bearing (markedOf 0 ws) ≡ declined ws
+unfolding bearing markedOf declined
 no-marks ws =
     from-map (λ (m : Marked). withSent (m .0) (m .1)) (λ k. (isOn 0 k, itemIn ws k)) 0 (length ws)
     ∙ from-same (λ k. withSent false (itemIn ws k)) (λ k. withSent (isOn 0 k) (itemIn ws k)) 0 0 (length ws) (λ k l. rw (none-on (0 + k)))
@@ -104,7 +119,7 @@ no-marks ws =
     ∙ ap (map (withSent false)) (listed ws)
 
 pub let-go :
-    (b : Ledger) (first : List ℕ) → Means first (putWaiting (fixing (markedOf 0 b.waiting)) b) → (second : List ℕ)
+    (b : Ledger) (first : List ℕ) → Means first (putWaiting (bearing (markedOf 0 b.waiting)) b) → (second : List ℕ)
     → Means second (putDay (cycleAnswered (ledgerOf first .day)) (ledgerOf first))
     → Means second (putDay (cycleAnswered b.day) (putWaiting (declined b.waiting) b))
 unfolding putWaiting

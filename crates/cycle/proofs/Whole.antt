@@ -2,25 +2,33 @@
 use Prim.Native.Nat.{ℕ, _-_, _^_, _≤_, _<_}
 use native.Mathlib.Omega.{arith}
 use mathlib.Core.Bool.{Bool, true, false}
-use mathlib.Core.List.{List, [], _∷_}
-use mathlib.Core.Path.{_≡_, refl, sym, ap, _∙_}
+use mathlib.Core.List.{List, [], _∷_, map}
+use mathlib.Core.Path.{_≡_, refl, sym, ap, ap₂, _∙_}
 use lib.ListN.{length, drop}
 use Rattle.plain.specs.Lists.{if_then_else_, _is_}
 use Rattle.rulebook.specs.Ledger.{Ledger, putDay, putWaiting, cycleSent}
 use Rattle.rulebook.specs.Rows.{rowsBytes}
-use Rattle.rulebook.specs.Cycle.{Marked, taken, selection, withMark, fixing, dropped}
+use Rattle.rulebook.specs.Waiting.{withSent}
+use Rattle.rulebook.specs.Selection.{Entry, tradesIn, isSent, due as isDue, entries, selection}
+use Rattle.rulebook.specs.Cycle.{fixing, leftBy}
 use Rattle.rulebook.specs.Forms.{counts, outcome, cycle}
 use Rattle.rulebook.specs.Premise.{Premise}
 use Rattle.rulebook.specs.Windows.{cycleMinutes, byKind}
 use Rattle.rulebook.specs.declared.Counts.{Counts}
+use Rattle.rulebook.specs.declared.Item.{Item}
 use Rattle.rulebook.specs.declared.Order.{Order}
+use Rattle.rulebook.proofs.Selection.Alone.{Alone, entries-alone, sent-alone}
+use Rattle.rulebook.proofs.Selection.Fixing.{selection-alone, left-and-in}
 use Rattle.book.specs.Meaning.{ledgerOf}
 use Rattle.book.specs.Stored.{Means}
 use Rattle.book.specs.Handled.{Handled}
 use Rattle.book.proofs.Parts.{next}
-use Rattle.marks.specs.Marks.{itemIn, isOn, markedOf, countOn}
+use Rattle.marks.specs.Marks.{Marked, withMark, itemIn, isOn, markedOf, countOn}
 use Rattle.marks.proofs.Marking.{count-marked}
+use Rattle.netting.specs.Rounds.{markOf}
 use Rattle.netting.specs.Selected.{Selected}
+use Rattle.netting.proofs.Entries.{in-marked}
+use Rattle.fixing.specs.Borne.{bearing}
 
 -- a day has at most three cycles
 few : (kind : ℕ) → length (cycleMinutes kind) ≤ 3
@@ -37,24 +45,35 @@ premise-cycles b p = omega (arith, p .day .cycles, few b.day.kind)
 module _ (b : Ledger) (due marks : ℕ) (chosen : Selected b due marks) where
   -- how many are left
 
-  on-fixed : countOn (isOn marks) (length b.waiting) ≡ length (withMark (selection b))
+  -- the entries that are in are those with a mark
+  on-in :
+      (es : List Entry) → Alone es → (m : ℕ) → markedOf m b.waiting ≡ map markOf es → countOn (isOn m) (length b.waiting) ≡ length (tradesIn es)
   unfolding markedOf
-  on-fixed =
-      sym (count-marked (itemIn b.waiting) (length b.waiting) (isOn marks)) ∙ ap (λ (ms : List Marked). length (withMark ms)) (chosen .fixed-marked)
-
-  on-due : countOn (isOn due) (length b.waiting) ≡ length (withMark (taken b.day.number b.waiting))
-  unfolding markedOf
-  on-due = sym (count-marked (itemIn b.waiting) (length b.waiting) (isOn due)) ∙ ap (λ (ms : List Marked). length (withMark ms)) (chosen .due-marked)
+  on-in es a m e =
+      sym (count-marked (itemIn b.waiting) (length b.waiting) (isOn m)) ∙ ap (λ (ms : List Marked). length (withMark ms)) e
+      ∙ ap length (sym (in-marked es a))
 
   abbrev left : ℕ
   left = countOn (isOn due) (length b.waiting) - countOn (isOn marks) (length b.waiting)
 
-  left-dropped : left ≡ dropped b
-  unfolding dropped
-  left-dropped = omega (arith, on-fixed, on-due)
+  left-out : left ≡ leftBy b
+  unfolding entries
+  left-out =
+      let fixed = on-in (selection b) (selection-alone b) marks (chosen .fixed-marked) in
+      let all = on-in (entries b) (entries-alone (isDue b.day.number) b.waiting) due (chosen .due-marked) in
+      omega (arith, fixed, all, left-and-in b)
+
+  -- the marks on the items
+  marks-fixed : bearing (markedOf marks b.waiting) ≡ fixing (selection b)
+  unfolding bearing fixing
+  marks-fixed = ap bearing (chosen .fixed-marked) ∙ go (selection b)
+    where
+      go : (es : List Entry) → bearing (map markOf es) ≡ map (λ e. withSent (isSent (selection b) e) e.item) es
+      go [] = refl
+      go (e ∷ rest) = ap₂ _∷_ (ap (λ (x : Bool). withSent x e.item) (sym (sent-alone (selection b) (selection-alone b) e))) (go rest)
 
   -- the book, after its waiting list and its day are changed
-  module _ (first : List ℕ) (listed : Means first (putWaiting (fixing (markedOf marks b.waiting)) b)) where
+  module _ (first : List ℕ) (listed : Means first (putWaiting (bearing (markedOf marks b.waiting)) b)) where
     pub same-day : ledgerOf first .day ≡ b.day
     unfolding putWaiting
     same-day = ap (λ (x : Ledger). x .day) (listed .ledger)
@@ -66,7 +85,7 @@ module _ (b : Ledger) (due marks : ℕ) (chosen : Selected b due marks) where
         stored = dated .stored;
         ledger =
             next (λ x. putDay (cycleSent (x .day)) x) listed dated .ledger
-            ∙ ap (λ (ms : List Marked). putDay (cycleSent b.day) (putWaiting (fixing ms) b)) (chosen .fixed-marked);
-        counted = e ∙ ap (counts 0 0 0 0 0) left-dropped;
+            ∙ ap (λ (ws : List Item). putDay (cycleSent b.day) (putWaiting ws b)) marks-fixed;
+        counted = e ∙ ap (counts 0 0 0 0 0) left-out;
         written = refl;
       }

@@ -9,15 +9,15 @@ use lib.Seq.{getD-set-same, getD-set-other}
 use borrow.Author.Count.{below-more}
 use Rattle.rulebook.specs.Ledger.{Ledger, putWaiting}
 use Rattle.rulebook.specs.Waiting.{withSent}
-use Rattle.rulebook.specs.Cycle.{Marked, fixing}
 use Rattle.rulebook.specs.declared.Item.{Item}
 use Rattle.words.specs.Places.{listFrom}
 use Rattle.words.proofs.Places.{from-same, from-map}
 use Rattle.book.specs.Meaning.{ledgerOf}
 use Rattle.book.specs.Stored.{Stored, Means}
 use Rattle.book.proofs.Parts.{next}
-use Rattle.marks.specs.Marks.{noItem, itemIn, isOn, markedOf}
+use Rattle.marks.specs.Marks.{Marked, noItem, itemIn, isOn, markedOf}
 use Rattle.marks.proofs.Marking.{listed}
+use Rattle.fixing.specs.Borne.{bearing}
 
 module _ (b : Ledger) (marks : ℕ) where
   -- the item at k with its mark
@@ -44,8 +44,8 @@ module _ (b : Ledger) (marks : ℕ) where
     rest = λ k h. getD-set-other now i k _ noItem (λ e. omega (arith, e, h)) ∙ p .rest k (omega arith);
   }
 
-  put-all : (now : List Item) (i : ℕ) → Put now i → i ≡ length b.waiting → now ≡ fixing (markedOf marks b.waiting)
-  unfolding fixing markedOf
+  put-all : (now : List Item) (i : ℕ) → Put now i → i ≡ length b.waiting → now ≡ bearing (markedOf marks b.waiting)
+  unfolding bearing markedOf
   put-all now i p e =
       sym (listed now)
       ∙ ap (listFrom (itemIn now) 0) (p .long)
@@ -69,7 +69,7 @@ module _ (b : Ledger) (marks : ℕ) where
           so-far = subst (λ (x : List Item). Put x (i + 1)) (sym v) (put-next (ledgerOf book .waiting) i (f .so-far) l);
         }
 
-    pub fixing-done : i ≡ length b.waiting → Means book (putWaiting (fixing (markedOf marks b.waiting)) b)
+    pub fixing-done : i ≡ length b.waiting → Means book (putWaiting (bearing (markedOf marks b.waiting)) b)
     fixing-done e = subst (λ (x : List Item). Means book (putWaiting x b)) (put-all (ledgerOf book .waiting) i (f .so-far) e) (f .means)
 
 pub fixing-none : (marks : ℕ) (book : List ℕ) → Stored book → Fixing (ledgerOf book) marks book 0

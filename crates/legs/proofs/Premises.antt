@@ -1,7 +1,7 @@
 -- What the rulebook's premise gives: the waiting trades can be booked. Assumes nothing.
 use Prim.Native.Nat.{ℕ, _^_, _<_}
 use native.Mathlib.Omega.{arith}
-use Rattle.rulebook.specs.Cycle.{seller, buyer}
+use Rattle.rulebook.specs.Shortfall.{seller, buyer}
 use Rattle.rulebook.specs.Ledger.{Ledger, accountOf}
 use Rattle.rulebook.specs.Premise.{ItemFits, today, Premise}
 use Rattle.rulebook.specs.declared.Item.{Item}

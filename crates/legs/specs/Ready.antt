@@ -1,7 +1,7 @@
 -- What the cycle needs of a ledger, and what the rulebook's premise gives.
 use Prim.Native.Nat.{ℕ, _+_, _^_, _≤_, _<_}
 use lib.ListN.{length}
-use Rattle.rulebook.specs.Cycle.{seller, buyer}
+use Rattle.rulebook.specs.Shortfall.{seller, buyer}
 use Rattle.rulebook.specs.Ledger.{Ledger}
 use Rattle.rulebook.specs.Premise.{CashFits}
 use Rattle.rulebook.specs.declared.Account.{Account}

@@ -1,19 +1,18 @@
 -- The waiting list with its marks, by places: sums over it, and how many are marked. Assumes nothing.
 use Prim.Native.Nat.{ℕ, zero, suc, _+_, _*_, _^_, _≤_, _<_}
 use native.Mathlib.Omega.{arith}
-use mathlib.Core.Bool.{Bool, true, false}
+use mathlib.Core.Bool.{Bool, true, false, _&&_}
 use mathlib.Core.List.{List, [], _∷_}
 use mathlib.Core.Logic.{_≢_}
 use mathlib.Core.Path.{_≡_, refl, ap, _∙_}
 use lib.ListN.{length, length-map}
 use lib.Seq.{ext-getD}
-use Rattle.plain.specs.Lists.{if_then_else_, total, keep, sumBelow}
+use Rattle.plain.specs.Lists.{if_then_else_, total, some, keep, sumBelow}
 use Rattle.plain.proofs.Sums.{sum-change}
-use Rattle.rulebook.specs.Cycle.{Marked, over, withMark}
 use Rattle.rulebook.specs.declared.Item.{Item}
 use Rattle.words.specs.Places.{listFrom}
 use Rattle.words.proofs.Places.{from-same, from-total, from-get, length-from}
-use Rattle.marks.specs.Marks.{noItem, itemIn, countOn}
+use Rattle.marks.specs.Marks.{Marked, over, withMark, noItem, itemIn, countOn}
 
 -- a sum of numbers below 2^40
 pub sum-most : (n : ℕ) (f : ℕ → ℕ) → ((k : ℕ) → k < n → f k < 2 ^ 40) → sumBelow n f ≤ n * 1_099_511_627_776
@@ -59,6 +58,29 @@ module _ (item : ℕ → Item) (n : ℕ) where
       in
       let t = rw (off, now) at s in
       omega (arith, over-sum f on, over-sum f more, t)
+
+-- sums and tests over the marked ones are those over the list of them
+
+module _ (figure : Item → ℕ) where
+  pub over-marked : (ms : List Marked) → over figure ms ≡ total figure (withMark ms)
+  unfolding over withMark
+  over-marked [] = refl
+  over-marked (m ∷ rest) = go (m .0) refl (over-marked rest)
+    where
+      go : (t : Bool) → m .0 ≡ t → over figure rest ≡ total figure (withMark rest) → over figure (m ∷ rest) ≡ total figure (withMark (m ∷ rest))
+      go true e ih = rw e (omega (arith, ih))
+      go false e ih = rw e (omega (arith, ih))
+
+pub some-marked : (test : Item → Bool) (ms : List Marked) → some test (withMark ms) ≡ some (λ m. m .0 && test (m .1)) ms
+unfolding withMark
+some-marked test [] = refl
+some-marked test (m ∷ rest) = go (m .0) refl (some-marked test rest)
+  where
+    go :
+        (t : Bool) → m .0 ≡ t → some test (withMark rest) ≡ some (λ m. m .0 && test (m .1)) rest
+        → some test (withMark (m ∷ rest)) ≡ some (λ m. m .0 && test (m .1)) (m ∷ rest)
+    go true e ih = rw (e, ih)
+    go false e ih = rw (e, ih)
 
 length-kept : (ms : List Marked) → length (keep (λ m. m .0) ms) ≡ total (λ (m : Marked). if m .0 then 1 else 0) ms
 length-kept [] = refl

@@ -1,14 +1,29 @@
 -- Marks on a waiting list's items: a mask of 64 bits, the first item's the most significant.
 use Prim.Native.Nat.{ℕ, _-_, _*_, _/_, _%_, _^_}
-use mathlib.Core.Bool.{Bool, false}
-use mathlib.Core.List.{List, _++_}
+use mathlib.Core.Bool.{Bool, false, not}
+use mathlib.Core.List.{List, _++_, map}
 use lib.ListN.{length, getD, drop}
-use Rattle.plain.specs.Lists.{if_then_else_, _is_, sumBelow}
-use Rattle.rulebook.specs.Cycle.{Marked, withMark, legs}
+use Rattle.plain.specs.Lists.{if_then_else_, _is_, total, keep, sumBelow}
+use Rattle.rulebook.specs.Cycle.{legs}
 use Rattle.rulebook.specs.Rows.{Row, postingRows, rowsBytes}
 use Rattle.rulebook.specs.declared.Item.{Item}
 use Rattle.rulebook.specs.declared.State.the-variants.{Single}
 use Rattle.words.specs.Places.{listFrom}
+
+-- items with a mark on some of them
+abbrev pub Marked : Type 0
+Marked = Bool × Item
+
+-- the sum of a figure over the marked ones
+unfoldable pub over : (Item → ℕ) → List Marked → ℕ
+over figure marked = total (λ m. if m .0 then figure (m .1) else 0) marked
+
+-- the items with a mark, and those without, in list order
+unfoldable pub withMark : List Marked → List Item
+withMark marked = map (λ m. m .1) (keep (λ m. m .0) marked)
+
+unfoldable pub withoutMark : List Marked → List Item
+withoutMark marked = map (λ m. m .1) (keep (λ m. not (m .0)) marked)
 
 -- the item at k; past the end of the list stands an item of zeros
 abbrev pub noItem : Item

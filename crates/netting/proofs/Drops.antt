@@ -7,9 +7,11 @@ use mathlib.Core.Path.{_≡_, refl}
 use lib.ListN.{length, getD, set}
 use Rattle.plain.specs.Lists.{some}
 use Rattle.rulebook.specs.Ledger.{Holdings}
-use Rattle.rulebook.specs.Cycle.{Marked, debitsShort, anyShort, dropLast, rounds}
+use Rattle.rulebook.specs.Shortfall.{debitsShort, anyShort}
 use Rattle.rulebook.specs.declared.Item.{Item}
-use Rattle.marks.specs.Marks.{noItem}
+use Rattle.marks.specs.Marks.{Marked, withMark, noItem}
+use Rattle.marks.proofs.Marking.{some-marked}
+use Rattle.netting.specs.Rounds.{unmarkLast, markRounds}
 use Rattle.legs.proofs.Searches.{Last}
 
 -- ---- the drop
@@ -21,7 +23,7 @@ noMark = (false, noItem)
 abbrev pub at : (Item → Bool) → List Marked → ℕ → Bool
 at test ms k = getD ms k noMark .0 && test (getD ms k noMark .1)
 
-abbrev passes : (Item → Bool) → List Marked → Bool
+abbrev pub passes : (Item → Bool) → List Marked → Bool
 passes test ms = some (λ m. m .0 && test (m .1)) ms
 
 module _ (test : Item → Bool) where
@@ -34,8 +36,8 @@ module _ (test : Item → Bool) where
   some-at (m ∷ rest) zero h e = rw e
   some-at (m ∷ rest) (suc j) h e = rw (some-at rest j (le-of-suc-le-suc h) e) (or-true (m .0 && test (m .1)))
 
-  pub drop-at : (ms : List Marked) (j : ℕ) → Last (at test ms) (length ms) j → dropLast test ms ≡ set ms j (false, getD ms j noMark .1)
-  unfolding dropLast
+  pub drop-at : (ms : List Marked) (j : ℕ) → Last (at test ms) (length ms) j → unmarkLast test ms ≡ set ms j (false, getD ms j noMark .1)
+  unfolding unmarkLast
   drop-at [] j l = absurd (not-suc-le-zero (l .inside))
   drop-at (m ∷ rest) zero l = rw (none-at rest (λ k h. l .behind (suc k) (suc-le-suc zero-le) (suc-le-suc h)), l .passed)
   drop-at (m ∷ rest) (suc j) l =
@@ -48,11 +50,12 @@ module _ (test : Item → Bool) where
 -- ---- the rounds
 
 module _ (h : Holdings) (ms : List Marked) where
-  pub rounds-stop : (n : ℕ) → anyShort h ms ≡ false → rounds n h ms ≡ ms
-  unfolding rounds
+  pub rounds-stop : (n : ℕ) → passes (debitsShort h (withMark ms)) ms ≡ false → markRounds n h ms ≡ ms
+  unfolding markRounds anyShort
   rounds-stop zero e = refl
-  rounds-stop (suc n) e = rw e
+  rounds-stop (suc n) e = rw (some-marked (debitsShort h (withMark ms)) ms, e)
 
-  pub rounds-step : (n : ℕ) → anyShort h ms ≡ true → rounds (suc n) h ms ≡ rounds n h (dropLast (debitsShort h ms) ms)
-  unfolding rounds
-  rounds-step n e = rw e
+  pub rounds-step :
+      (n : ℕ) → passes (debitsShort h (withMark ms)) ms ≡ true → markRounds (suc n) h ms ≡ markRounds n h (unmarkLast (debitsShort h (withMark ms)) ms)
+  unfolding markRounds anyShort
+  rounds-step n e = rw (some-marked (debitsShort h (withMark ms)) ms, e)

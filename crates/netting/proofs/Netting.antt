@@ -7,7 +7,7 @@ use mathlib.Core.Logic.{_≢_}
 use mathlib.Core.Path.{_≡_, sym, ap, _∙_}
 use Rattle.plain.specs.Lists.{if_then_else_, sumBelow}
 use Rattle.plain.proofs.Sums.{sum-same, sum-least}
-use Rattle.rulebook.specs.Cycle.{over}
+use Rattle.marks.specs.Marks.{over}
 use Rattle.rulebook.specs.declared.Item.{Item}
 use Rattle.legs.specs.Figures.{hasAt, owesAt, brings, takes, bringsAll, takesAll, Figures, Cover, RoomAll}
 use Rattle.marks.proofs.Marking.{sum-most, if-below, marking, over-sum, over-more}

@@ -13,24 +13,25 @@ use Rattle.plain.proofs.Sums.{sum-change}
 use Rattle.plain.proofs.Tests.{both}
 use Rattle.rulebook.specs.Ledger.{Ledger, sameAccount}
 use Rattle.rulebook.specs.Premise.{CashFits}
-use Rattle.rulebook.specs.Cycle.{Marked, seller, buyer, over, anyShort, dropLast, rounds}
-use Rattle.rulebook.specs.Cycle.{bringsShares, takesShares, bringsCash, takesCash, sharesBrought, sharesTaken, cashBrought, cashTaken}
-use Rattle.rulebook.specs.Cycle.{sharesMissing, cashMissing, debitsShort}
+use Rattle.rulebook.specs.Movements.{account, cashOf}
+use Rattle.rulebook.specs.Shortfall.{seller, buyer, missing, debitsShort}
+use Rattle.rulebook.specs.Shortfall as trades
 use Rattle.rulebook.specs.declared.Item.{Item}
 use Rattle.words.specs.declared.Found.the-variants.{At, Nothing}
 use Rattle.words.proofs.Places.{from-get, from-set, length-from}
 use Rattle.book.specs.Keys.{keyOf}
 use Rattle.book.proofs.Keys.{key-test, key-once}
-use Rattle.marks.specs.Marks.{itemIn, isOn, markedOf, countOn}
+use Rattle.marks.specs.Marks.{Marked, over, withMark, itemIn, isOn, markedOf, countOn}
 use Rattle.legs.specs.Figures.{fromAt, toAt, hasAt, owesAt, brings, takes, bringsAll, takesAll, Figures, Cover, RoomAll, shortAt, lastShort, cashKey}
 use Rattle.legs.specs.Filled.{ShareLegs, ShareStart, CashLegs, CashStart, payerOf}
 use Rattle.legs.specs.Slots.{Slots, viewed}
 use Rattle.legs.specs.Ready.{Ready}
 use Rattle.legs.proofs.Searches.{Last, last-at, last-none, last-same}
 use Rattle.legs.proofs.Slotted.{has-viewed, owes-viewed, viewed-long, slot-leg, slot-own}
-use Rattle.marks.proofs.Marking.{if-below, marking, count-most}
+use Rattle.marks.proofs.Marking.{if-below, marking, over-marked, count-most}
+use Rattle.netting.specs.Rounds.{unmarkLast, markRounds}
 use Rattle.netting.proofs.Netting.{Are, Small, Lined, lined-room, lined-start, lined-cover, lined-less}
-use Rattle.netting.proofs.Drops.{noMark, at, none-at, some-at, drop-at, rounds-stop, rounds-step}
+use Rattle.netting.proofs.Drops.{noMark, at, passes, none-at, some-at, drop-at, rounds-stop, rounds-step}
 
 -- ---- keys tell members' cash apart
 
@@ -79,25 +80,25 @@ module _ (b : Ledger) (r : Ready b) where
 
   -- what an item brings to what the item at k debits, and what it takes from it
   abbrev shareInto : ℕ → Item → ℕ
-  shareInto k t = bringsShares (seller (item k)) t
+  shareInto k t = trades.brings (account (seller (item k))) t
 
   abbrev shareOut : ℕ → Item → ℕ
-  shareOut k t = takesShares (seller (item k)) t
+  shareOut k t = trades.takes (account (seller (item k))) t
 
   abbrev shareHave : ℕ → ℕ
   shareHave k = b.holdings.balance (seller (item k))
 
   abbrev cashInto : ℕ → Item → ℕ
-  cashInto k t = bringsCash (item k .credited .member) (item k .currency) t
+  cashInto k t = trades.brings (cashOf (item k .credited .member) (item k .currency)) t
 
   abbrev cashOut : ℕ → Item → ℕ
-  cashOut k t = takesCash (item k .credited .member) (item k .currency) t
+  cashOut k t = trades.takes (cashOf (item k .credited .member) (item k .currency)) t
 
   abbrev cashHave : ℕ → ℕ
   cashHave k = b.holdings.cash (item k .credited .member) (item k .currency)
 
   share-are : (legs : List ℕ) → ShareLegs b.waiting legs → Are item n shareInto shareOut legs
-  unfolding bringsShares takesShares
+  unfolding trades.brings trades.takes
   share-are legs l = record {
     brings-as = λ j k h g.
         let test = key-test (buyer (item j)) (seller (item k)) (r .bookable j h .buys) (r .bookable k g .sells) in
@@ -114,7 +115,7 @@ module _ (b : Ledger) (r : Ready b) where
   cash-key-test member j k f g = cash-test member (item j .currency) (item k .credited .member) (item k .currency) f g
 
   cash-are : (legs : List ℕ) → CashLegs b.waiting legs → Are item n cashInto cashOut legs
-  unfolding bringsCash takesCash
+  unfolding trades.brings trades.takes
   cash-are legs l = record {
     brings-as = λ j k h g.
         let test = cash-key-test (item j .debited .member) j k (r .bookable j h .paid) (r .bookable k g .pays) in
@@ -125,14 +126,14 @@ module _ (b : Ledger) (r : Ready b) where
   }
 
   share-small : (legs : List ℕ) → Small item n shareInto shareOut legs
-  unfolding bringsShares takesShares
+  unfolding trades.brings trades.takes
   share-small legs = record {
     into-small = λ j k h g. if-below (sameAccount (buyer (item j)) (seller (item k))) _ (r .bookable j h .quantity);
     out-small = λ j k h g. if-below (sameAccount (seller (item j)) (seller (item k))) _ (r .bookable j h .quantity);
   }
 
   cash-small : (legs : List ℕ) → Small item n cashInto cashOut legs
-  unfolding bringsCash takesCash
+  unfolding trades.brings trades.takes
   cash-small legs = record {
     into-small = λ j k h g. if-below (item j .debited .member is item k .credited .member && item j .currency is item k .currency) _ (r .bookable j h .amount);
     out-small = λ j k h g.
@@ -181,7 +182,7 @@ module _ (b : Ledger) (r : Ready b) where
     owes-as = λ k h. owes-viewed slots figures k (omega (arith, r .size)) ∙ f .owes-as (hasAt slots k) (near legs slots s k h .0);
   }
 
-  -- the marks and the figures after some rounds
+  -- the marks and the figures after some markRounds
   pub record Running (due marks : ℕ) (shares cents held funds : List ℕ) : Type 0 where
     pub share-legs : ShareLegs b.waiting shares
     pub cash-legs : CashLegs b.waiting cents
@@ -189,10 +190,10 @@ module _ (b : Ledger) (r : Ready b) where
     pub funds-lined : Lined item n cashInto cashOut cents cashHave (isOn marks) funds
     -- no mark is new
     pub fewer-on : countOn (isOn marks) n ≤ countOn (isOn due) n
-    -- there are as many rounds left as marks, or more
+    -- there are as many markRounds left as marks, or more
     pub left : ℕ
     pub enough : countOn (isOn marks) n ≤ left
-    pub same : rounds left b.holdings (markedOf marks b.waiting) ≡ rounds n b.holdings (markedOf due b.waiting)
+    pub same : markRounds left b.holdings (markedOf marks b.waiting) ≡ markRounds n b.holdings (markedOf due b.waiting)
 
   mark-at : (on : ℕ → Bool) (k : ℕ) → k < n → getD (marking on item n) k noMark ≡ (on k, item k)
   mark-at on k l = let z : 0 + k ≡ k = omega arith in from-get (λ i. (on i, item i)) 0 n k noMark l ∙ ap (λ (i : ℕ). (on i, item i)) z
@@ -227,8 +228,8 @@ module _ (b : Ledger) (r : Ready b) where
     abbrev code : ℕ → Bool
     code k = isOn marks k && (shortAt held k || shortAt funds k)
 
-    tested : (k : ℕ) → k < n → code k ≡ at (debitsShort b.holdings ms) ms k
-    unfolding debitsShort sharesMissing cashMissing sharesTaken sharesBrought cashTaken cashBrought
+    tested : (k : ℕ) → k < n → code k ≡ at (debitsShort b.holdings (withMark ms)) ms k
+    unfolding debitsShort missing
     tested k l =
         rw (
           mark-at (isOn marks) k l,
@@ -238,21 +239,25 @@ module _ (b : Ledger) (r : Ready b) where
           w .funds-lined .owes-as k l,
           missing-test (shareHave k + over (shareInto k) ms) (over (shareOut k) ms),
           missing-test (cashHave k + over (cashInto k) ms) (over (cashOut k) ms),
+          over-marked (shareInto k) ms,
+          over-marked (shareOut k) ms,
+          over-marked (cashInto k) ms,
+          over-marked (cashOut k) ms,
         )
 
     -- ---- no one is short
 
-    pub stops : lastShort (isOn marks) held funds n ≡ Nothing → markedOf marks b.waiting ≡ rounds n b.holdings (markedOf due b.waiting)
-    unfolding markedOf anyShort
+    pub stops : lastShort (isOn marks) held funds n ≡ Nothing → markedOf marks b.waiting ≡ markRounds n b.holdings (markedOf due b.waiting)
+    unfolding markedOf
     stops e =
         let low : (k : ℕ) → k < length ms → k < n = λ k l. rw (mark-long (isOn marks)) at l in
-        let none = none-at (debitsShort b.holdings ms) ms (λ k l. sym (tested k (low k l)) ∙ last-none code n e k (low k l)) in
+        let none = none-at (debitsShort b.holdings (withMark ms)) ms (λ k l. sym (tested k (low k l)) ∙ last-none code n e k (low k l)) in
         sym (rounds-stop b.holdings ms (w .left) none) ∙ w .same
 
     -- ---- the trade at j is the last that debits a short one
 
     module _ {j : ℕ} (found : lastShort (isOn marks) held funds n ≡ At j) where
-      last : Last (at (debitsShort b.holdings ms) ms) n j
+      last : Last (at (debitsShort b.holdings (withMark ms)) ms) n j
       last = last-same _ _ n j tested (last-at code n j found)
 
       pub inside : j < n
@@ -284,7 +289,7 @@ module _ (b : Ledger) (r : Ready b) where
             omega (arith, t)
 
         -- the marks without it are those of a round
-        dropped : marking (isOn now) item n ≡ dropLast (debitsShort b.holdings ms) ms
+        dropped : marking (isOn now) item n ≡ unmarkLast (debitsShort b.holdings (withMark ms)) ms
         dropped =
             let z : 0 + j ≡ j = omega arith in
             let same : _≡_ {A =
@@ -293,23 +298,22 @@ module _ (b : Ledger) (r : Ready b) where
             let off : set ms j (isOn now (0 + j), item (0 + j)) ≡ set ms j (false, getD ms j noMark .1) =
             ap (λ (m : Marked). set ms j m) (ap (λ (k : ℕ). (isOn now k, item k)) z ∙ ap (λ (x : Bool). (x, item j)) gone ∙ same)
             in
-            let left = subst (λ (x : ℕ). Last (at (debitsShort b.holdings ms) ms) x j) (sym (mark-long (isOn marks))) last in
+            let left = subst (λ (x : ℕ). Last (at (debitsShort b.holdings (withMark ms)) ms) x j) (sym (mark-long (isOn marks))) last in
             from-set (λ k. (isOn marks k, item k)) (λ k. (isOn now k, item k)) 0 n j inside
             (λ k l d. let y : 0 + k ≡ k = omega arith in rw y (ap (λ (x : Bool). (x, item k)) (sym (others k l d))))
             ∙ off
-            ∙ sym (drop-at (debitsShort b.holdings ms) ms j left)
+            ∙ sym (drop-at (debitsShort b.holdings (withMark ms)) ms j left)
 
-        short : anyShort b.holdings ms ≡ true
-        unfolding anyShort
-        short = some-at (debitsShort b.holdings ms) ms j (rw (mark-long (isOn marks)) inside) (last .passed)
+        short : passes (debitsShort b.holdings (withMark ms)) ms ≡ true
+        short = some-at (debitsShort b.holdings (withMark ms)) ms j (rw (mark-long (isOn marks)) inside) (last .passed)
 
-        next : rounds (w .left - 1) b.holdings (markedOf now b.waiting) ≡ rounds (w .left) b.holdings (markedOf marks b.waiting)
+        next : markRounds (w .left - 1) b.holdings (markedOf now b.waiting) ≡ markRounds (w .left) b.holdings (markedOf marks b.waiting)
         unfolding markedOf
         next =
             let more : suc (w .left - 1) ≡ w .left = omega (arith, w .enough, fewer) in
-            ap (rounds (w .left - 1) b.holdings) dropped
+            ap (markRounds (w .left - 1) b.holdings) dropped
             ∙ sym (rounds-step b.holdings ms (w .left - 1) short)
-            ∙ ap (λ (x : ℕ). rounds x b.holdings ms) more
+            ∙ ap (λ (x : ℕ). markRounds x b.holdings ms) more
 
         -- none from j on is short, unless what j credits is
         pub behind-still :

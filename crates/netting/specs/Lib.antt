@@ -1,2 +1,4 @@
--- Which of the taken trades a cycle fixes.
+-- Which of the due trades a cycle fixes.
+-- the rounds, by marks
+pub mod Rounds
 pub mod Selected

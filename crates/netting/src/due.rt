@@ -2,7 +2,7 @@
 ghost use mathlib.Core.Path.{_≡_};
 ghost use Prim.Native.Nat.{_≤_};
 ghost use lib.ListN.{length};
-ghost use Rattle.rulebook.specs.Cycle.{due};
+ghost use Rattle.rulebook.specs.Selection.{due};
 ghost use Rattle.book.specs.Meaning.{ledgerOf};
 ghost use Rattle.book.specs.Stored.{Stored};
 ghost use Rattle.netting.specs.Selected.{Taken};

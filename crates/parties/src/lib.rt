@@ -3,7 +3,7 @@ ghost use mathlib.Core.Path.{_≡_};
 ghost use Rattle.rulebook.specs.Ledger.{accountOf, requestAccount, sameAccount};
 ghost use Prim.Native.Nat.{ℕ};
 ghost use Rattle.rulebook.specs.TypeTable.{requested};
-ghost use Rattle.rulebook.specs.Cycle.{seller, buyer};
+ghost use Rattle.rulebook.specs.Shortfall.{seller, buyer};
 ghost use Rattle.rulebook.specs.Forms.{newRequest};
 ghost use Rattle.parties.specs.Counted.{outsideAccount};
 use rulebook::Account;

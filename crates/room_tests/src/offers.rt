@@ -2,13 +2,13 @@
 ghost use mathlib.Core.Path.{_≡_};
 ghost use Prim.Native.Nat.{_-_, _≤_, _<_};
 ghost use lib.ListN.{length, getD};
-ghost use Rattle.plain.specs.Lists.{if_then_else_};
+ghost use Rattle.plain.specs.Lists.{if_then_else_, total};
 ghost use Rattle.rulebook.specs.Ledger.{sameAccount};
-ghost use Rattle.rulebook.specs.Cycle.{takesShares, bringsShares, sharesTaken, sharesBrought, fixed, offers};
+ghost use Rattle.rulebook.specs.Cycle.{fixed, offers};
 ghost use Rattle.rulebook.specs.Ranges.{AccountInRange};
 ghost use Rattle.book.specs.Meaning.{ledgerOf};
 ghost use Rattle.book.specs.Stored.{Stored, Kept};
-ghost use Rattle.room_tests.specs.Offered.{ifFixed};
+ghost use Rattle.room_tests.specs.Offered.{takesFrom, bringsTo, ifFixed};
 use rulebook::Account;
 use rulebook::Item;
 use rulebook::Shares;
@@ -30,7 +30,7 @@ fn if_same(one: Account, other: Account, quantity: Shares) -> Shares
 }
 
 fn flow_of(trade: Item, account: Account) -> Flow
-    ensures { λ r. ⌜ (r .taken .0 ≡ takesShares account trade) × (r .brought .0 ≡ bringsShares account trade) ⌝ }
+    ensures { λ r. ⌜ (r .taken .0 ≡ takesFrom account trade) × (r .brought .0 ≡ bringsTo account trade) ⌝ }
 {
     let taken = if_same(parties::seller_of(trade), account, trade.quantity);
     let brought = if_same(parties::buyer_of(trade), account, trade.quantity);
@@ -41,8 +41,8 @@ fn flow_of(trade: Item, account: Account) -> Flow
 fn fixed_flow(book: &[u64], i: usize, account: Account) -> Flow
     requires { ⌜ Stored (now book) × (i < length (ledgerOf (now book) .waiting)) ⌝ }
     ensures { λ r. ⌜
-        ((d : Item) → (r .taken .0 ≡ ifFixed (takesShares account) (getD (ledgerOf (now (book .entry)) .waiting) i d))
-        × (r .brought .0 ≡ ifFixed (bringsShares account) (getD (ledgerOf (now (book .entry)) .waiting) i d)))
+        ((d : Item) → (r .taken .0 ≡ ifFixed (takesFrom account) (getD (ledgerOf (now (book .entry)) .waiting) i d))
+        × (r .brought .0 ≡ ifFixed (bringsTo account) (getD (ledgerOf (now (book .entry)) .waiting) i d)))
         ⌝ }
 {
     if !book_items::is_sent(book, i) {
@@ -57,8 +57,8 @@ fn fixed_flow(book: &[u64], i: usize, account: Account) -> Flow
 // Of all fixed trades.
 fn fixed_flows(book: &[u64], account: Account) -> Flow
     requires { ⌜ Kept (now book) ⌝ }
-    ensures { λ r. ⌜ r .taken .0 ≡ sharesTaken account (fixed (ledgerOf (now (book .entry)) .waiting)) ⌝ }
-    ensures { λ r. ⌜ r .brought .0 ≡ sharesBrought account (fixed (ledgerOf (now (book .entry)) .waiting)) ⌝ }
+    ensures { λ r. ⌜ r .taken .0 ≡ total (takesFrom account) (fixed (ledgerOf (now (book .entry)) .waiting)) ⌝ }
+    ensures { λ r. ⌜ r .brought .0 ≡ total (bringsTo account) (fixed (ledgerOf (now (book .entry)) .waiting)) ⌝ }
 {
     let n = book_items::items(book);
     let mut taken: u64 = 0;

@@ -10,7 +10,8 @@ use Rattle.bits.proofs.Parts.{part-next}
 use Rattle.rulebook.specs.Movements.{Movement, account, cashOf, move}
 use Rattle.bits.specs.Bits.{bytes}
 use Rattle.bits.specs.Layout.{pack}
-use Rattle.rulebook.specs.Cycle.{seller, buyer, legs}
+use Rattle.rulebook.specs.Shortfall.{seller, buyer}
+use Rattle.rulebook.specs.Cycle.{legs}
 use Rattle.rulebook.specs.Rows.{postingWidths, noticeWidths, postingBytes, noticeBytes, notice, postingOf, postingRows, rowBytes, rowsBytes}
 use Rattle.rulebook.specs.declared.Account.{Account}
 use Rattle.rulebook.specs.declared.Item.{Item}

@@ -2,7 +2,7 @@
 use Prim.Native.Nat.{ℕ, _^_, _<_}
 use mathlib.Core.List.{[], _∷_}
 use Rattle.bits.specs.Layout.{Fit}
-use Rattle.rulebook.specs.Cycle.{seller, buyer}
+use Rattle.rulebook.specs.Shortfall.{seller, buyer}
 use Rattle.rulebook.specs.Rows.{postingWidths, noticeWidths}
 use Rattle.rulebook.specs.declared.Item.{Item}
 use Rattle.rulebook.specs.declared.Posting.{Posting}

@@ -9,7 +9,9 @@ use borrow.Author.Tests.{eq-eqb}
 use Rattle.plain.specs.Lists.{if_then_else_, keep, sumBelow}
 use Rattle.rulebook.specs.Ledger.{Holdings}
 use Rattle.rulebook.specs.Movements.{account, cashOf, Movement, credit, debit, credits, debits}
-use Rattle.rulebook.specs.Cycle.{Marked, seller, buyer, bringsShares, takesShares, bringsCash, takesCash, withMark, withoutMark, legs}
+use Rattle.rulebook.specs.Shortfall.{seller, buyer, brings, takes}
+use Rattle.rulebook.specs.Cycle.{legs}
+use Rattle.marks.specs.Marks.{Marked, withMark, withoutMark}
 use Rattle.rulebook.specs.declared.Account.{Account}
 use Rattle.rulebook.specs.declared.Item.{Item}
 use Rattle.rulebook.proofs.Held.{same-self}
@@ -94,29 +96,29 @@ module _ (item : ℕ → Item) (on : ℕ → Bool) where
 -- ---- what a trade does to one account and to one member's cash
 
 module _ (t : Item) (h : Holdings) where
-  credit-one-balance : (b : Bool) (a : Account) → credits (legs (ifMarked b t)) h .balance a ≡ h.balance a + (if b then bringsShares a t else 0)
-  unfolding credits legs bringsShares
+  credit-one-balance : (b : Bool) (a : Account) → credits (legs (ifMarked b t)) h .balance a ≡ h.balance a + (if b then brings (account a) t else 0)
+  unfolding credits legs brings
   credit-one-balance true a =
       let first = credit-balance a (account (buyer t)) t.quantity.0 h in
       omega (arith, credit-balance a (cashOf t.debited.member t.currency) t.amount.0 (credit (account (buyer t)) t.quantity.0 h), first)
   credit-one-balance false a = omega arith
 
-  credit-one-cash : (b : Bool) (m c : ℕ) → credits (legs (ifMarked b t)) h .cash m c ≡ h.cash m c + (if b then bringsCash m c t else 0)
-  unfolding credits legs bringsCash
+  credit-one-cash : (b : Bool) (m c : ℕ) → credits (legs (ifMarked b t)) h .cash m c ≡ h.cash m c + (if b then brings (cashOf m c) t else 0)
+  unfolding credits legs brings
   credit-one-cash true m c =
       let first = credit-cash m c (account (buyer t)) t.quantity.0 h in
       omega (arith, credit-cash m c (cashOf t.debited.member t.currency) t.amount.0 (credit (account (buyer t)) t.quantity.0 h), first)
   credit-one-cash false m c = omega arith
 
-  debit-one-balance : (b : Bool) (a : Account) → debits (legs (ifMarked b t)) h .balance a ≡ h.balance a - (if b then takesShares a t else 0)
-  unfolding debits legs takesShares
+  debit-one-balance : (b : Bool) (a : Account) → debits (legs (ifMarked b t)) h .balance a ≡ h.balance a - (if b then takes (account a) t else 0)
+  unfolding debits legs takes
   debit-one-balance true a =
       let first = debit-balance a (account (seller t)) t.quantity.0 h in
       omega (arith, debit-balance a (cashOf t.credited.member t.currency) t.amount.0 (debit (account (seller t)) t.quantity.0 h), first)
   debit-one-balance false a = omega arith
 
-  debit-one-cash : (b : Bool) (m c : ℕ) → debits (legs (ifMarked b t)) h .cash m c ≡ h.cash m c - (if b then takesCash m c t else 0)
-  unfolding debits legs takesCash
+  debit-one-cash : (b : Bool) (m c : ℕ) → debits (legs (ifMarked b t)) h .cash m c ≡ h.cash m c - (if b then takes (cashOf m c) t else 0)
+  unfolding debits legs takes
   debit-one-cash true m c =
       let first = debit-cash m c (account (seller t)) t.quantity.0 h in
       omega (arith, debit-cash m c (cashOf t.credited.member t.currency) t.amount.0 (debit (account (seller t)) t.quantity.0 h), first)
@@ -124,12 +126,12 @@ module _ (t : Item) (h : Holdings) where
 
 -- a trade's own account and cash get what it brings, and lose what it takes
 
-pub own-taken : (t : Item) → takesShares (seller t) t ≡ t.quantity.0
-unfolding takesShares
+pub own-taken : (t : Item) → takes (account (seller t)) t ≡ t.quantity.0
+unfolding takes
 own-taken t = rw (same-self (seller t))
 
-pub own-pays : (t : Item) → takesCash t.credited.member t.currency t ≡ t.amount.0
-unfolding takesCash
+pub own-pays : (t : Item) → takes (cashOf t.credited.member t.currency) t ≡ t.amount.0
+unfolding takes
 own-pays t = rw (eq-eqb t.credited.member t.credited.member refl, eq-eqb t.currency t.currency refl)
 
 -- ---- and what the marked ones of the first i do
@@ -165,14 +167,14 @@ module _ (item : ℕ → Item) (on : ℕ → Bool) where
     debited one (suc i) =
         omega (arith, ap kept (rw add-one at (debits-next item on i h)), one (item i) (debits (legs (first item on i)) h) (on i), debited one i)
 
-  pub credited-balance : (a : Account) (h : Holdings) (i : ℕ) → credits (legs (first item on i)) h .balance a ≡ h.balance a + upto (bringsShares a) i
-  credited-balance a h i = credited (λ x. x .balance a) (bringsShares a) h (λ t x b. credit-one-balance t x b a) i
+  pub credited-balance : (a : Account) (h : Holdings) (i : ℕ) → credits (legs (first item on i)) h .balance a ≡ h.balance a + upto (brings (account a)) i
+  credited-balance a h i = credited (λ x. x .balance a) (brings (account a)) h (λ t x b. credit-one-balance t x b a) i
 
-  pub credited-cash : (m c : ℕ) (h : Holdings) (i : ℕ) → credits (legs (first item on i)) h .cash m c ≡ h.cash m c + upto (bringsCash m c) i
-  credited-cash m c h i = credited (λ x. x .cash m c) (bringsCash m c) h (λ t x b. credit-one-cash t x b m c) i
+  pub credited-cash : (m c : ℕ) (h : Holdings) (i : ℕ) → credits (legs (first item on i)) h .cash m c ≡ h.cash m c + upto (brings (cashOf m c)) i
+  credited-cash m c h i = credited (λ x. x .cash m c) (brings (cashOf m c)) h (λ t x b. credit-one-cash t x b m c) i
 
-  pub debited-balance : (a : Account) (h : Holdings) (i : ℕ) → debits (legs (first item on i)) h .balance a ≡ h.balance a - upto (takesShares a) i
-  debited-balance a h i = debited (λ x. x .balance a) (takesShares a) h (λ t x b. debit-one-balance t x b a) i
+  pub debited-balance : (a : Account) (h : Holdings) (i : ℕ) → debits (legs (first item on i)) h .balance a ≡ h.balance a - upto (takes (account a)) i
+  debited-balance a h i = debited (λ x. x .balance a) (takes (account a)) h (λ t x b. debit-one-balance t x b a) i
 
-  pub debited-cash : (m c : ℕ) (h : Holdings) (i : ℕ) → debits (legs (first item on i)) h .cash m c ≡ h.cash m c - upto (takesCash m c) i
-  debited-cash m c h i = debited (λ x. x .cash m c) (takesCash m c) h (λ t x b. debit-one-cash t x b m c) i
+  pub debited-cash : (m c : ℕ) (h : Holdings) (i : ℕ) → debits (legs (first item on i)) h .cash m c ≡ h.cash m c - upto (takes (cashOf m c)) i
+  debited-cash m c h i = debited (λ x. x .cash m c) (takes (cashOf m c)) h (λ t x b. debit-one-cash t x b m c) i

@@ -8,13 +8,12 @@ use mathlib.Core.Path.{_≡_, refl, sym, ap, subst, _∙_}
 use lib.ListN.{length, set, take, length-set}
 use lib.Seq.{take-suc-set, getD-set-other}
 use Rattle.rulebook.specs.Ledger.{Ledger, putWaiting}
-use Rattle.rulebook.specs.Cycle.{withoutMark}
 use Rattle.rulebook.specs.declared.Item.{Item}
 use Rattle.words.specs.Places.{listFrom}
 use Rattle.book.specs.Meaning.{ledgerOf}
 use Rattle.book.specs.Stored.{Stored, Means}
 use Rattle.book.proofs.Parts.{next}
-use Rattle.marks.specs.Marks.{noItem, itemIn, isOn, markedOf}
+use Rattle.marks.specs.Marks.{withoutMark, noItem, itemIn, isOn, markedOf}
 use Rattle.marks.proofs.Marking.{marking}
 use Rattle.settlement.proofs.Posting.{ifMarked, without-next}
 

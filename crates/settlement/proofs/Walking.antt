@@ -8,20 +8,19 @@ use lib.ListN.{length}
 use Rattle.plain.specs.Lists.{if_then_else_, _is_, sumBelow}
 use Rattle.plain.proofs.Sums.{sum-last, sum-grows}
 use Rattle.rulebook.specs.Ledger.{Ledger, Holdings, sameAccount, putHoldings}
-use Rattle.rulebook.specs.Movements.{Movement, credits, debits}
-use Rattle.rulebook.specs.Cycle.{seller, buyer, over, bringsShares, takesShares, bringsCash, takesCash}
-use Rattle.rulebook.specs.Cycle.{sharesBrought, sharesTaken, cashBrought, cashTaken, anyShort, withMark, legs}
+use Rattle.rulebook.specs.Movements.{account, cashOf, Movement, credits, debits}
+use Rattle.rulebook.specs.Shortfall.{seller, buyer, takes, brings, missing, NothingShort}
+use Rattle.rulebook.specs.Cycle.{legs}
 use Rattle.rulebook.specs.declared.Account.{Account}
 use Rattle.rulebook.specs.declared.Item.{Item}
-use Rattle.rulebook.proofs.Rounds.{enough-shares, enough-cash}
 use Rattle.rulebook.proofs.Sizes.{credits-accounts, legs-opened}
 use Rattle.book.specs.Meaning.{ledgerOf}
 use Rattle.book.specs.Stored.{Stored, Means, HoldingsBecome}
 use Rattle.book.proofs.Parts.{next}
-use Rattle.marks.specs.Marks.{itemIn, isOn, markedOf}
+use Rattle.marks.specs.Marks.{over, withMark, itemIn, isOn, markedOf}
 use Rattle.legs.specs.Ready.{Bookable, Ready}
 use Rattle.settlement.specs.Booking.{CanCredit, CanDebit, Covered}
-use Rattle.marks.proofs.Marking.{sum-most, if-below, marking, over-sum, count-marked, count-most}
+use Rattle.marks.proofs.Marking.{sum-most, if-below, marking, over-sum, over-marked, count-marked, count-most}
 use Rattle.settlement.proofs.Posting.{first, ifMarked, credits-none, credits-next, debits-none, debits-next}
 use Rattle.settlement.proofs.Posting.{own-taken, own-pays, credited-balance, credited-cash, debited-balance, debited-cash}
 
@@ -73,12 +72,12 @@ module _
 
 -- ---- what the marked trades of a ledger bring and take
 
-brings-small : (a : Account) (t : Item) → Bookable t → bringsShares a t < 2 ^ 40
-unfolding bringsShares
+brings-small : (a : Account) (t : Item) → Bookable t → brings (account a) t < 2 ^ 40
+unfolding brings
 brings-small a t k = if-below (sameAccount (buyer t) a) t.quantity.0 (k .quantity)
 
-pays-small : (m c : ℕ) (t : Item) → Bookable t → bringsCash m c t < 2 ^ 40
-unfolding bringsCash
+pays-small : (m c : ℕ) (t : Item) → Bookable t → brings (cashOf m c) t < 2 ^ 40
+unfolding brings
 pays-small m c t k = if-below (t.debited.member is m && t.currency is c) t.amount.0 (k .amount)
 
 module _ (b : Ledger) (marks : ℕ) where
@@ -112,8 +111,8 @@ module _ (b : Ledger) (marks : ℕ) where
     can-credit r =
         let t = item i in
         let m = t .debited .member in
-        let most = small (bringsShares (buyer t)) (brings-small (buyer t)) r in
-        let most-cash = small (bringsCash m (t .currency)) (pays-small m (t .currency)) r in
+        let most = small (brings (account (buyer t))) (brings-small (buyer t)) r in
+        let most-cash = small (brings (cashOf m (t .currency))) (pays-small m (t .currency)) r in
         let opened = legs-opened (first item on i) in
         record {
           bookable = r .bookable i l;
@@ -123,30 +122,30 @@ module _ (b : Ledger) (marks : ℕ) where
         }
 
     pub can-debit : Covered b (markedOf marks b.waiting) → CanDebit (item i) (debits (legs (first item on i)) b.holdings)
-    unfolding markedOf sharesTaken cashTaken
+    unfolding markedOf
     can-debit r =
         let t = item i in
         let m = t .credited .member in
         record {
           bookable = r .bookable i l;
-          shares = omega (arith, debited-balance item on (seller t) b.holdings i, grows (takesShares (seller t)), own-taken t, r .shares (seller t));
-          cash = omega (arith, debited-cash item on m (t .currency) b.holdings i, grows (takesCash m (t .currency)), own-pays t, r .cash m (t .currency));
+          shares = omega (arith, debited-balance item on (seller t) b.holdings i, grows (takes (account (seller t))), own-taken t, r .shares (seller t));
+          cash = omega (arith, debited-cash item on m (t .currency) b.holdings i, grows (takes (cashOf m (t .currency))), own-pays t, r .cash m (t .currency));
         }
 
   -- nothing is short: so after all credits there is enough for all debits
   pub covered :
-      Ready b → anyShort b.holdings (markedOf marks b.waiting) ≡ false
+      Ready b → NothingShort b.holdings (withMark (markedOf marks b.waiting))
       → Covered (putHoldings (credits (legs (withMark (markedOf marks b.waiting))) b.holdings) b) (markedOf marks b.waiting)
-  unfolding putHoldings markedOf sharesBrought cashBrought
+  unfolding putHoldings markedOf missing
   covered r none = record {
     size = r .size;
     bookable = r .bookable;
     shares = λ a.
-        let enough = enough-shares b.holdings (marking on item n) none a in
-        omega (arith, credited-balance item on a b.holdings n, over-sum item n (bringsShares a) on, enough);
+        let ms = marking on item n in
+        omega (arith, credited-balance item on a b.holdings n, over-sum item n (brings (account a)) on, over-marked (brings (account a)) ms, over-marked (takes (account a)) ms, none (account a));
     cash = λ m c.
-        let enough = enough-cash b.holdings (marking on item n) none m c in
-        omega (arith, credited-cash item on m c b.holdings n, over-sum item n (bringsCash m c) on, enough);
+        let ms = marking on item n in
+        omega (arith, credited-cash item on m c b.holdings n, over-sum item n (brings (cashOf m c)) on, over-marked (brings (cashOf m c)) ms, over-marked (takes (cashOf m c)) ms, none (cashOf m c));
   }
 
   -- ---- the loops

@@ -11,14 +11,15 @@ use Rattle.plain.proofs.Sums.{sum-last}
 use Rattle.rulebook.specs.Ledger.{Ledger}
 use Rattle.rulebook.specs.Movements.{Movement, account, cashOf, move}
 use Rattle.rulebook.specs.Rows.{postingRows, rowsBytes}
-use Rattle.rulebook.specs.Cycle.{seller, buyer, withMark, legs}
+use Rattle.rulebook.specs.Shortfall.{seller, buyer}
+use Rattle.rulebook.specs.Cycle.{legs}
 use Rattle.rulebook.specs.declared.Item.{Item}
 use Rattle.rulebook.proofs.RowCounts.{posting-length, legs-length}
 use Rattle.words.specs.Places.{listFrom}
 use Rattle.rows.specs.Widths.{TradeInRange}
 use Rattle.rows.proofs.RowBytes.{rows-append}
 use Rattle.rows.proofs.Area.{behind, movement-rows, trade-rows}
-use Rattle.marks.specs.Marks.{itemIn, isOn, markedOf, countOn, rowsOf}
+use Rattle.marks.specs.Marks.{withMark, itemIn, isOn, markedOf, countOn, rowsOf}
 use Rattle.legs.specs.Ready.{Bookable}
 use Rattle.marks.proofs.Marking.{count-marked, count-most}
 use Rattle.settlement.proofs.Posting.{first, ifMarked, first-next, legs-append}

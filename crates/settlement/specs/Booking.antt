@@ -2,11 +2,12 @@
 use Prim.Native.Nat.{ℕ, _+_, _^_, _≤_, _<_}
 use mathlib.Core.List.{List}
 use lib.ListN.{length}
-use Rattle.rulebook.specs.Cycle.{Marked, seller, buyer, sharesTaken, cashTaken}
+use Rattle.rulebook.specs.Movements.{account, cashOf}
+use Rattle.rulebook.specs.Shortfall.{seller, buyer, takes}
 use Rattle.rulebook.specs.Ledger.{Ledger, Holdings}
 use Rattle.rulebook.specs.declared.Account.{Account}
 use Rattle.rulebook.specs.declared.Item.{Item}
-use Rattle.marks.specs.Marks.{itemIn}
+use Rattle.marks.specs.Marks.{Marked, over, itemIn}
 use Rattle.legs.specs.Ready.{Bookable}
 
 -- what a trade brings can be booked
@@ -26,5 +27,5 @@ pub record CanDebit (t : Item) (h : Holdings) : Type 0 where
 pub record Covered (b : Ledger) (marked : List Marked) : Type 0 where
   pub size : length b.waiting ≤ 64
   pub bookable : (k : ℕ) → k < length b.waiting → Bookable (itemIn b.waiting k)
-  pub shares : (a : Account) → sharesTaken a marked ≤ b.holdings.balance a
-  pub cash : (member currency : ℕ) → cashTaken member currency marked ≤ b.holdings.cash member currency
+  pub shares : (a : Account) → over (takes (account a)) marked ≤ b.holdings.balance a
+  pub cash : (member currency : ℕ) → over (takes (cashOf member currency)) marked ≤ b.holdings.cash member currency

@@ -1,12 +1,11 @@
 // The marked trades' movements: all credits, then all debits, so that nothing passes below zero.
-ghost use mathlib.Core.Path.{_≡_};
-ghost use mathlib.Core.Bool.{false};
 ghost use mathlib.Core.List.{_∷_, []};
 ghost use Rattle.rulebook.specs.Movements.{credits, debits, booked};
-ghost use Rattle.rulebook.specs.Cycle.{anyShort, withMark, legs};
+ghost use Rattle.rulebook.specs.Shortfall.{NothingShort};
+ghost use Rattle.rulebook.specs.Cycle.{legs};
 ghost use Rattle.book.specs.Meaning.{ledgerOf, holdingsOf, waitingOf};
 ghost use Rattle.book.specs.Stored.{Stored, HoldingsBecome};
-ghost use Rattle.marks.specs.Marks.{markedOf};
+ghost use Rattle.marks.specs.Marks.{withMark, markedOf};
 ghost use Rattle.legs.specs.Ready.{Ready};
 ghost use Rattle.settlement.specs.Booking.{CanCredit, CanDebit, Covered};
 use marks::Marks;
@@ -64,7 +63,7 @@ fn debit_marked(book: &mut [u64], marks: Marks)
 
 // The marked trades settle.
 pub fn book_marked(book: &mut [u64], marks: Marks)
-    requires { ⌜ Stored (now book) × Ready (ledgerOf (now book)) × (anyShort (holdingsOf (now book)) (markedOf marks (waitingOf (now book))) ≡ false) ⌝ }
+    requires { ⌜ Stored (now book) × Ready (ledgerOf (now book)) × NothingShort (holdingsOf (now book)) (withMark (markedOf marks (waitingOf (now book)))) ⌝ }
     ensures { λ u. ⌜ HoldingsBecome (booked (legs (withMark (markedOf marks (waitingOf (now (book .entry))))))) (now (book .entry)) (now (book .exit)) ⌝ }
 {
     credit_marked(book, marks);

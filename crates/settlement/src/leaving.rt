@@ -1,10 +1,9 @@
 // The waiting list without the settled trades.
 ghost use Prim.Native.Nat.{_≤_};
 ghost use lib.ListN.{length};
-ghost use Rattle.rulebook.specs.Cycle.{withoutMark};
 ghost use Rattle.book.specs.Meaning.{waitingOf};
 ghost use Rattle.book.specs.Stored.{Stored, WaitingBecomes};
-ghost use Rattle.marks.specs.Marks.{markedOf};
+ghost use Rattle.marks.specs.Marks.{withoutMark, markedOf};
 use marks::Marks;
 
 // The items without a mark stay, in their order.

@@ -11,7 +11,8 @@ use Rattle.rulebook.specs.Windows.{byKind, cycleMinutes, allRun, officeEnd}
 use Rattle.rulebook.specs.Rows.{postingWidths, postingBytes, postingIn, postingOf, postingRows, rowBytes, rowsBytes}
 use Rattle.rulebook.specs.Names.{currencyNames, refusalNames, noticeNames, nameFrom1}
 use Rattle.rulebook.specs.Waiting.{senderOf, sentBy, notCancellable}
-use Rattle.rulebook.specs.Cycle.{over, sharesTaken, sharesBrought, fixed, offers}
+use Rattle.rulebook.specs.Shortfall.{takes, brings}
+use Rattle.rulebook.specs.Cycle.{fixed, offers}
 use Rattle.rulebook.specs.Forms.{counts, outcome, moving, silent, openDay, admit, deposit, withdraw, forms, rowOf, used, least, most, windowOf, effect}
 use Rattle.rulebook.specs.Refusals.{wrongDay, wrongCycle, awaitsAnswer, nothingSent, goesBack, outsideWindow, wrongSecurity, wrongPair, wrongParties, wrongDays, wrongReference, wrongCancel, cancelsSent, wrongRequest, endsTooSoon, tooManyRequests, tooLittle, overCeiling, noSpace, dayTests, orderTests, itemTests, requestTests, roomTests, refusals}
 use Rattle.rulebook.specs.Call.{answerRows, refused, putMinute, accepted, orderCall, readCall, callOf}
@@ -33,7 +34,7 @@ unfolding
     wrongTypes widths places fieldsOf orderOf ceiling used least most noForm unusedNotZero usedOutOfRange fieldsIn readRefusal readOf recordOf fresh
     putDay putHoldings accountOf sameAccount counted putBalance putSecurities putOutside putHeld admitted issuedOf outsideOf heldOf credit debit
     credits debits recounted booked byKind cycleMinutes allRun officeEnd postingWidths postingBytes postingIn postingOf postingRows rowBytes rowsBytes
-    senderOf sentBy notCancellable over sharesTaken sharesBrought fixed offers counts outcome moving silent openDay admit deposit withdraw forms rowOf
+    senderOf sentBy notCancellable takes brings fixed offers counts outcome moving silent openDay admit deposit withdraw forms rowOf
     windowOf effect wrongDay wrongCycle awaitsAnswer nothingSent goesBack outsideWindow wrongSecurity wrongPair wrongParties wrongDays wrongReference
     wrongCancel cancelsSent wrongRequest endsTooSoon tooManyRequests tooLittle overCeiling noSpace dayTests orderTests itemTests requestTests
     roomTests refusals refused putMinute accepted orderCall readCall callOf

@@ -6,12 +6,12 @@ use Prim.Native.Nat.{ℕ, _+_, _-_, _≤_, _<_}
 use native.Mathlib.Omega.{arith}
 use borrow.Author.Needs.{needs}
 use lib.ListN.{length}
-use Rattle.rulebook.specs.Cycle.{fixed}
 use Rattle.rulebook.specs.declared.Item.{Item}
 use Rattle.book.specs.Meaning.{waitingOf}
 use Rattle.marks.specs.Marks.{noItem, isOn}
 use Rattle.marks.proofs.Masks.{none-on}
 use Rattle.marks.proofs.ByTest.{MarkedBelow, marked-not, marked-one, by-test}
+use Rattle.fixing.specs.Borne.{borne}
 use Rattle.fixing.proofs.fixed_marks.Statement.{statement}
 use Rattle.fixing.proofs.fixed_marks.Tie as tie
 
@@ -56,7 +56,7 @@ loop-again c =
     (c .if1 .came)
 
 returns : tie.Need-returns Inv-loop μ-loop
-unfolding fixed
+unfolding borne
 returns c =
     let h = c .before in
     by-test (λ item. item .sent) (waiting h) (h .loop .marks) (λ k g. h .loop .inv .1 .first k (omega (arith, h .before .items .ensures)))

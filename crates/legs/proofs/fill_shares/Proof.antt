@@ -5,7 +5,7 @@ use Prim.Native.Nat.{ℕ, _-_, _≤_, _<_}
 use native.Mathlib.Omega.{arith}
 use borrow.Author.Needs.{needs}
 use lib.ListN.{length}
-use Rattle.rulebook.specs.Cycle.{seller, buyer}
+use Rattle.rulebook.specs.Shortfall.{seller, buyer}
 use Rattle.rulebook.specs.Ledger.{Ledger}
 use Rattle.rulebook.specs.declared.Item.{Item}
 use Rattle.rulebook.specs.Ranges.{AccountInRange}

@@ -1,6 +1,6 @@
 -- `parties::buyer_of` meets its contract. Assumes nothing.
 use borrow.Author.Needs.{needs}
-use Rattle.rulebook.specs.Cycle.{buyer}
+use Rattle.rulebook.specs.Shortfall.{buyer}
 use Rattle.parties.proofs.buyer_of.Statement.{statement}
 use Rattle.parties.proofs.buyer_of.Tie as tie
 

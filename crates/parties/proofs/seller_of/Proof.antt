@@ -1,6 +1,6 @@
 -- `parties::seller_of` meets its contract. Assumes nothing.
 use borrow.Author.Needs.{needs}
-use Rattle.rulebook.specs.Cycle.{seller}
+use Rattle.rulebook.specs.Shortfall.{seller}
 use Rattle.parties.proofs.seller_of.Statement.{statement}
 use Rattle.parties.proofs.seller_of.Tie as tie
 

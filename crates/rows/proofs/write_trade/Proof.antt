@@ -7,7 +7,7 @@ use lib.ListN.{drop}
 use borrow.Author.Needs.{needs}
 use Rattle.rulebook.specs.Ledger.{accountOf}
 use Rattle.rulebook.specs.Movements.{Movement, account, cashOf, move}
-use Rattle.rulebook.specs.Cycle.{seller, buyer}
+use Rattle.rulebook.specs.Shortfall.{seller, buyer}
 use Rattle.rulebook.specs.Rows.{postingRows, rowsBytes}
 use Rattle.rulebook.specs.declared.Account.{Account}
 use Rattle.rulebook.specs.declared.Item.{Item}

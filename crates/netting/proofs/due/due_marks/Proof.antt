@@ -6,13 +6,14 @@ use Prim.Native.Nat.{ℕ, _+_, _-_, _≤_, _<_}
 use native.Mathlib.Omega.{arith}
 use borrow.Author.Needs.{needs}
 use lib.ListN.{length}
-use Rattle.rulebook.specs.Cycle.{due, taken}
+use Rattle.rulebook.specs.Selection.{due}
 use Rattle.rulebook.specs.declared.Day.{Day}
 use Rattle.rulebook.specs.declared.Item.{Item}
 use Rattle.book.specs.Meaning.{ledgerOf}
 use Rattle.marks.specs.Marks.{noItem, itemIn, isOn}
 use Rattle.marks.proofs.Masks.{none-on}
 use Rattle.marks.proofs.ByTest.{MarkedBelow, marked-not, marked-one, by-test}
+use Rattle.netting.proofs.Entries.{entries-marked}
 use Rattle.netting.proofs.due.due_marks.Statement.{statement}
 use Rattle.netting.proofs.due.due_marks.Tie as tie
 
@@ -58,13 +59,13 @@ loop-again c =
     (c .if1 .came)
 
 returns : tie.Need-returns Inv-loop μ-loop
-unfolding taken
 returns c =
     let h = c .before in
     let b = ledgerOf (entry h .args .book .now) in
     let day = ap (λ (d : Day). d .number) (h .before .before .day .ensures) in
     by-test (due (b .day .number)) (b .waiting) (h .loop .marks)
     (λ k g. h .loop .inv .1 .first k (omega (arith, h .before .items .ensures)) ∙ ap (λ (d : ℕ). due d (itemIn (b .waiting) k)) day)
+    ∙ sym (entries-marked b)
 
 pub due-marks-spec : {M : Type 1} → statement M
 due-marks-spec =

@@ -1,6 +1,6 @@
 -- `netting::due::is_due` meets its contract, by the item's state. Assumes nothing.
 use borrow.Author.Needs.{needs}
-use Rattle.rulebook.specs.Cycle.{due}
+use Rattle.rulebook.specs.Selection.{due}
 use Rattle.rulebook.specs.Waiting.{isTrade}
 use Rattle.netting.proofs.due.is_due.Statement.{statement}
 use Rattle.netting.proofs.due.is_due.Tie as tie

@@ -3,7 +3,7 @@ use Prim.Native.Nat.{_+_, _-_, _≤_, _<_}
 use native.Mathlib.Omega.{arith}
 use lib.ListN.{length}
 use Rattle.rulebook.specs.Ledger.{Ledger}
-use Rattle.rulebook.specs.Cycle.{takesShares, bringsShares, sharesTaken, sharesBrought}
+use Rattle.room_tests.specs.Offered.{takesFrom, bringsTo}
 use Rattle.book.specs.Meaning.{ledgerOf}
 use Rattle.room_tests.proofs.Offered.{Summed, summed-none, summed-more, summed-done, taken-small, brought-small}
 use Rattle.room_tests.proofs.offers.fixed_flows.Statement.{statement}
@@ -11,7 +11,7 @@ use Rattle.room_tests.proofs.offers.fixed_flows.Tie as tie
 
 abbrev Inv-loop : tie.InvT-loop
 Inv-loop book account n taken₀ brought₀ i₀ taken brought i =
-    (i ≤ n) × Summed (takesShares account) (ledgerOf book .waiting) i taken × Summed (bringsShares account) (ledgerOf book .waiting) i brought
+    (i ≤ n) × Summed (takesFrom account) (ledgerOf book .waiting) i taken × Summed (bringsTo account) (ledgerOf book .waiting) i brought
 
 abbrev μ-loop : tie.MeasureT-loop
 μ-loop book account n taken₀ brought₀ i₀ taken brought i = n - i
@@ -30,12 +30,12 @@ inside c = omega (arith, c .before .before .items .ensures, c .loop-test .taken)
 -- ---- with the item at i
 
 more-taken : (c : tie.After-fixed-flow Inv-loop μ-loop)
-    → Summed (takesShares (entry (c .before .before) .args .account)) (book (c .before .before) .waiting) (c .before .before .loop .i + 1)
+    → Summed (takesFrom (entry (c .before .before) .args .account)) (book (c .before .before) .waiting) (c .before .before .loop .i + 1)
     (c .before .before .loop .taken + c .fixed-flow .result .taken .0)
 more-taken c = summed-more _ _ _ _ _ (inside (c .before)) (λ d. c .fixed-flow .ensures d .0) (c .before .before .loop .inv .1)
 
 more-brought : (c : tie.After-fixed-flow Inv-loop μ-loop)
-    → Summed (bringsShares (entry (c .before .before) .args .account)) (book (c .before .before) .waiting) (c .before .before .loop .i + 1)
+    → Summed (bringsTo (entry (c .before .before) .args .account)) (book (c .before .before) .waiting) (c .before .before .loop .i + 1)
     (c .before .before .loop .brought + c .fixed-flow .result .brought .0)
 more-brought c = summed-more _ _ _ _ _ (inside (c .before)) (λ d. c .fixed-flow .ensures d .1) (c .before .before .loop .inv .2)
 
@@ -55,7 +55,6 @@ loop-again c =
     (omega (arith, turn .loop-test .taken), more-taken (c .before .before), more-brought (c .before .before))
 
 returns : tie.Need-returns Inv-loop μ-loop
-unfolding sharesTaken sharesBrought
 returns c =
     let l = c .before .loop in
     let all : length (book (c .before) .waiting) ≤ l .i = omega (arith, c .loop-test .left, c .before .before .items .ensures) in

@@ -1,12 +1,12 @@
 -- `room_tests::offers::flow_of` meets its contract. Assumes nothing.
 use mathlib.Core.Path.{_∙_}
 use borrow.Author.Needs.{needs}
-use Rattle.rulebook.specs.Cycle.{takesShares, bringsShares}
+use Rattle.rulebook.specs.Shortfall.{takes, brings}
 use Rattle.room_tests.proofs.offers.flow_of.Statement.{statement}
 use Rattle.room_tests.proofs.offers.flow_of.Tie as tie
 
 returns : tie.Need-returns
-unfolding takesShares bringsShares
+unfolding takes brings
 returns c =
     let bought = c .before in
     let sold = bought .before in (

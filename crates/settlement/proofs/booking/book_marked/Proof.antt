@@ -3,12 +3,12 @@ use mathlib.Core.Path.{sym, ap, subst}
 use borrow.Author.Needs.{needs}
 use Rattle.rulebook.specs.Ledger.{Ledger, Holdings, putHoldings}
 use Rattle.rulebook.specs.Movements.{credits, debits, booked}
-use Rattle.rulebook.specs.Cycle.{withMark, legs}
+use Rattle.rulebook.specs.Cycle.{legs}
 use Rattle.rulebook.proofs.Steps.Settling.{legs-inside}
 use Rattle.book.specs.Meaning.{ledgerOf}
 use Rattle.book.proofs.Parts.{next}
 use Rattle.book.proofs.Handled.{means-so}
-use Rattle.marks.specs.Marks.{markedOf}
+use Rattle.marks.specs.Marks.{withMark, markedOf}
 use Rattle.settlement.specs.Booking.{Covered}
 use Rattle.settlement.proofs.Walking.{covered}
 use Rattle.settlement.proofs.booking.book_marked.Statement.{statement}

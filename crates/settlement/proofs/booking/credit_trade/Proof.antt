@@ -4,7 +4,8 @@ use native.Mathlib.Omega.{arith}
 use borrow.Author.Needs.{needs}
 use Rattle.rulebook.specs.Ledger.{Holdings, putBalance}
 use Rattle.rulebook.specs.Movements.{account, cashOf, credit, credits}
-use Rattle.rulebook.specs.Cycle.{buyer, legs}
+use Rattle.rulebook.specs.Shortfall.{buyer}
+use Rattle.rulebook.specs.Cycle.{legs}
 use Rattle.rulebook.specs.declared.Account.{Account}
 use Rattle.book.specs.Keys.{CreditFits}
 use Rattle.book.specs.Meaning.{ledgerOf}

@@ -5,7 +5,8 @@ use native.Mathlib.Omega.{arith}
 use borrow.Author.Needs.{needs}
 use Rattle.rulebook.specs.Ledger.{Holdings, putBalance}
 use Rattle.rulebook.specs.Movements.{account, cashOf, debit, debits}
-use Rattle.rulebook.specs.Cycle.{seller, legs}
+use Rattle.rulebook.specs.Shortfall.{seller}
+use Rattle.rulebook.specs.Cycle.{legs}
 use Rattle.rulebook.specs.declared.Account.{Account}
 use Rattle.book.specs.Meaning.{ledgerOf}
 use Rattle.book.specs.Stored.{HoldingsBecome}

@@ -1,0 +1,2 @@
+-- Marks that items bear.
+pub mod Borne
