@@ -11,8 +11,8 @@ use Rattle.rulebook.specs.Movements.{booked}
 use Rattle.rulebook.specs.Rows.{postingRows, rowsBytes}
 use Rattle.rulebook.specs.Waiting.{isTrade, sidesOf, sides, withSent}
 use Rattle.rulebook.specs.Shortfall.{NothingShort}
-use Rattle.rulebook.specs.Cycle.{fixed, settled, notSettled, declined, legs}
-use Rattle.rulebook.specs.Forms.{counts, outcome, silent, confirm, decline}
+use Rattle.rulebook.specs.Cycle.{settled, notSettled, declined, legs}
+use Rattle.rulebook.specs.Forms.{counts, outcome, confirm}
 use Rattle.rulebook.specs.Premise.{Premise}
 use Rattle.rulebook.specs.declared.Counts.{Counts}
 use Rattle.rulebook.specs.declared.Item.{Item}
@@ -21,7 +21,6 @@ use Rattle.rulebook.specs.declared.State.the-variants.{Single, Pair, Trade}
 use Rattle.rulebook.proofs.Selection.Fixing.{Due}
 use Rattle.rulebook.proofs.Settled.{settled-due}
 use Rattle.rulebook.proofs.RowCounts.{posting-length, legs-length}
-use Rattle.words.specs.Places.{listFrom}
 use Rattle.words.proofs.Places.{from-same, from-map}
 use Rattle.book.specs.Meaning.{ledgerOf}
 use Rattle.book.specs.Stored.{Means}

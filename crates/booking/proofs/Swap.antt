@@ -3,8 +3,7 @@ use Prim.Native.Nat.{ℕ, _+_, _-_, _≤_, _^_}
 use mathlib.Core.Path.{_≡_, refl, sym, ap, _∙_}
 use mathlib.Core.Bool.{Bool, true, false, false≢true}
 use native.Mathlib.Omega.{arith}
-use borrow.Author.Tests.{ne-eqb}
-use Rattle.plain.specs.Lists.{if_then_else_, _is_, sumBelow}
+use Rattle.plain.specs.Lists.{if_then_else_, sumBelow}
 use Rattle.rulebook.specs.Ledger.{Holdings, sameAccount, counted, putBalance}
 use Rattle.rulebook.specs.Movements.{account, credit, debit}
 use Rattle.rulebook.specs.Premise.{accountCount}

@@ -2,10 +2,10 @@
 use mathlib.Core.Bool.{Bool, true, false, not}
 use mathlib.Core.List.{List, [], _∷_, map}
 use mathlib.Core.Path.{_≡_, refl, ap}
-use Rattle.plain.specs.Lists.{if_then_else_, keep}
+use Rattle.plain.specs.Lists.{keep}
 use Rattle.rulebook.specs.Cycle.{fixed}
 use Rattle.rulebook.specs.declared.Item.{Item}
-use Rattle.marks.specs.Marks.{Marked, withMark, withoutMark}
+use Rattle.marks.specs.Marks.{withMark, withoutMark}
 use Rattle.fixing.specs.Borne.{borne}
 
 -- of the items whose mark passes a test

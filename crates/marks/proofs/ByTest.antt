@@ -11,7 +11,7 @@ use borrow.Author.Tests.{eq-eqb, ne-eqb}
 use Rattle.plain.specs.Lists.{if_then_else_, _is_}
 use Rattle.rulebook.specs.declared.Item.{Item}
 use Rattle.words.proofs.Places.{from-map}
-use Rattle.marks.specs.Marks.{Marked, itemIn, isOn, markedOf}
+use Rattle.marks.specs.Marks.{itemIn, isOn, markedOf}
 use Rattle.marks.proofs.Marking.{listed, marking-same}
 
 module _ (test : Item → Bool) (waiting : List Item) where

@@ -1,11 +1,11 @@
 -- The figures of shares, or of cash, under marks: all marked legs added, and one taken away. Assumes nothing.
-use Prim.Native.Nat.{ℕ, zero, suc, _+_, _-_, _*_, _^_, _≤_, _<_}
+use Prim.Native.Nat.{ℕ, _+_, _-_, _^_, _≤_, _<_}
 use native.Mathlib.Omega.{arith}
 use mathlib.Core.Bool.{Bool, true, false}
 use mathlib.Core.List.{List}
 use mathlib.Core.Logic.{_≢_}
 use mathlib.Core.Path.{_≡_, sym, ap, _∙_}
-use Rattle.plain.specs.Lists.{if_then_else_, sumBelow}
+use Rattle.plain.specs.Lists.{if_then_else_}
 use Rattle.plain.proofs.Sums.{sum-same, sum-least}
 use Rattle.marks.specs.Marks.{over}
 use Rattle.rulebook.specs.declared.Item.{Item}

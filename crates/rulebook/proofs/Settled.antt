@@ -1,7 +1,6 @@
 -- What a confirmation settles, and what waits on: each waiting item is one of the two. Assumes nothing.
 use mathlib.Core.Path.{_≡_}
-use mathlib.Core.Bool.{not, true}
-use mathlib.Core.List.{List}
+use mathlib.Core.Bool.{not}
 use Prim.Native.Nat.{ℕ, _+_}
 use native.Mathlib.Omega.{arith}
 use lib.ListN.{length}

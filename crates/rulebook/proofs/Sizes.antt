@@ -16,7 +16,7 @@ use Rattle.rulebook.specs.Movements.{Place, account, type91, type90, cas
 use Rattle.rulebook.specs.Waiting.{senderOf, marking, staying, unmarked, withSent}
 use Rattle.rulebook.specs.Cycle.{settled, declined, legs}
 use Rattle.rulebook.specs.Close.{leaves}
-use Rattle.rulebook.specs.Forms.{outcome, moving, silent, openDay, withdraw, payIn, payOut, cancel, cycle, confirm, decline, answerCycle, close, forms, effect, setRate}
+use Rattle.rulebook.specs.Forms.{outcome, moving, silent, openDay, withdraw, payIn, payOut, cancel, cycle, confirm, decline, close, forms, effect, setRate}
 use Rattle.rulebook.specs.Refusals.{noSpace}
 use Rattle.rulebook.specs.Premise.{Sizes}
 use Rattle.rulebook.proofs.ByCall.{Effect, AllForms, either-answer, by-form}

@@ -1,6 +1,6 @@
 -- What is proved of the definitions, whole. Assumes nothing.
 use Prim.Native.Nat.{ℕ, _≤_}
-use mathlib.Core.Bool.{Bool, true, false, _&&_, and-false}
+use mathlib.Core.Bool.{Bool, true, false}
 use mathlib.Core.List.{List, [], _∷_}
 use mathlib.Core.Path.{_≡_, refl, ap, _∙_}
 use native.Mathlib.Omega.{arith}
@@ -9,12 +9,10 @@ use lib.ListN.{length, take, drop}
 use lib.Seq.{take-at, take-append-le}
 use Rattle.bits.proofs.Numbers.{length-bytes}
 use Rattle.bits.specs.Bits.{bytes}
-use Rattle.plain.specs.Lists.{if_then_else_, _is_, some}
-use Rattle.rulebook.specs.Ledger.{Holdings}
+use Rattle.plain.specs.Lists.{if_then_else_, _is_}
 use Rattle.bits.specs.Layout.{pack}
 use Rattle.rulebook.specs.Field.{widths}
 use Rattle.rulebook.specs.Record.{fieldsOf, readOf, recordOf, writeRefusal, writtenOf, areaWritten}
-use Rattle.rulebook.specs.declared.Item.{Item}
 use Rattle.rulebook.specs.Theorems.{Theorems}
 use Rattle.rulebook.specs.declared.Order.{Order}
 use Rattle.rulebook.specs.declared.Written.{Written}

@@ -1,17 +1,16 @@
 -- What a sent cycle has fixed: over it nothing is short after every call, whatever came since the cycle was sent. Assumes nothing.
-use mathlib.Core.Path.{_≡_, refl, sym, ap, subst, _∙_}
+use mathlib.Core.Path.{_≡_, refl, sym, ap, _∙_}
 use mathlib.Core.Bool.{Bool, true, false, not, _&&_, _||_, false≢true}
 use mathlib.Core.List.{List, [], _∷_, _++_, map}
-use Prim.Native.Nat.{ℕ, _+_, _≤_}
+use Prim.Native.Nat.{ℕ, _+_}
 use native.Mathlib.Omega.{arith}
 use borrow.Author.Tests.{not-true}
-use Rattle.rulebook.specs.declared.Account.{Account}
 use Rattle.rulebook.specs.declared.Day.{Day}
 use Rattle.rulebook.specs.declared.Item.{Item}
 use Rattle.rulebook.specs.declared.Order.{Order}
 use Rattle.rulebook.specs.declared.State.{State}
 use Rattle.rulebook.specs.declared.State.the-variants.{Single, Pair, Trade}
-use Rattle.plain.specs.Lists.{if_then_else_, _is_, _oneOf_, some, total, keep, Each}
+use Rattle.plain.specs.Lists.{if_then_else_, _is_, some, keep, Each}
 use Rattle.plain.proofs.Lists.{_and_, total-map, each-so, each-append, each-map, each-kept}
 use Rattle.plain.proofs.Tests.{neither}
 use Rattle.rulebook.specs.Ledger.{Ledger, Holdings, putDay, putHoldings, putWaiting, putRate, putRequests}
@@ -19,8 +18,8 @@ use Rattle.rulebook.specs.Movements.{Place, account, type91, type90, cas
 use Rattle.rulebook.specs.Waiting.{isTrade, isDeliver, isReceive, itemOf, singleOf, senderOf, sentBy, withState, withSent, marked, marking, bothMarked, staying, unmarked}
 use Rattle.rulebook.specs.Matching.{tolerance, pairsWith, pairOf, arrive}
 use Rattle.rulebook.specs.Shortfall.{seller, buyer, takes, brings, missing, NothingShort}
-use Rattle.rulebook.specs.Selection.{Entry, isTaken, isSent, tradesIn, due, selection}
-use Rattle.rulebook.specs.Cycle.{fixing, fixed, settled, notSettled, declined, offers}
+use Rattle.rulebook.specs.Selection.{Entry, isSent, tradesIn, due, selection}
+use Rattle.rulebook.specs.Cycle.{fixing, fixed, notSettled, declined, offers}
 use Rattle.rulebook.specs.Close.{leaves}
 use Rattle.rulebook.specs.Forms.{Outcome, outcome, moving, silent, openDay, admit, deposit, withdraw, transfer, payIn, payOut, instruct, trade, cancel, cycle, confirm, decline, answerCycle, close, setRate, requestPaper, endRequest, forms, effect}
 use Rattle.rulebook.specs.Refusals.{cancelsSent}
@@ -32,7 +31,7 @@ use Rattle.rulebook.proofs.Selection.Alone.{sent-alone}
 use Rattle.rulebook.proofs.Selection.Fixing.{nothing-short, selection-alone, IfIn, selection-due, is-due, fixing-fixed}
 use Rattle.rulebook.proofs.Halves.{Half}
 use Rattle.rulebook.proofs.Steps.OneCall.{Step}
-use Rattle.rulebook.proofs.EveryCall.Items.{Agreed, pairs, arrive-each}
+use Rattle.rulebook.proofs.EveryCall.Items.{pairs, arrive-each}
 
 -- the premise of what is fixed
 pub record Fixed (b : Ledger) : Type 0 where

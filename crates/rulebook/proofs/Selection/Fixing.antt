@@ -1,19 +1,19 @@
 -- Of a book: what a cycle selects and fixes. Assumes nothing.
-use mathlib.Core.Path.{_≡_, refl, sym, ap, ap₂, subst, _∙_}
-use mathlib.Core.Bool.{Bool, true, false, _||_, false≢true}
+use mathlib.Core.Path.{_≡_, refl, sym, ap, subst, _∙_}
+use mathlib.Core.Bool.{Bool, true, false, _||_}
 use mathlib.Core.List.{List, [], _∷_, map}
 use Prim.Native.Nat.{ℕ, _+_, _≤_}
 use native.Mathlib.Omega.{arith}
 use borrow.Author.Tests.{leb-true}
 use lib.ListN.{length, length-map}
-use Rattle.plain.specs.Lists.{if_then_else_, _atMost_, total, keep, Each}
+use Rattle.plain.specs.Lists.{if_then_else_, _atMost_, total, Each}
 use Rattle.plain.proofs.Lists.{total-map, length-total, each-map}
 use Rattle.plain.proofs.Tests.{both}
 use Rattle.rulebook.specs.declared.Item.{Item}
 use Rattle.rulebook.specs.Ledger.{Ledger}
 use Rattle.rulebook.specs.Waiting.{isTrade, withSent}
 use Rattle.rulebook.specs.Shortfall.{NothingShort}
-use Rattle.rulebook.specs.Selection.{Standing, Entry, notDue, taken, left, LeftTrade, isTaken, isLeft, isSent, tradesIn, tradesLeft, due, entryBy, entries, selection}
+use Rattle.rulebook.specs.Selection.{Standing, Entry, notDue, taken, left, isTaken, isLeft, isSent, tradesIn, tradesLeft, due, entryBy, entries, selection}
 use Rattle.rulebook.specs.Selected.{Spot, spot}
 use Rattle.rulebook.specs.Cycle.{fixing, fixed, leftBy}
 use Rattle.rulebook.proofs.Selection.Choice.{selection-selected}

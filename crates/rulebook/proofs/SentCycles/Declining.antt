@@ -1,6 +1,6 @@
 -- A declined cycle leaves everything as if it had not been sent, but that it has run. Assumes nothing.
 use mathlib.Core.Path.{_≡_, refl, sym, ap, _∙_}
-use mathlib.Core.Bool.{Bool, true, false, not, _&&_, and-false}
+use mathlib.Core.Bool.{Bool, true, false, _&&_, and-false}
 use mathlib.Core.List.{List, [], _∷_, map}
 use Prim.Native.Nat.{ℕ}
 use native.Mathlib.Omega.{arith}
@@ -11,8 +11,6 @@ use Rattle.plain.proofs.Lists.{_and_, some-append}
 use Rattle.plain.proofs.Tests.{neither}
 use Rattle.rulebook.specs.Ledger.{Ledger, putDay, putWaiting, cycleAnswered, accountOf}
 use Rattle.rulebook.specs.Waiting.{senderOf, sentBy, withSent, notCancellable}
-use Rattle.rulebook.specs.Movements.{account}
-use Rattle.rulebook.specs.Shortfall.{takes}
 use Rattle.rulebook.specs.Selection.{Entry, isSent, selection}
 use Rattle.rulebook.specs.Cycle.{fixing, declined, offers}
 use Rattle.rulebook.specs.Forms.{outcome, silent, cycle, decline, answerCycle, forms, rowOf, windowOf, effect}

@@ -7,7 +7,7 @@ use native.Mathlib.Omega.{arith}
 use Rattle.plain.specs.Lists.{if_then_else_}
 use Rattle.rulebook.specs.Ledger.{Holdings, sameAccount}
 use Rattle.rulebook.specs.Movements.{account, type91, cashOf, move, credit, debit, credits, debits, booked}
-use Rattle.rulebook.specs.Shortfall.{missing, NothingShort}
+use Rattle.rulebook.specs.Shortfall.{missing}
 use Rattle.rulebook.specs.Cycle.{fixed, offers}
 use Rattle.rulebook.specs.SentCycles.{OfferExact}
 use Rattle.rulebook.specs.declared.Account.{Account}

@@ -2,7 +2,7 @@
 use mathlib.Core.Path.{_≡_, refl, sym}
 use mathlib.Core.Bool.{Bool, true, false, false≢true}
 use mathlib.Core.List.{List, [], _∷_}
-use Prim.Native.Nat.{ℕ, _+_, _≤_, _<_, _^_}
+use Prim.Native.Nat.{ℕ, _+_, _<_, _^_}
 use native.Mathlib.Omega.{arith}
 use Rattle.rulebook.specs.declared.Party.{Party}
 use Rattle.rulebook.specs.declared.Item.{Item}
@@ -12,19 +12,18 @@ use Rattle.rulebook.specs.declared.Account.{Account}
 use Rattle.rulebook.specs.Movements.{Place, account, type91, type90, cashOf, member0, Movement, recounted, booked, bookHas}
 use Rattle.rulebook.specs.Shortfall.{seller, buyer, takes, brings, missing, NothingShort}
 use Rattle.rulebook.specs.Cycle.{fixed, settled, legs, offers}
-use Rattle.rulebook.specs.Forms.{Outcome, outcome, counts, silent, confirm, decline, answerCycle, forms, rowOf}
-use Rattle.rulebook.proofs.ByCall.{either-answer}
+use Rattle.rulebook.specs.Forms.{outcome, counts, confirm, forms, rowOf}
 use Rattle.rulebook.proofs.Settled.{settled-fits}
 use Rattle.plain.specs.Lists.{total, Each}
 use Rattle.plain.proofs.Lists.{each-so}
 use Rattle.rulebook.specs.declared.Order.{Order}
 use Rattle.rulebook.specs.Premise.{ItemFits, Premise, today}
-use Rattle.rulebook.proofs.Places.{isAt, brought, taken, AllKnown, Enough, booked-exact}
+use Rattle.rulebook.proofs.Places.{brought, taken, AllKnown, Enough, booked-exact}
 use Rattle.rulebook.proofs.Reading.{Proper, AllProper}
 use Rattle.rulebook.proofs.Recounting.{held-stays}
 use Rattle.rulebook.proofs.Sums.{heldInto, heldOut, cashInto, cashOut}
 use Rattle.rulebook.proofs.EveryCall.Items.{PartyPosts, ItemPosts, item-posts}
-use Rattle.rulebook.proofs.Steps.OneCall.{admits-none, Step, Steps}
+use Rattle.rulebook.proofs.Steps.OneCall.{admits-none, Step}
 use Rattle.rulebook.proofs.Types.{Quiet}
 use Rattle.rulebook.proofs.Steps.Moving.{party-apart, awaits}
 
