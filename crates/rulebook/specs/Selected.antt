@@ -1,4 +1,4 @@
--- What is proved of a selection (RULES 12.33 to 12.35).
+-- What is proved of a selection (RULES 12.32 to 12.34).
 use Prim.Native.Nat.{ℕ, _+_, _≤_, _<_}
 use mathlib.Core.Bool.{Bool, true, false, not, _||_}
 use mathlib.Core.List.{List, map, _++_}

@@ -1,4 +1,4 @@
--- What is proved of cycles that are sent and answered (RULES 6.21, 12.27 to 12.32).
+-- What is proved of cycles that are sent and answered (RULES 6.21, 12.27 to 12.31).
 use Prim.Native.Nat.{ℕ, zero, suc, _+_, _-_, _≤_}
 use mathlib.Core.Bool.{Bool, true, false}
 use mathlib.Core.List.{List, [], _∷_, _++_, map}
