@@ -99,7 +99,9 @@ module _ (b : Ledger) (p : Premise b) (marks : ℕ) (on-items : markedOf marks b
         stored = dated .stored;
         ledger =
             next (λ x. putDay (cycleAnswered (x .day)) x) stays dated .ledger
-            ∙ ap (λ (ts : List Item). putDay (cycleAnswered b.day) (putWaiting (withoutMark (markedOf marks b.waiting)) (putHoldings (booked (legs ts) b.holdings) b)))
+            ∙ ap
+            (λ (ts : List Item).
+            putDay (cycleAnswered b.day) (putWaiting (withoutMark (markedOf marks b.waiting)) (putHoldings (booked (legs ts) b.holdings) b)))
             are-fixed
             ∙ ap (λ (ws : List Item). putDay (cycleAnswered b.day) (putWaiting ws (putHoldings (booked (legs (settled b)) b.holdings) b))) wait-on;
         counted = e ∙ same-counts;

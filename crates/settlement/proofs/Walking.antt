@@ -5,10 +5,10 @@ use mathlib.Core.Bool.{Bool, true, false, _&&_}
 use mathlib.Core.List.{List, [], _∷_}
 use mathlib.Core.Path.{_≡_, refl, sym, ap, subst, _∙_}
 use lib.ListN.{length}
-use Rattle.plain.specs.Lists.{if_then_else_, _is_, sumBelow}
+use Rattle.plain.specs.Lists.{if_then_else_, _is_, total, sumBelow}
 use Rattle.plain.proofs.Sums.{sum-last, sum-grows}
 use Rattle.rulebook.specs.Ledger.{Ledger, Holdings, sameAccount, putHoldings}
-use Rattle.rulebook.specs.Movements.{account, cashOf, Movement, credits, debits}
+use Rattle.rulebook.specs.Movements.{Place, account, cashOf, Movement, credits, debits}
 use Rattle.rulebook.specs.Shortfall.{seller, buyer, takes, brings, missing, NothingShort}
 use Rattle.rulebook.specs.Cycle.{legs}
 use Rattle.rulebook.specs.declared.Account.{Account}
@@ -17,7 +17,7 @@ use Rattle.rulebook.proofs.Sizes.{credits-accounts, legs-opened}
 use Rattle.book.specs.Meaning.{ledgerOf}
 use Rattle.book.specs.Stored.{Stored, Means, HoldingsBecome}
 use Rattle.book.proofs.Parts.{next}
-use Rattle.marks.specs.Marks.{over, withMark, itemIn, isOn, markedOf}
+use Rattle.marks.specs.Marks.{Marked, over, withMark, itemIn, isOn, markedOf}
 use Rattle.legs.specs.Ready.{Bookable, Ready}
 use Rattle.settlement.specs.Booking.{CanCredit, CanDebit, Covered}
 use Rattle.marks.proofs.Marking.{sum-most, if-below, marking, over-sum, over-marked, count-marked, count-most}
@@ -132,6 +132,11 @@ module _ (b : Ledger) (marks : ℕ) where
           cash = omega (arith, debited-cash item on m (t .currency) b.holdings i, grows (takes (cashOf m (t .currency))), own-pays t, r .cash m (t .currency));
         }
 
+  -- what the marked ones bring to a place and take from it
+  sums :
+      (p : Place) (ms : List Marked) → (over (brings p) ms ≡ total (brings p) (withMark ms)) × (over (takes p) ms ≡ total (takes p) (withMark ms))
+  sums p ms = (over-marked (brings p) ms, over-marked (takes p) ms)
+
   -- nothing is short: so after all credits there is enough for all debits
   pub covered :
       Ready b → NothingShort b.holdings (withMark (markedOf marks b.waiting))
@@ -142,10 +147,10 @@ module _ (b : Ledger) (marks : ℕ) where
     bookable = r .bookable;
     shares = λ a.
         let ms = marking on item n in
-        omega (arith, credited-balance item on a b.holdings n, over-sum item n (brings (account a)) on, over-marked (brings (account a)) ms, over-marked (takes (account a)) ms, none (account a));
+        omega (arith, credited-balance item on a b.holdings n, over-sum item n (brings (account a)) on, sums (account a) ms, none (account a));
     cash = λ m c.
         let ms = marking on item n in
-        omega (arith, credited-cash item on m c b.holdings n, over-sum item n (brings (cashOf m c)) on, over-marked (brings (cashOf m c)) ms, over-marked (takes (cashOf m c)) ms, none (cashOf m c));
+        omega (arith, credited-cash item on m c b.holdings n, over-sum item n (brings (cashOf m c)) on, sums (cashOf m c) ms, none (cashOf m c));
   }
 
   -- ---- the loops

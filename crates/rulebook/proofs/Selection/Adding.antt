@@ -157,7 +157,9 @@ module _ (h : Holdings) where
           → passes (suc n) h es ≡ passes (suc k) h es
       go true e ih = simp e
       go false e ih =
-          let fewer : countLeft (onePass h es) < countLeft es = omega (arith, eqb-false (countLeft (onePass h es)) (countLeft es) e, passed (tradesIn es) es .fewer) in
+          let fewer : countLeft (onePass h es) < countLeft es =
+          omega (arith, eqb-false (countLeft (onePass h es)) (countLeft es) e, passed (tradesIn es) es .fewer)
+          in
           simp e (ih (omega arith) (omega arith))
 
   -- what each pass keeps, the passes keep
