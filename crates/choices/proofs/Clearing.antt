@@ -1,4 +1,4 @@
--- Cash that clears a list: the least pay-ins, and the verdict over ranges. Assumes nothing.
+-- Pay-ins that clear trades: the least of them, and verdicts between two amounts. Assumes nothing.
 use mathlib.Core.Path.{_≡_, refl, sym, ap, subst, _∙_}
 use mathlib.Core.Bool.{Bool, true, false, not, false≢true}
 use mathlib.Core.List.{List, [], _∷_}
@@ -20,9 +20,9 @@ use Rattle.rulebook.specs.Selected.{NoneLeft}
 use Rattle.choices.specs.Clearing.{Amounts, paidIn, Clears, clears, amounts, sharesShort, SharesEnough, ClearingLaws}
 use Rattle.choices.specs.Clearing.{ClearsLeast, passesCeiling, clearing, nothingClears, payIns}
 use Rattle.choices.specs.Clearing.{SendsAll, Verdict, always, never, depends, verdict, Means, VerdictLaws}
-use Rattle.rulebook.proofs.Selection.Adding.{Refused, pass-none}
-use Rattle.rulebook.proofs.Selection.Quiet.{above-zero, zero-above, no-takes, takes-seller}
-use Rattle.rulebook.proofs.Selection.Quiet.{some-takes, missing-taken, none-short, short-none}
+use Rattle.rulebook.proofs.Selection.Passes.{Refused, pass-none}
+use Rattle.rulebook.proofs.Selection.Missing.{above-zero, zero-above, no-takes, takes-seller}
+use Rattle.rulebook.proofs.Selection.Missing.{some-takes, missing-taken, none-short, short-none}
 
 -- ---- pay-ins leave accounts as they are, and take their amount off what is missing
 
@@ -91,7 +91,7 @@ module _ (h : Holdings) (ts : List Item) where
   pub clearing-laws : ClearingLaws h ts
   clearing-laws = record { least = least; enough = enough; answer = answer; shares = shares; no-shares = no-shares }
 
--- ---- W11: what clears is sent
+-- ---- what clears is taken whole
 
 rounds-rest : (h : Holdings) (n : ℕ) (es : List Entry) → anyShort h (tradesIn es) ≡ false → rounds n h es ≡ es
 unfolding rounds
@@ -118,7 +118,7 @@ sends-all h es u s =
     let ts : List Item = tradesIn es in
     full-sent (paidIn (amounts h ts) h) es u (enough h ts (amounts h ts) s (λ m c. omega arith))
 
--- ---- W12
+-- ---- between two amounts
 
 module _ (h : Holdings) (ts : List Item) where
   clears-so : (pay : Amounts) → clears h ts pay ≡ true → Clears h ts pay

@@ -1,4 +1,4 @@
--- An accepted mask is the cycle's set, and every set with nothing short has a mask. Assumes nothing.
+-- A good mask is what is sent, and each choice with nothing short has one. Assumes nothing.
 use mathlib.Core.Path.{_≡_, refl, sym, ap, ap₂, subst, _∙_}
 use mathlib.Core.Bool.{Bool, true, false, not, _&&_, _||_, false≢true, or-false}
 use mathlib.Core.List.{List, [], _∷_, _++_, map}
@@ -17,8 +17,8 @@ use Rattle.rulebook.specs.Selection.{entryBy, entries, withOriginals, selection
 use Rattle.rulebook.specs.Selected.{IfLeft, WhereLeft, spot, NoneLeft}
 use Rattle.choices.specs.Mask.{chosenBy, masked, placesSent, ApartFrom, Apart, NoOriginal, Suspends, sameBits}
 use Rattle.choices.specs.Mask.{goodMask, lackingAlone, optimised, AddedAlone, Optimised, GoodMask}
-use Rattle.rulebook.proofs.Selection.Quiet.{none-short, short-none}
-use Rattle.rulebook.proofs.Selection.Choice.{Full, split, entries-none-left, selection-selected}
+use Rattle.rulebook.proofs.Selection.Missing.{none-short, short-none}
+use Rattle.rulebook.proofs.Selection.Selected.{Full, split, entries-none-left, selection-selected}
 use Rattle.rulebook.proofs.Selection.Alone.{Alone, entries-alone, no-original, alone-none, sent-alone}
 
 marked-spot : (b : Bool) (e : Entry) → spot (chosenBy b e) ≡ spot e
@@ -94,7 +94,7 @@ optimised-laws h bits es u g =
     let spots : map spot after ≡ map spot es = lackingAlone-spots h now m ∙ masked-spots bits es in
     let alone = lackingAlone-alone h now m in
     record {
-      quiet = rw same (none-short h now (not-true _ (both (sameBits bits (placesSent m)) (not (anyShort h now)) g .1)));
+      covered = rw same (none-short h now (not-true _ (both (sameBits bits (placesSent m)) (not (anyShort h now)) g .1)));
       lacked = rw same alone;
       same = spots;
       parts = split es after u (alone-full h now after alone) spots;
@@ -225,7 +225,7 @@ selection-mask book =
     let s = selection-selected book in
     let isIn : Item → Bool = due book.day.number in
     good-mask book.holdings (entries book) (selection book) (entries-none-left isIn (λ item. []) book.waiting)
-    (alone-apart (entries book) (entries-alone isIn book.waiting)) (s .same) (s .quiet)
+    (alone-apart (entries book) (entries-alone isIn book.waiting)) (s .same) (s .covered)
 
 -- ---- with operations
 

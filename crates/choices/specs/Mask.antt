@@ -53,7 +53,7 @@ abbrev pub AddedAlone : Holdings → (now trades : List Item) → List Shortfall
 AddedAlone h now trades lacked = lacked ≡ map (shortfall h (now ++ trades)) trades
 
 pub record Optimised (h : Holdings) (before after : List Entry) : Type 0 where
-  pub quiet : NothingShort h (tradesIn after)
+  pub covered : NothingShort h (tradesIn after)
   pub lacked : WhereLeft (AddedAlone h (tradesIn after)) after
   pub same : map spot after ≡ map spot before
   pub parts : (figure : Item → ℕ) → total figure (tradesIn after) + total (λ l. figure l.trade) (tradesLeft after) ≡ total figure (tradesIn before)

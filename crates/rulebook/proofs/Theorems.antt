@@ -17,8 +17,8 @@ use Rattle.rulebook.specs.Theorems.{Theorems}
 use Rattle.rulebook.specs.declared.Order.{Order}
 use Rattle.rulebook.specs.declared.Written.{Written}
 use Rattle.rulebook.proofs.RoundTrips.{write-read, read-write, read-writable, first-bytes}
-use Rattle.rulebook.proofs.Selection.Quiet.{none-short, short-none}
-use Rattle.rulebook.proofs.Selection.Choice.{selected, nothing-fits, enough-turns, selection-selected}
+use Rattle.rulebook.proofs.Selection.Missing.{none-short, short-none}
+use Rattle.rulebook.proofs.Selection.Selected.{selected, nothing-fits, enough-turns, selection-selected}
 use Rattle.rulebook.proofs.CheckingOrder.{checking-order}
 use Rattle.rulebook.proofs.Sizes.{cycle-space, answer-space}
 use Rattle.rulebook.proofs.EveryCall.{fresh-premise, call-premise}

@@ -44,7 +44,7 @@ NoneLeft es = Each (λ e. isLeft e.standing ≡ false) es
 
 pub record Selected (h : Holdings) (before after : List Entry) : Type 0 where
   -- nothing is short with the trades that are in
-  pub quiet : NothingShort h (tradesIn after)
+  pub covered : NothingShort h (tradesIn after)
   -- each that is left lacked something when it went
   pub lacked : WhereLeft (Moment h) after
   -- place by place, what is due is in or left, and nothing else is

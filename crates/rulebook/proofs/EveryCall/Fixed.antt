@@ -26,7 +26,7 @@ use Rattle.rulebook.specs.Refusals.{cancelsSent}
 use Rattle.rulebook.specs.Premise.{SentFits, Premise}
 use Rattle.rulebook.proofs.ByCall.{Effect, AllForms, either-answer, not-read, by-form}
 use Rattle.rulebook.proofs.Orders.{Accepted, opens-next, none-sent}
-use Rattle.rulebook.proofs.Selection.Quiet.{by-places}
+use Rattle.rulebook.proofs.Selection.Missing.{by-places}
 use Rattle.rulebook.proofs.Selection.Alone.{sent-alone}
 use Rattle.rulebook.proofs.Selection.Fixing.{nothing-short, selection-alone, IfIn, selection-due, is-due, fixing-fixed}
 use Rattle.rulebook.proofs.Halves.{Half}

@@ -1,4 +1,4 @@
--- Figures fit a word, and what holds of each item holds of those that are in. Assumes nothing.
+-- Sums over trades fit a word, and what holds of each item holds of those that are in. Assumes nothing.
 use mathlib.Core.Path.{_≡_, refl}
 use mathlib.Core.Bool.{Bool, true, false, _&&_}
 use mathlib.Core.List.{List, [], _∷_}

@@ -1,4 +1,4 @@
--- The dropping ends with nothing short; each one dropped has its lacked, and what is due stays taken or left. Assumes nothing.
+-- The dropping ends with nothing short; what each one dropped lacked is kept, and what is due is in or left. Assumes nothing.
 use mathlib.Core.Path.{_≡_, refl, sym, ap, _∙_}
 use mathlib.Core.Bool.{Bool, true, false, _||_, false≢true}
 use mathlib.Core.List.{List, [], _∷_, map}
@@ -13,7 +13,7 @@ use Rattle.rulebook.specs.Shortfall.{Shortfall, NothingShort, shortfall,
 use Rattle.rulebook.specs.Selection.{Standing, Entry, notDue, taken, left, tradesOf, isTaken, isLeft}
 use Rattle.rulebook.specs.Selection.{tradesIn, countIn, drops, dropped, dropLast, rounds, dropping}
 use Rattle.rulebook.specs.Selected.{IfLeft, WhereLeft, Moment, spot, NoneLeft}
-use Rattle.rulebook.proofs.Selection.Quiet.{none-short}
+use Rattle.rulebook.proofs.Selection.Missing.{none-short}
 
 -- a trade that is in debits a short one exactly where an entry does
 pub some-in : (h : Holdings) (now : List Item) (es : List Entry) → some (debitsShort h now) (tradesIn es) ≡ some (drops h now) es
@@ -158,9 +158,9 @@ count-most (e ∷ rest) = go e.standing (count-most rest)
     go taken ih = omega arith
     go (left lacked) ih = omega arith
 
-pub dropping-quiet : (h : Holdings) (es : List Entry) → NothingShort h (tradesIn (dropping h es))
+pub dropping-covered : (h : Holdings) (es : List Entry) → NothingShort h (tradesIn (dropping h es))
 unfolding dropping
-dropping-quiet h es = none-short h (tradesIn (rounds (length es) h es)) (rounds-done h (length es) es (count-most es))
+dropping-covered h es = none-short h (tradesIn (rounds (length es) h es)) (rounds-done h (length es) es (count-most es))
 
 -- what each round keeps, the rounds keep
 rounds-keep :
@@ -178,7 +178,7 @@ pub dropping-spots : (h : Holdings) (es : List Entry) → map spot (dropping h e
 unfolding dropping
 dropping-spots h es = rounds-keep (λ l. map spot l ≡ map spot es) h (λ l p. round-of h l .spots ∙ p) (length es) es refl
 
--- of a list with nothing left out any claim on lacked holds
+-- of a list with nothing left any claim on what was lacked holds
 pub nothing-claimed : (P : List Item → List Shortfall → Type 0) (es : List Entry) → NoneLeft es → WhereLeft P es
 nothing-claimed P [] u = tt
 nothing-claimed P (e ∷ rest) u = (go e.standing (u .0), nothing-claimed P rest (u .1))

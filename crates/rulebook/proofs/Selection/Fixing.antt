@@ -16,12 +16,12 @@ use Rattle.rulebook.specs.Shortfall.{NothingShort}
 use Rattle.rulebook.specs.Selection.{Standing, Entry, notDue, taken, left, isTaken, isLeft, isSent, tradesIn, tradesLeft, due, entryBy, entries, selection}
 use Rattle.rulebook.specs.Selected.{Spot, spot}
 use Rattle.rulebook.specs.Cycle.{fixing, fixed, leftBy}
-use Rattle.rulebook.proofs.Selection.Choice.{selection-selected}
+use Rattle.rulebook.proofs.Selection.Selected.{selection-selected}
 use Rattle.rulebook.proofs.Selection.Alone.{Alone, AloneAt, alone-at, at-alone, entries-alone, sent-alone}
 
 -- what a cycle fixes makes nothing short
 pub nothing-short : (book : Ledger) → NothingShort book.holdings (tradesIn (selection book))
-nothing-short book = selection-selected book .quiet
+nothing-short book = selection-selected book .covered
 
 -- what is due is in or left
 pub left-and-in : (book : Ledger) → length (tradesIn (selection book)) + leftBy book ≡ length (tradesIn (entries book))

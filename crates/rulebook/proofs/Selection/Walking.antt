@@ -10,7 +10,7 @@ use Rattle.rulebook.specs.Ledger.{Holdings}
 use Rattle.plain.proofs.Lists.{total-append}
 use Rattle.rulebook.specs.Shortfall.{anyShort}
 use Rattle.rulebook.specs.Selection.{Standing, Entry, notDue, taken, left, tradesOf, withStanding, isLeft, tradesIn, fits, pass}
-use Rattle.rulebook.proofs.Selection.Quiet.{SameTotals, quiet-same, none-short, short-none}
+use Rattle.rulebook.proofs.Selection.Missing.{SameTotals, covered-same, none-short, short-none}
 
 -- the tests look at totals alone
 pub any-short-same : (h : Holdings) (ts us : List Item) → SameTotals ts us → anyShort h ts ≡ anyShort h us
@@ -18,8 +18,8 @@ any-short-same h ts us e = go (anyShort h ts) refl (anyShort h us) refl
   where
     go : (a : Bool) → anyShort h ts ≡ a → (b : Bool) → anyShort h us ≡ b → anyShort h ts ≡ anyShort h us
     go true j true k = j ∙ sym k
-    go true j false k = absurd (false≢true (sym (short-none h ts (quiet-same h us ts (λ f. sym (e f)) (none-short h us k))) ∙ j))
-    go false j b k = j ∙ sym (short-none h us (quiet-same h ts us e (none-short h ts j)))
+    go true j false k = absurd (false≢true (sym (short-none h ts (covered-same h us ts (λ f. sym (e f)) (none-short h us k))) ∙ j))
+    go false j b k = j ∙ sym (short-none h us (covered-same h ts us e (none-short h ts j)))
 
 pub fits-same : (h : Holdings) (now here : List Item) (e : Entry) → SameTotals now here → fits h now e ≡ fits h here e
 unfolding fits

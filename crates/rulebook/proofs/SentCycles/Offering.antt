@@ -15,7 +15,7 @@ use Rattle.rulebook.proofs.Booking.{recounted-beside}
 use Rattle.rulebook.proofs.Held.{same-self}
 use Rattle.rulebook.proofs.Places.{credit-balance, debit-balance, credit-cash, debit-cash}
 use Rattle.rulebook.proofs.Accounts.{same-eq}
-use Rattle.rulebook.proofs.Selection.Quiet.{by-places}
+use Rattle.rulebook.proofs.Selection.Missing.{by-places}
 
 -- what leaves an account changes no other balance and no cash
 module _ (a : Account) (security n : ℕ) (h : Holdings) where

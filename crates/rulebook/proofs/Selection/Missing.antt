@@ -24,8 +24,8 @@ pub missing-same : (h : Holdings) (ts us : List Item) → SameTotals ts us → (
 unfolding missing
 missing-same h ts us e p = omega (arith, e (takes p), e (brings p))
 
-pub quiet-same : (h : Holdings) (ts us : List Item) → SameTotals ts us → NothingShort h ts → NothingShort h us
-quiet-same h ts us e q p = sym (missing-same h ts us e p) ∙ q p
+pub covered-same : (h : Holdings) (ts us : List Item) → SameTotals ts us → NothingShort h ts → NothingShort h us
+covered-same h ts us e q p = sym (missing-same h ts us e p) ∙ q p
 
 pub above-zero : (n : ℕ) → 0 < n → (n isNot 0) ≡ true
 above-zero n l = simp (ne-eqb n 0 (λ e. omega arith))

@@ -1,4 +1,4 @@
--- What is claimed of a cycle's choice holds of it. Assumes nothing.
+-- What is claimed of a selection holds of it. Assumes nothing.
 use mathlib.Core.Path.{_≡_, refl, sym, ap, _∙_}
 use mathlib.Core.Bool.{Bool, true, false, false≢true}
 use mathlib.Core.List.{List, [], _∷_, map}
@@ -14,9 +14,9 @@ use Rattle.rulebook.specs.Selection.{due}
 use Rattle.rulebook.specs.Selection.{Standing, Entry, notDue, taken, left, isLeft, tradesIn, countLeft, dropping, passes}
 use Rattle.rulebook.specs.Selection.{selectionIn, fullSelection, entryBy, entries, selection, tradesLeft, tradesOf, LeftTrade, withLacks}
 use Rattle.rulebook.specs.Selected.{IfLeft, WhereLeft, Moment, Spot, spot, Selected, NothingFits, EnoughTurns, NoneLeft}
-use Rattle.rulebook.proofs.Selection.Dropping.{dropping-quiet, dropping-spots, dropping-lacked, nothing-claimed, rounds-enough}
-use Rattle.rulebook.proofs.Selection.Adding.{pass-none, passes-refuse, passes-quiet, passes-spots}
-use Rattle.rulebook.proofs.Selection.Adding.{passes-lacked, passes-enough, refused-unfit}
+use Rattle.rulebook.proofs.Selection.Dropping.{dropping-covered, dropping-spots, dropping-lacked, nothing-claimed, rounds-enough}
+use Rattle.rulebook.proofs.Selection.Passes.{pass-none, passes-refuse, passes-covered, passes-spots}
+use Rattle.rulebook.proofs.Selection.Passes.{passes-lacked, passes-enough, refused-unfit}
 
 left-most : (es : List Entry) → countLeft es ≤ length es
 unfolding countLeft
@@ -99,7 +99,7 @@ module _ (h : Holdings) (es : List Entry) (u : NoneLeft es) where
       let lacked = passes-lacked h most d (dropping-lacked h es u) in
       let same = passes-spots h most d ∙ dropping-spots h es in
       record {
-        quiet = passes-quiet h most d (dropping-quiet h es);
+        covered = passes-covered h most d (dropping-covered h es);
         lacked = lacked;
         same = same;
         parts = split es (passes most h d) u (moment-full h (passes most h d) lacked) same;

@@ -14,7 +14,7 @@ use Rattle.rulebook.specs.Shortfall.{NothingShort, debitsShort, anyShort
 use Rattle.rulebook.specs.Selection.{Standing, Entry, notDue, taken, left, tradesOf, withStanding}
 use Rattle.rulebook.specs.Selection.{isLeft, tradesIn, countLeft, fits, pass, onePass, passes}
 use Rattle.rulebook.specs.Selected.{WhereLeft, Moment, spot, Unfit, OwnTest}
-use Rattle.rulebook.proofs.Selection.Quiet.{none-short, any-short, quiet-same, own-debits}
+use Rattle.rulebook.proofs.Selection.Missing.{none-short, any-short, covered-same, own-debits}
 
 -- left, and it does not fit
 abbrev pub Refused : Holdings → List Item → Entry → Type 0
@@ -27,7 +27,7 @@ pub record Pass (h : Holdings) (now : List Item) (es es′ : List Entry) : Type 
   -- those in at its end: with what it added
   pub after : List Item
   pub totals : (figure : Item → ℕ) → total figure (tradesIn es′) + total figure now ≡ total figure after + total figure (tradesIn es)
-  pub quiet : NothingShort h now → NothingShort h after
+  pub covered : NothingShort h now → NothingShort h after
   pub fewer : countLeft es′ ≤ countLeft es
   -- a pass that adds none
   pub none : countLeft es′ ≡ countLeft es → Each (Refused h now) es × (es′ ≡ es)
@@ -39,7 +39,7 @@ module _ (h : Holdings) where
   pass-end now = record {
     after = now;
     totals = λ f. omega arith;
-    quiet = λ q. q;
+    covered = λ q. q;
     fewer = omega arith;
     none = λ _. (tt, refl);
     spots = refl;
@@ -53,7 +53,7 @@ module _ (h : Holdings) where
   pass-stays now e rest rest′ n r = record {
     after = r.after;
     totals = λ f. go f e.standing refl;
-    quiet = r.quiet;
+    covered = r.covered;
     fewer = omega (arith, r.fewer);
     none = λ z. let i = r .none (omega arith) in ((refused, i .0), ap (λ l. e ∷ l) (i .1));
     spots = ap (λ l. spot e ∷ l) r.spots;
@@ -74,8 +74,8 @@ module _ (h : Holdings) where
   unfolding countLeft tradesIn fits
   pass-adds now e rest rest′ n r = go e.standing refl
     where
-      quiet : anyShort h (now ++ tradesOf e) ≡ false → NothingShort h (r .after)
-      quiet s = r .quiet (none-short h (now ++ tradesOf e) s)
+      covered : anyShort h (now ++ tradesOf e) ≡ false → NothingShort h (r .after)
+      covered s = r .covered (none-short h (now ++ tradesOf e) s)
 
       not-true : (b : Bool) → not b ≡ true → b ≡ false
       not-true true p = absurd (false≢true p)
@@ -87,7 +87,7 @@ module _ (h : Holdings) where
       go (left lacked) k = record {
         after = r.after;
         totals = λ f. simp k (omega (arith, r .totals f, total-append f (tradesOf e) (tradesIn rest′), total-append f now (tradesOf e)));
-        quiet = λ _. quiet (not-true _ (simp k at n));
+        covered = λ _. covered (not-true _ (simp k at n));
         fewer = simp k (omega (arith, r.fewer));
         none = λ z. absurd (omega (arith, simp k at z, r.fewer));
         spots = simp k (ap (λ l. spot (withStanding taken e) ∷ l) r.spots);
@@ -115,10 +115,10 @@ module _ (h : Holdings) where
       go true k ih = simp (k, r .0 k, ih)
       go false k ih = simp (k, ih)
 
-  one-quiet : (es : List Entry) → NothingShort h (tradesIn es) → NothingShort h (tradesIn (onePass h es))
-  one-quiet es q =
+  one-covered : (es : List Entry) → NothingShort h (tradesIn es) → NothingShort h (tradesIn (onePass h es))
+  one-covered es q =
       let r = passed (tradesIn es) es in
-      quiet-same h (r .after) (tradesIn (onePass h es)) (λ f. omega (arith, r .totals f)) (r .quiet q)
+      covered-same h (r .after) (tradesIn (onePass h es)) (λ f. omega (arith, r .totals f)) (r .covered q)
 
   -- ---- the passes
 
@@ -172,8 +172,8 @@ module _ (h : Holdings) where
       go true k later = simp k p
       go false k later = simp k later
 
-  pub passes-quiet : (n : ℕ) (es : List Entry) → NothingShort h (tradesIn es) → NothingShort h (tradesIn (passes n h es))
-  passes-quiet = passes-keep (λ l. NothingShort h (tradesIn l)) one-quiet
+  pub passes-covered : (n : ℕ) (es : List Entry) → NothingShort h (tradesIn es) → NothingShort h (tradesIn (passes n h es))
+  passes-covered = passes-keep (λ l. NothingShort h (tradesIn l)) one-covered
 
   pub passes-spots : (n : ℕ) (es : List Entry) → map spot (passes n h es) ≡ map spot es
   passes-spots n es = passes-keep (λ l. map spot l ≡ map spot es) (λ l p. passed (tradesIn l) l .spots ∙ p) n es refl
