@@ -19,7 +19,7 @@ Amounts = (member currency : ℕ) → ℕ
 unfoldable pub paidIn : Amounts → Holdings → Holdings
 paidIn pay h = record { securities = h.securities; balance = h.balance; accounts = h.accounts; cash = λ m c. h.cash m c + pay m c }
 
--- they clear trades: with them nothing is short
+-- pay-ins clear trades where no place misses anything once they are in
 abbrev pub Clears : Holdings → List Item → Amounts → Type 0
 Clears h trades pay = NothingShort (paidIn pay h) trades
 
@@ -73,7 +73,7 @@ pub record ClearingLaws (h : Holdings) (trades : List Item) : Type 0 where
 abbrev pub SendsAll : Holdings → List Entry → Type 0
 SendsAll h es = NoneLeft es → SharesEnough h (tradesIn es) → fullSelection (paidIn (amounts h (tradesIn es)) h) es ≡ es
 
--- ---- pay-ins known between two amounts
+-- ---- pay-ins that are not known exactly
 
 pub data Verdict : Type 0 where
   always : Verdict

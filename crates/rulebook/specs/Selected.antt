@@ -22,7 +22,7 @@ IfLeft P trades (left lacked) = P trades lacked
 abbrev pub WhereLeft : (List Item → List Shortfall → Type 0) → List Entry → Type 0
 WhereLeft P es = Each (λ e. IfLeft P (tradesOf e) e.standing) es
 
--- it is what they lacked at one moment with them among the trades that were in: one figure a trade, and some figure above 0
+-- it is what they lack with some trades `now` that have them among them: one figure a trade, and some figure above 0. Which trades, `dropped` says
 pub record Moment (h : Holdings) (trades : List Item) (lacked : List Shortfall) : Type 0 where
   pub now : List Item
   pub among : (figure : Item → ℕ) → total figure trades ≤ total figure now
@@ -45,7 +45,7 @@ NoneLeft es = Each (λ e. isLeft e.standing ≡ false) es
 pub record Selected (h : Holdings) (before after : List Entry) : Type 0 where
   -- nothing is short with the trades that are in
   pub covered : NothingShort h (tradesIn after)
-  -- each that is left lacked something when it went
+  -- what is kept of each that is left is what it lacks with some trades, and not nothing
   pub lacked : WhereLeft (Moment h) after
   -- place by place, what is due is in or left, and nothing else is
   pub same : map spot after ≡ map spot before
@@ -63,7 +63,7 @@ pub record EnoughTurns (h : Holdings) (es : List Entry) : Type 0 where
 abbrev pub SomethingShort : Holdings → List Item → Type 0
 SomethingShort h trades = (place : Place) × (0 < missing h trades place)
 
--- one that is left would make something short, alone beside those that are in
+-- with one that is left beside those that are in, some place misses something
 abbrev pub Unfit : Holdings → (now : List Item) → Entry → Type 0
 Unfit h now e = isLeft e.standing ≡ true → SomethingShort h (now ++ tradesOf e)
 

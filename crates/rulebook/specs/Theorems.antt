@@ -39,7 +39,7 @@ pub record Theorems : Type 0 where
   -- RULES 9.4: the test on the trades finds whatever is short
   pub shortFound : (h : Holdings) (trades : List Item) → anyShort h trades ≡ false → NothingShort h trades
   pub noneFound : (h : Holdings) (trades : List Item) → NothingShort h trades → anyShort h trades ≡ false
-  -- RULES 9.7, 12.32: nothing is short with what a cycle fixes, and each due trade is fixed or left, having lacked something
+  -- RULES 9.7, 12.32: nothing is short with what a cycle fixes, and each due trade is fixed or left, with what it lacked
   pub selected : (book : Ledger) → Selected book.holdings (entries book) (selection book)
   -- RULES 12.33, 12.34: the same with any number of passes; once they end, what is left does not fit beside what is in; how many are enough
   pub selectedIn : (most : ℕ) (h : Holdings) (es : List Entry) → NoneLeft es → Selected h es (selectionIn most h es)
