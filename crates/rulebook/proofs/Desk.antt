@@ -13,7 +13,7 @@ use Rattle.rulebook.specs.Rows.{postingWidths, noticeWidths, postingByte
 use Rattle.rulebook.specs.Waiting.{itemOf, isDeliver, isReceive, isTrade, ownReference, sidesOf, sides, senderOf, sentBy, notCancellable, withState, withSent, marked, bothMarked, marking, cancelled, staying, unmarked}
 use Rattle.rulebook.specs.Matching.{tolerance, agree, pairsWith, pairOf, arrive, sharedTerms, sameTerms}
 use Rattle.rulebook.specs.Shortfall.{seller, buyer, takes, brings, missing, debitsShort, anyShort}
-use Rattle.rulebook.specs.Selection.{tradesIn, drops, dropLast, rounds, dropping, passes, selectionIn, tradesLeft, isSent, due, entryBy, entries, selection}
+use Rattle.rulebook.specs.Selection.{tradesIn, countLeft, drops, dropLast, rounds, dropping, fits, pass, passes, selectionIn, fullSelection, tradesLeft, isSent, due, entryBy, entries, selection}
 use Rattle.rulebook.specs.Cycle.{legs, settled, notSettled, leftBy, fixing, fixed, declined, offers}
 use Rattle.rulebook.specs.Close.{closeKind, leaves, deletedAtClose, suspendedAtClose, closeNotice}
 use Rattle.rulebook.specs.Forms.{counts, outcome, moving, silent, openDay, admit, deposit, withdraw, transfer, payIn, payOut, instruct, trade, cancel, cycle, confirm, decline, answerCycle, close, forms, rowOf, used, least, most, windowOf, effect, setRate, requestPaper, endRequest}
@@ -33,7 +33,7 @@ unfolding
     booked byKind cycleMinutes allRun officeEnd postingWidths noticeWidths postingBytes postingIn postingOf noticeBytes deliverReference
     receiveReference noticeOf postingRows rowBytes rowsBytes itemOf isDeliver isReceive isTrade ownReference sidesOf sides senderOf sentBy
     notCancellable withState withSent marked bothMarked marking cancelled staying unmarked tolerance sharedTerms sameTerms agree pairsWith pairOf
-    arrive seller buyer takes brings missing debitsShort anyShort tradesIn drops dropLast rounds dropping passes selectionIn tradesLeft isSent due
+    arrive seller buyer takes brings missing debitsShort anyShort tradesIn countLeft drops dropLast rounds dropping fits pass passes selectionIn fullSelection tradesLeft isSent due
     entryBy entries selection legs settled notSettled leftBy fixing fixed
     declined offers closeKind leaves deletedAtClose suspendedAtClose closeNotice counts outcome moving silent openDay admit deposit withdraw transfer
     payIn payOut instruct trade cancel cycle confirm decline answerCycle close setRate requestPaper endRequest forms rowOf windowOf effect wrongDay
@@ -65,4 +65,6 @@ desk = record {
   p21 = refl;
   p22 = refl;
   p23 = (refl, refl);
+  p24 = refl;
+  p25 = (refl, refl);
 }

@@ -2,6 +2,8 @@
 
 -- what an answer meets: `answer-refusals`
 pub mod Refusals
+-- what it leaves would not fit: `left-unfit`
+pub mod Leaving
 -- what is fixed stays until it is answered: `fixed-stays`
 pub mod Staying
 -- and is booked as it was sent: `confirmed-as-sent`

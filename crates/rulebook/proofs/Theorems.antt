@@ -18,7 +18,7 @@ use Rattle.rulebook.specs.declared.Order.{Order}
 use Rattle.rulebook.specs.declared.Written.{Written}
 use Rattle.rulebook.proofs.RoundTrips.{write-read, read-write, read-writable, first-bytes}
 use Rattle.rulebook.proofs.Selection.Missing.{none-short, short-none}
-use Rattle.rulebook.proofs.Selection.Selected.{selected, nothing-fits, enough-turns, selection-selected}
+use Rattle.rulebook.proofs.Selection.Selected.{selected, nothing-fits, enough-turns, selection-selected, passes-end}
 use Rattle.rulebook.proofs.CheckingOrder.{checking-order}
 use Rattle.rulebook.proofs.Sizes.{cycle-space, answer-space}
 use Rattle.rulebook.proofs.EveryCall.{fresh-premise, call-premise}
@@ -28,6 +28,7 @@ use Rattle.rulebook.proofs.Rates.{rate-of-calls, tolerances, rate-alone
 use Rattle.rulebook.proofs.Rematerialization.{awaited-of-calls, ending-covered, request-stays, request-ends, request-refusals, ending-refusals}
 use Rattle.rulebook.proofs.Custody.{held-by-form, held-of-calls}
 use Rattle.rulebook.proofs.SentCycles.Refusals.{answer-refusals}
+use Rattle.rulebook.proofs.SentCycles.Leaving.{left-unfit}
 use Rattle.rulebook.proofs.SentCycles.Staying.{fixed-stays}
 use Rattle.rulebook.proofs.SentCycles.Confirming.{confirmed-as-sent}
 use Rattle.rulebook.proofs.SentCycles.Declining.{declined-as-unsent}
@@ -72,6 +73,8 @@ theorems = record {
   shortFound = none-short;
   noneFound = short-none;
   selected = selection-selected;
+  leftUnfit = left-unfit;
+  passesEnd = passes-end;
   selectedIn = λ most h es u. selected h es u most;
   nothingFits = nothing-fits;
   enoughTurns = enough-turns;

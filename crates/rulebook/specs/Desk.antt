@@ -196,10 +196,10 @@ pub record Desk : Type 0 where
   -- A.8, A.9: a full list, with a match and without
   pub p8 : result full (receives 501 7 8 100 102_000 1) .answer ≡ Answer.Accepted (counts 0 0 0 0 0 0)
   pub p9 : result full (receives 501 7 8 100 102_001 1) .answer ≡ Answer.Refused 18
-  -- A.10: the last trades are dropped first
+  -- A.10: the last trades are dropped first, and what fits is put back
   pub p10 :
       cycled (deposits 540 7 100 ∷ paysIn 550 8 1_000 ∷ sells 7 8 60 100 1 ++ sells 7 8 50 100 3 ++ sells 7 8 30 100 5)
-      ≡ (Answer.Accepted (counts 0 0 0 0 0 2), Answer.Accepted (counts 4 2 0 0 0 0), 50 ∷ 30 ∷ [])
+      ≡ (Answer.Accepted (counts 0 0 0 0 0 1), Answer.Accepted (counts 8 4 0 0 0 0), 50 ∷ [])
   -- A.11: positions are net
   pub p11 :
       cycled (deposits 540 7 100 ∷ paysIn 550 9 50 ∷ sells 7 8 100 50 1 ++ sells 8 9 100 50 3)
@@ -248,3 +248,14 @@ pub record Desk : Type 0 where
   pub p23 :
       (map (λ item. item.quantity.0) (calls awaiting (answers 586 2 ∷ []) .waiting) ≡ 100 ∷ 100 ∷ [])
       × (result (calls awaiting (answers 586 2 ∷ [])) (answers 586 1) .answer ≡ Answer.Refused 23)
+  -- A.24: what is put back lets another trade fit, which the next pass puts back
+  pub p24 :
+      cycled (deposits 540 7 100 ∷ paysIn 550 8 10 ∷ paysIn 550 9 10 ∷ paysIn 550 10 10 ∷ paysIn 550 11 10
+      ∷ sells 8 9 30 10 1 ++ sells 7 10 60 10 3 ++ sells 7 11 50 10 5 ++ sells 7 8 30 10 7)
+      ≡ (Answer.Accepted (counts 0 0 0 0 0 1), Answer.Accepted (counts 12 6 0 0 0 0), 50 ∷ [])
+  -- A.25: it is not the largest set: of 60, 50 and 50 the first is sent, though without it both others would be
+  pub p25 :
+      (cycled (deposits 540 7 100 ∷ paysIn 550 8 1_000 ∷ sells 7 8 60 100 1 ++ sells 7 8 50 100 3 ++ sells 7 8 50 100 5)
+      ≡ (Answer.Accepted (counts 0 0 0 0 0 2), Answer.Accepted (counts 4 2 0 0 0 0), 50 ∷ 50 ∷ []))
+      × (cycled (deposits 540 7 100 ∷ paysIn 550 8 1_000 ∷ sells 7 8 50 100 3 ++ sells 7 8 50 100 5)
+      ≡ (Answer.Accepted (counts 0 0 0 0 0 0), Answer.Accepted (counts 8 4 0 0 0 0), []))

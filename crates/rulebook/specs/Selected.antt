@@ -3,13 +3,14 @@ use Prim.Native.Nat.{ℕ, _+_, _≤_, _<_}
 use mathlib.Core.Bool.{Bool, true, false, not, _||_}
 use mathlib.Core.List.{List, map, _++_}
 use mathlib.Core.Path.{_≡_}
+use lib.ListN.{length}
 use Rattle.plain.specs.Lists.{some, total, Each}
 use Rattle.rulebook.specs.declared.Item.{Item}
-use Rattle.rulebook.specs.Ledger.{Holdings}
+use Rattle.rulebook.specs.Ledger.{Holdings, Ledger}
 use Rattle.rulebook.specs.Movements.{Place}
 use Rattle.rulebook.specs.Shortfall.{Shortfall, missing, NothingShort, lacksSome, shortfall, debitsShort}
 use Rattle.rulebook.specs.Selection.{Standing, Entry, notDue, taken, left, tradesOf, isTaken, isLeft, tradesIn}
-use Rattle.rulebook.specs.Selection.{countIn, countLeft, tradesLeft, fits, rounds, onePass, passes}
+use Rattle.rulebook.specs.Selection.{countIn, countLeft, tradesLeft, fits, rounds, dropping, onePass, passes, entries, selection}
 
 -- ---- of a selection, with passes or without
 
@@ -71,6 +72,16 @@ pub record NothingFits (h : Holdings) (after : List Entry) : Type 0 where
   pub unfit : Each (Unfit h (tradesIn after)) after
   -- a further pass would put nothing back
   pub ended : onePass h after ≡ after
+
+-- ---- the passes of a cycle come to an end (RULES 12.34)
+
+pub record PassesEnd (book : Ledger) : Type 0 where
+  -- of the waiting items, at most all are dropped
+  pub few : countLeft (dropping book.holdings (entries book)) ≤ length book.waiting
+  -- as many passes as were dropped are enough, and no number above it changes anything
+  pub enough : (n : ℕ) → countLeft (dropping book.holdings (entries book)) ≤ n → passes n book.holdings (dropping book.holdings (entries book)) ≡ selection book
+  -- one more would put nothing back
+  pub ended : onePass book.holdings (selection book) ≡ selection book
 
 -- where nothing is short, only the places that an added one debits can become so
 abbrev pub OwnTest : Holdings → (now : List Item) → Entry → Type 0

@@ -1,4 +1,5 @@
--- Which of the waiting trades a cycle fixes (RULES 9.1, 9.5 to 9.7): the due ones are in, and while something is short the last that draws on it goes.
+-- Which of the waiting trades a cycle fixes (RULES 9.1, 9.5 to 9.7, 9.25, 9.26): the due ones are in; while something is short the last that draws on it
+-- goes; then passes over those that went put back what fits.
 use Prim.Native.Nat.{ℕ, zero, suc}
 use mathlib.Core.Bool.{Bool, true, false, not, _||_, _&&_}
 use mathlib.Core.List.{List, [], _∷_, _++_, map}
@@ -86,11 +87,11 @@ dropping h es = rounds (length es) h es
 
 -- ---- passes, which put back what fits
 
--- with its trades beside the trades `now` nothing is short
+-- RULES 9.25: with its trades beside the trades `now` nothing is short
 unfoldable pub fits : Holdings → (now : List Item) → Entry → Bool
 fits h now e = not (anyShort h (now ++ tradesOf e))
 
--- one pass: each that is left, in list order, is put back if it fits beside those that are in by then
+-- one pass: each that is left, in list order, is put back if it fits beside those that are in by then, with what the pass has put back before it
 unfoldable pub pass : Holdings → (now : List Item) → List Entry → List Entry
 pass h now [] = []
 pass h now (e ∷ rest) =
@@ -101,7 +102,7 @@ pass h now (e ∷ rest) =
 abbrev pub onePass : Holdings → List Entry → List Entry
 onePass h es = pass h (tradesIn es) es
 
--- pass after pass, as long as one puts something back
+-- RULES 9.26: pass after pass, as long as one puts something back
 unfoldable pub passes : ℕ → Holdings → List Entry → List Entry
 passes zero h es = es
 passes (suc more) h es =
@@ -170,6 +171,6 @@ entries book = map (entryBy (due book.day.number) (λ item. [])) book.waiting
 unfoldable pub withOriginals : (isIn : Item → Bool) (isOriginal : (operation item : Item) → Bool) → List Item → List Entry
 withOriginals isIn isOriginal waiting = map (entryBy isIn (λ item. keep (isOriginal item) waiting)) waiting
 
--- RULES 9.7: what a cycle makes of a book when it is sent. It puts nothing back
+-- RULES 9.7: what a cycle makes of a book when it is sent
 unfoldable pub selection : Ledger → List Entry
-selection book = selectionIn 0 book.holdings (entries book)
+selection book = fullSelection book.holdings (entries book)

@@ -1,17 +1,18 @@
--- What is proved of cycles that are sent and answered (RULES 6.21, 12.27 to 12.31).
+-- What is proved of cycles that are sent and answered (RULES 6.21, 12.27 to 12.31, 12.33).
 use Prim.Native.Nat.{ℕ, zero, suc, _+_, _-_, _≤_}
-use mathlib.Core.Bool.{Bool, true, false}
+use mathlib.Core.Bool.{Bool, true, false, not, _&&_}
 use mathlib.Core.List.{List, [], _∷_, _++_, map}
 use mathlib.Core.Path.{_≡_}
 use lib.ListN.{length}
-use Rattle.plain.specs.Lists.{if_then_else_, _is_, _below_, some, first}
+use Rattle.plain.specs.Lists.{if_then_else_, _is_, _below_, some, first, keep, Each}
 use Rattle.rulebook.specs.Ledger.{Ledger, Holdings, putDay, putWaiting, cycleAnswered}
 use Rattle.rulebook.specs.Movements.{account, type91, move, booked}
 use Rattle.rulebook.specs.Windows.{cycleMinutes, officeEnd}
 use Rattle.rulebook.specs.Rows.{postingRows}
 use Rattle.rulebook.specs.Waiting.{sides}
 use Rattle.rulebook.specs.Shortfall.{NothingShort}
-use Rattle.rulebook.specs.Selection.{tradesIn, selection}
+use Rattle.rulebook.specs.Selection.{tradesIn, due, selection}
+use Rattle.rulebook.specs.Selected.{SomethingShort}
 use Rattle.rulebook.specs.Cycle.{legs, fixed, settled, declined, offers}
 use Rattle.rulebook.specs.Forms.{effect, confirm}
 use Rattle.rulebook.specs.Record.{readOf}
@@ -23,6 +24,7 @@ use Rattle.rulebook.specs.Desk.{runs, answers, closes, send}
 use Rattle.rulebook.specs.declared.Account.{Account}
 use Rattle.rulebook.specs.declared.Answer.{Answer}
 use Rattle.rulebook.specs.declared.Day.{Day}
+use Rattle.rulebook.specs.declared.Item.{Item}
 use Rattle.rulebook.specs.declared.Order.{Order}
 use Rattle.rulebook.specs.declared.Read.{Read}
 
@@ -35,6 +37,24 @@ unfoldable pub FixedStays : Type 0
 FixedStays =
     (book : Ledger) (calls : List Call) → Premise book → book.day.sent ≡ true → some answersCycle (acceptedCalls (callsOn book calls)) ≡ false
     → (bookAfter book calls .day .sent ≡ true) × (settled (bookAfter book calls) ≡ settled book)
+
+-- an item that is due and not fixed
+abbrev pub isOut : (day : ℕ) → Item → Bool
+isOut day item = due day item && not item.sent
+
+-- RULES 12.33: of a book on which a cycle is sent, and of its waiting items as sending leaves them
+pub record NothingLeftFits (book : Ledger) (waiting : List Item) : Type 0 where
+  -- with those fixed nothing is short: no account at all, and no member's cash
+  pub covered : NothingShort book.holdings (fixed waiting)
+  -- each that is due and not fixed, added alone to them, would make some account or some member's cash short
+  pub unfit : Each (λ item. isOut book.day.number item ≡ true → SomethingShort book.holdings (fixed waiting ++ item ∷ [])) waiting
+
+-- and how many these are is what the call counts as left
+unfoldable pub LeftUnfit : Type 0
+LeftUnfit =
+    (book : Ledger) (o : Order) → o.form ≡ 16
+    → NothingLeftFits book (effect book o .after .waiting)
+    × (effect book o .counts .left ≡ length (keep (isOut book.day.number) (effect book o .after .waiting)))
 
 -- RULES 12.28: what a confirmation books and writes on a later book is what the cycle selected when it was sent
 pub record AsSent (book later : Ledger) : Type 0 where

@@ -10,7 +10,7 @@ use Rattle.rulebook.specs.Record.{readOf, writtenOf, areaWritten}
 use Rattle.rulebook.specs.declared.Item.{Item}
 use Rattle.rulebook.specs.Shortfall.{NothingShort, anyShort}
 use Rattle.rulebook.specs.Selection.{Entry, selectionIn, fullSelection, entries, selection}
-use Rattle.rulebook.specs.Selected.{NoneLeft, Selected, NothingFits, EnoughTurns}
+use Rattle.rulebook.specs.Selected.{NoneLeft, Selected, NothingFits, EnoughTurns, PassesEnd}
 use Rattle.rulebook.specs.Refusals.{noSpace}
 use Rattle.rulebook.specs.Checks.{CheckingOrder}
 use Rattle.rulebook.specs.Calls.{Call, resultOf, Demand3}
@@ -19,7 +19,7 @@ use Rattle.rulebook.specs.AdmittedTypes.{AdmittedTypes}
 use Rattle.rulebook.specs.Rates.{RateOfCalls, Tolerances, RateAlone, RateRefusals}
 use Rattle.rulebook.specs.Rematerialization.{AwaitedOfCalls, EndingCovered, RequestStays, RequestEnds, RequestRefusals, EndingRefusals}
 use Rattle.rulebook.specs.Custody.{HeldByForm, HeldOfCalls}
-use Rattle.rulebook.specs.SentCycles.{AnswerRefusals, FixedStays, ConfirmedAsSent, DeclinedAsUnsent, OfferExact, DayFinishes}
+use Rattle.rulebook.specs.SentCycles.{AnswerRefusals, LeftUnfit, FixedStays, ConfirmedAsSent, DeclinedAsUnsent, OfferExact, DayFinishes}
 use Rattle.rulebook.specs.Desk.{Desk}
 use Rattle.rulebook.specs.declared.Order.{Order}
 use Rattle.rulebook.specs.declared.Read.{Read}
@@ -41,7 +41,11 @@ pub record Theorems : Type 0 where
   pub noneFound : (h : Holdings) (trades : List Item) → NothingShort h trades → anyShort h trades ≡ false
   -- RULES 9.7, 12.32: nothing is short with what a cycle fixes, and each due trade is fixed or left, with what it lacked
   pub selected : (book : Ledger) → Selected book.holdings (entries book) (selection book)
-  -- RULES 12.33, 12.34: the same with any number of passes; once they end, what is left does not fit beside what is in; how many are enough
+  -- RULES 12.33: what a cycle leaves would not fit, in the book at sending
+  pub leftUnfit : LeftUnfit
+  -- RULES 12.34: its passes end, after at most as many as there are dropped
+  pub passesEnd : (book : Ledger) → PassesEnd book
+  -- the same of any holdings and entries: with any number of passes; once they end, what is left does not fit beside what is in; how many are enough
   pub selectedIn : (most : ℕ) (h : Holdings) (es : List Entry) → NoneLeft es → Selected h es (selectionIn most h es)
   pub nothingFits : (h : Holdings) (es : List Entry) → NothingFits h (fullSelection h es)
   pub enoughTurns : (h : Holdings) (es : List Entry) → EnoughTurns h es

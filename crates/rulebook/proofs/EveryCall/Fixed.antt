@@ -11,13 +11,13 @@ use Rattle.rulebook.specs.declared.Order.{Order}
 use Rattle.rulebook.specs.declared.State.{State}
 use Rattle.rulebook.specs.declared.State.the-variants.{Single, Pair, Trade}
 use Rattle.plain.specs.Lists.{if_then_else_, _is_, some, keep, Each}
-use Rattle.plain.proofs.Lists.{_and_, total-map, each-so, each-append, each-map, each-kept}
+use Rattle.plain.proofs.Lists.{_and_, each-so, each-append, each-map, each-kept}
 use Rattle.plain.proofs.Tests.{neither}
 use Rattle.rulebook.specs.Ledger.{Ledger, Holdings, putDay, putHoldings, putWaiting, putRate, putRequests}
-use Rattle.rulebook.specs.Movements.{Place, account, type91, type90, cashOf, member0}
+use Rattle.rulebook.specs.Movements.{account, cashOf}
 use Rattle.rulebook.specs.Waiting.{isTrade, isDeliver, isReceive, itemOf, singleOf, senderOf, sentBy, withState, withSent, marked, marking, bothMarked, staying, unmarked}
 use Rattle.rulebook.specs.Matching.{tolerance, pairsWith, pairOf, arrive}
-use Rattle.rulebook.specs.Shortfall.{seller, buyer, takes, brings, missing, NothingShort}
+use Rattle.rulebook.specs.Shortfall.{missing, NothingShort}
 use Rattle.rulebook.specs.Selection.{Entry, isSent, tradesIn, due, selection}
 use Rattle.rulebook.specs.Cycle.{fixing, fixed, notSettled, declined, offers}
 use Rattle.rulebook.specs.Close.{leaves}
@@ -28,7 +28,7 @@ use Rattle.rulebook.proofs.ByCall.{Effect, AllForms, either-answer, not
 use Rattle.rulebook.proofs.Orders.{Accepted, opens-next, none-sent}
 use Rattle.rulebook.proofs.Selection.Missing.{by-places}
 use Rattle.rulebook.proofs.Selection.Alone.{sent-alone}
-use Rattle.rulebook.proofs.Selection.Fixing.{nothing-short, selection-alone, IfIn, selection-due, is-due, fixing-fixed}
+use Rattle.rulebook.proofs.Selection.Fixing.{nothing-short, selection-alone, IfIn, selection-due, is-due, fixing-fixed, missing-sent}
 use Rattle.rulebook.proofs.Halves.{Half}
 use Rattle.rulebook.proofs.Steps.OneCall.{Step}
 use Rattle.rulebook.proofs.EveryCall.Items.{pairs, arrive-each}
@@ -170,32 +170,9 @@ mark-sent day s r i f = go (sentBy s r i)
     go true e = let m : isTrade (marked s i .state) ≡ isTrade i.state = mark-trade s i i.state in (f e .0, simp m (f e .1))
     go false e = f e
 
--- what a trade takes and brings does not ask whether it is fixed
-takes-sent : (p : Place) (i : Item) → takes p (withSent true i) ≡ takes p i
-unfolding takes seller withSent
-takes-sent (account a) i = refl
-takes-sent (type91 s) i = refl
-takes-sent (type90 s) i = refl
-takes-sent (cashOf m c) i = refl
-takes-sent (member0 c) i = refl
-
-brings-sent : (p : Place) (i : Item) → brings p (withSent true i) ≡ brings p i
-unfolding brings buyer withSent
-brings-sent (account a) i = refl
-brings-sent (type91 s) i = refl
-brings-sent (type90 s) i = refl
-brings-sent (cashOf m c) i = refl
-brings-sent (member0 c) i = refl
-
+-- nothing is short with trades that are fixed where nothing is with them
 short-sent : (h : Holdings) (ts : List Item) → NothingShort h ts → NothingShort h (map (withSent true) ts)
-unfolding missing
-short-sent h ts n p =
-    omega (
-      arith,
-      n p,
-      total-map (takes p) (takes p) (withSent true) (takes-sent p) ts,
-      total-map (brings p) (brings p) (withSent true) (brings-sent p) ts,
-    )
+short-sent h ts n p = missing-sent h true ts p ∙ n p
 
 -- ---- form by form
 

@@ -10,9 +10,10 @@ use Rattle.plain.specs.Lists.{if_then_else_, _atMost_, total, Each}
 use Rattle.plain.proofs.Lists.{total-map, length-total, each-map}
 use Rattle.plain.proofs.Tests.{both}
 use Rattle.rulebook.specs.declared.Item.{Item}
-use Rattle.rulebook.specs.Ledger.{Ledger}
+use Rattle.rulebook.specs.Ledger.{Ledger, Holdings}
+use Rattle.rulebook.specs.Movements.{Place, account, type91, type90, cashOf, member0}
 use Rattle.rulebook.specs.Waiting.{isTrade, withSent}
-use Rattle.rulebook.specs.Shortfall.{NothingShort}
+use Rattle.rulebook.specs.Shortfall.{seller, buyer, takes, brings, missing, NothingShort}
 use Rattle.rulebook.specs.Selection.{Standing, Entry, notDue, taken, left, isTaken, isLeft, isSent, tradesIn, tradesLeft, due, entryBy, entries, selection}
 use Rattle.rulebook.specs.Selected.{Spot, spot}
 use Rattle.rulebook.specs.Cycle.{fixing, fixed, leftBy}
@@ -98,30 +99,32 @@ pub is-due : (day : ℕ) (i : Item) → due day i ≡ true → Due day i
 unfolding due
 is-due day i e = let p = both (isTrade i.state) (i.«settlement_day» atMost day) e in (p .0, leb-true _ _ (p .1))
 
-abbrev DueAt : ℕ → List Spot → Type 0
-DueAt day spots = Each (λ s. s.isDue ≡ true → due day s.item ≡ true) spots
+abbrev pub DueAt : ℕ → List Spot → Type 0
+DueAt day spots = Each (λ s. s.isDue ≡ due day s.item) spots
 
 entries-due : (day : ℕ) (ws : List Item) → DueAt day (map spot (map (entryBy (due day) (λ item. [])) ws))
 unfolding entryBy
 entries-due day [] = tt
 entries-due day (w ∷ rest) = (go (due day w), entries-due day rest)
   where
-    go : (b : Bool) → (isTaken (if b then taken else notDue) || isLeft (if b then taken else notDue)) ≡ true → b ≡ true
-    go true e = refl
-    go false e = e
+    go : (b : Bool) → (isTaken (if b then taken else notDue) || isLeft (if b then taken else notDue)) ≡ b
+    go true = refl
+    go false = refl
 
 abbrev pub IfIn : (day : ℕ) → Entry → Type 0
 IfIn day e = isTaken e.standing ≡ true → due day e.item ≡ true
 
 in-due : (day : ℕ) (es : List Entry) → DueAt day (map spot es) → Each (IfIn day) es
 in-due day [] d = tt
-in-due day (e ∷ rest) d = ((λ t. d .0 (simp t)), in-due day rest (d .1))
+in-due day (e ∷ rest) d = ((λ t. sym (d .0) ∙ simp t), in-due day rest (d .1))
+
+-- what is due is in or left, and nothing else is
+pub selection-spots : (book : Ledger) → DueAt book.day.number (map spot (selection book))
+unfolding entries
+selection-spots book = subst (DueAt book.day.number) (sym (selection-selected book .same)) (entries-due book.day.number book.waiting)
 
 pub selection-due : (book : Ledger) → Each (IfIn book.day.number) (selection book)
-unfolding entries
-selection-due book =
-    in-due book.day.number (selection book)
-    (subst (DueAt book.day.number) (sym (selection-selected book .same)) (entries-due book.day.number book.waiting))
+selection-due book = in-due book.day.number (selection book) (selection-spots book)
 
 -- ---- the marks of a selection, put onto the items and read from them
 
@@ -142,3 +145,30 @@ fixing-by all (e ∷ rest) s a = go e.standing refl (fixing-by all rest s (a .1)
 pub fixing-fixed : (es : List Entry) → Alone es → fixed (fixing es) ≡ map (withSent true) (tradesIn es)
 unfolding fixing
 fixing-fixed es a = fixing-by es es (sent-alone es a) a
+
+-- ---- what a trade takes and brings does not ask whether it is fixed
+
+pub takes-sent : (p : Place) (b : Bool) (i : Item) → takes p (withSent b i) ≡ takes p i
+unfolding takes seller withSent
+takes-sent (account a) b i = refl
+takes-sent (type91 s) b i = refl
+takes-sent (type90 s) b i = refl
+takes-sent (cashOf m c) b i = refl
+takes-sent (member0 c) b i = refl
+
+pub brings-sent : (p : Place) (b : Bool) (i : Item) → brings p (withSent b i) ≡ brings p i
+unfolding brings buyer withSent
+brings-sent (account a) b i = refl
+brings-sent (type91 s) b i = refl
+brings-sent (type90 s) b i = refl
+brings-sent (cashOf m c) b i = refl
+brings-sent (member0 c) b i = refl
+
+pub missing-sent : (h : Holdings) (b : Bool) (ts : List Item) (p : Place) → missing h (map (withSent b) ts) p ≡ missing h ts p
+unfolding missing
+missing-sent h b ts p =
+    omega (
+      arith,
+      total-map (takes p) (takes p) (withSent b) (takes-sent p b) ts,
+      total-map (brings p) (brings p) (withSent b) (brings-sent p b) ts,
+    )

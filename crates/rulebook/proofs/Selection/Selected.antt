@@ -13,7 +13,7 @@ use Rattle.rulebook.specs.Ledger.{Ledger, Holdings}
 use Rattle.rulebook.specs.Selection.{due}
 use Rattle.rulebook.specs.Selection.{Standing, Entry, notDue, taken, left, isLeft, tradesIn, countLeft, dropping, passes}
 use Rattle.rulebook.specs.Selection.{selectionIn, fullSelection, entryBy, entries, selection, tradesLeft, tradesOf, LeftTrade, withLacks}
-use Rattle.rulebook.specs.Selected.{IfLeft, WhereLeft, Moment, Spot, spot, Selected, NothingFits, EnoughTurns, NoneLeft}
+use Rattle.rulebook.specs.Selected.{IfLeft, WhereLeft, Moment, Spot, spot, Selected, NothingFits, EnoughTurns, PassesEnd, NoneLeft}
 use Rattle.rulebook.proofs.Selection.Dropping.{dropping-covered, dropping-spots, dropping-lacked, nothing-claimed, rounds-enough}
 use Rattle.rulebook.proofs.Selection.Passes.{pass-none, passes-refuse, passes-covered, passes-spots}
 use Rattle.rulebook.proofs.Selection.Passes.{passes-lacked, passes-enough, refused-unfit}
@@ -127,5 +127,24 @@ entries-none-left isIn others (i ∷ rest) = (go (isIn i), entries-none-left isI
     go false = refl
 
 pub selection-selected : (book : Ledger) → Selected book.holdings (entries book) (selection book)
-unfolding selection entries
-selection-selected book = selected book.holdings (entries book) (entries-none-left (due book.day.number) (λ item. []) book.waiting) 0
+unfolding selection fullSelection entries
+selection-selected book =
+    selected book.holdings (entries book) (entries-none-left (due book.day.number) (λ item. []) book.waiting) (length (entries book))
+
+pub selection-unfit : (book : Ledger) → NothingFits book.holdings (selection book)
+unfolding selection
+selection-unfit book = nothing-fits book.holdings (entries book)
+
+pub passes-end : (book : Ledger) → PassesEnd book
+unfolding selection fullSelection selectionIn entries
+passes-end book =
+    let h = book.holdings in
+    let d : List Entry = dropping h (entries book) in
+    let most = left-most d in
+    let long = dropping-length h (entries book) in
+    let size = length-map book.waiting (entryBy (due book.day.number) (λ item. [])) in
+    record {
+      few = omega (arith, most, long, size);
+      enough = λ n l. passes-enough h n (length (entries book)) d l (omega (arith, most, long));
+      ended = selection-unfit book .ended;
+    }
