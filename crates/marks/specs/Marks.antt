@@ -1,7 +1,8 @@
 -- Marks on a waiting list's items: a mask of 64 bits, the first item's the most significant.
-use Prim.Native.Nat.{ℕ, _-_, _*_, _/_, _%_, _^_}
-use mathlib.Core.Bool.{Bool, false, not}
+use Prim.Native.Nat.{ℕ, _-_, _*_, _/_, _%_, _^_, _<_}
+use mathlib.Core.Bool.{Bool, true, false, not}
 use mathlib.Core.List.{List, _++_, map}
+use mathlib.Core.Path.{_≡_}
 use lib.ListN.{length, getD, drop}
 use Rattle.plain.specs.Lists.{if_then_else_, _is_, total, keep, sumBelow}
 use Rattle.rulebook.specs.Cycle.{legs}
@@ -47,6 +48,12 @@ itemIn waiting k = getD waiting k noItem
 -- the item at k has a mark
 unfoldable pub isOn : (marks k : ℕ) → Bool
 isOn marks k = (marks / 2 ^ (63 - k) % 2) is 1
+
+-- the item at i is the first that has a mark
+pub record First (marks i : ℕ) : Type 0 where
+  pub inside : i < 64
+  pub on : isOn marks i ≡ true
+  pub none-before : (k : ℕ) → k < i → isOn marks k ≡ false
 
 -- the waiting list with its marks
 unfoldable pub markedOf : (marks : ℕ) → List Item → List Marked

@@ -3,7 +3,7 @@ ghost use mathlib.Core.Path.{_≡_};
 ghost use mathlib.Core.Bool.{not};
 ghost use Prim.Native.Nat.{ℕ, _<_, _≤_};
 ghost use Rattle.plain.specs.Lists.{if_then_else_, _is_};
-ghost use Rattle.marks.specs.Marks.{isOn, countOn};
+ghost use Rattle.marks.specs.Marks.{isOn, First, countOn};
 
 // One word.
 pub type Marks = u64;
@@ -22,6 +22,21 @@ pub fn flip(marks: Marks, i: usize) -> Marks
     ensures { λ r. ⌜ ((k : ℕ) → k < 64 → isOn r k ≡ (if k is i then not (isOn marks i) else isOn marks k)) ⌝ }
 {
     marks ^ 1 << (63 - i)
+}
+
+// Marks on the items that have one in just one of the two.
+pub fn differing(one: Marks, other: Marks) -> Marks
+    ensures { λ r. ⌜ ((k : ℕ) → k < 64 → isOn r k ≡ (if isOn other k then not (isOn one k) else isOn one k)) ⌝ }
+{
+    one ^ other
+}
+
+// The first item that has a mark.
+pub fn first(marks: Marks) -> usize
+    requires { ⌜ 0 < marks ⌝ }
+    ensures { λ r. ⌜ First marks r ⌝ }
+{
+    u64::leading_zeros(marks) as usize
 }
 
 // How many of the first `n` have a mark.
