@@ -1,14 +1,14 @@
--- The figures after one leg is added or taken away: a store changes those of all legs that debit the same. Assumes nothing.
+-- The figures after one leg is added or taken away: a store changes those of all legs that debit the same. Whether it can be added. Assumes nothing.
 use Prim.Native.Nat.{ℕ, _+_, _≤_, _<_}
 use native.Mathlib.Omega.{arith}
-use mathlib.Core.Bool.{Bool, true, false}
+use mathlib.Core.Bool.{Bool, true, false, not}
 use mathlib.Core.List.{List}
 use mathlib.Core.Path.{_≡_, refl, sym, ap, _∙_}
-use borrow.Author.Tests.{eq-eqb, eqb-true}
+use borrow.Author.Tests.{eq-eqb, eqb-true, lt-ltb, le-ltb, ltb-false}
 use lib.ListN.{length, set, length-set}
 use lib.Seq.{getD-set-same}
 use Rattle.plain.specs.Lists.{if_then_else_, _is_, _below_}
-use Rattle.legs.specs.Figures.{OWES, fromAt, toAt, numberAt, hasAt, owesAt, brings, takes, Figures, shortAt}
+use Rattle.legs.specs.Figures.{OWES, fromAt, toAt, numberAt, hasAt, owesAt, brings, takes, Figures, shortAt, shortWith}
 use Rattle.legs.specs.Slots.{Slots, viewed}
 use Rattle.legs.proofs.Slotted as slotted
 use Rattle.legs.proofs.Slotted.{owes-there, has-there, changed-none, changed-both, has-less, short-there, slot-last, figures-as}
@@ -63,6 +63,44 @@ module _ {n : ℕ} {legs slots figures : List ℕ} {j : ℕ} (p : Spot n legs sl
         let there = has-there n legs slots figures (p .size) (p .long) (p .slots-as) j (p .low) to (t .0) (t .1) in
         let h = rw (there, t .1) at (f to (t .0)) in
         rw (has-less n legs slots figures (p .size) (p .long) (p .slots-as) j (p .low) l o) h
+
+  -- ---- leg j held against what it debits
+
+  inside : j < 64
+  inside = omega (arith, p .low, p .size)
+
+  -- the figures before and with it, read at the slot
+  short-before : shortAt (viewed slots figures) j ≡ (hasAt figures from below owesAt figures from)
+  short-before = rw (slotted.has-viewed slots figures j inside, slotted.owes-viewed slots figures j inside)
+
+  short-with : shortWith legs (viewed slots figures) j ≡ ((hasAt figures from + brings legs j j) below (owesAt figures from + numberAt legs j))
+  short-with = rw (slotted.has-viewed slots figures j inside, slotted.owes-viewed slots figures j inside, eq-eqb (fromAt legs j) (fromAt legs j) refl)
+
+  -- there is enough
+  pub covered : owesAt figures from + numberAt legs j ≤ hasAt figures from → true ≡ not (shortWith legs (viewed slots figures) j)
+  covered e = rw (short-with, le-ltb (hasAt figures from + brings legs j j) (owesAt figures from + numberAt legs j) (omega (arith, e)))
+
+  -- there is not: then leg j must bring back what it takes
+  pub brings-back :
+      hasAt figures from < owesAt figures from + numberAt legs j → shortAt (viewed slots figures) j ≡ false
+      → (toAt legs j is fromAt legs j) ≡ not (shortWith legs (viewed slots figures) j)
+  brings-back l e = rw short-with (go (toAt legs j is fromAt legs j))
+    where
+      has : ℕ
+      has = hasAt figures from
+
+      owes : ℕ
+      owes = owesAt figures from
+
+      number : ℕ
+      number = numberAt legs j
+
+      before : owes ≤ has
+      before = ltb-false has owes (sym short-before ∙ e)
+
+      go : (t : Bool) → t ≡ not ((has + (if t then number else 0)) below (owes + number))
+      go true = rw (le-ltb (has + number) (owes + number) (omega (arith, before)))
+      go false = rw (lt-ltb (has + 0) (owes + number) (omega (arith, l)))
 
   -- ---- a change, by adding or by taking away
 

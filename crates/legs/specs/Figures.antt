@@ -71,6 +71,10 @@ pub record Figures (n : ℕ) (has owes : ℕ → ℕ) (figures : List ℕ) : Typ
 abbrev pub shortAt : List ℕ → ℕ → Bool
 shortAt figures k = hasAt figures k below owesAt figures k
 
+-- what leg j debits is short with leg j added
+abbrev pub shortWith : (legs figures : List ℕ) → ℕ → Bool
+shortWith legs figures j = (hasAt figures j + brings legs j j) below (owesAt figures j + takes legs j j)
+
 -- ---- what a change of the figures needs
 
 pub record Lent (figures legs : List ℕ) (n : ℕ) : Type 0 where

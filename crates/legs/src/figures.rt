@@ -1,11 +1,13 @@
 // The figures of what each leg debits, an account or a member's cash: what is there with what the marked trades bring, and what these take.
+ghost use mathlib.Core.Bool.{false, not};
 ghost use mathlib.Core.Path.{_≡_};
 ghost use Prim.Native.Nat.{_+_, _≤_, _<_};
 ghost use lib.ListN.{length, set};
 ghost use Rattle.marks.specs.Marks.{isOn};
-ghost use Rattle.legs.specs.Figures.{OWES, hasAt, Lent, Room, Cover, RoomAll, shortAt};
+ghost use Rattle.legs.specs.Figures.{OWES, hasAt, Lent, Room, Cover, RoomAll, shortAt, shortWith};
 ghost use Rattle.legs.specs.Slots.{Slots, Low, viewed, WithLeg, WithoutLeg, WithMarked, FineFrom, LastShort};
 use crate::NUMBER;
+use crate::TO;
 use marks::Marks;
 use rulebook::Cents;
 use rulebook::Shares;
@@ -42,7 +44,7 @@ pub(crate) fn start_cash(figures: &mut [u64], i: usize, amount: Cents)
 }
 
 // The figures with the leg of the trade at `j`.
-fn add_trade(figures: &mut [u64], legs: &[u64], slots: &[u64], j: usize, n: usize)
+pub fn add_trade(figures: &mut [u64], legs: &[u64], slots: &[u64], j: usize, n: usize)
     requires { ⌜ Lent (now figures) (now legs) n × Slots n (now legs) (now slots) × (j < n) × Room n (now legs) j (viewed (now slots) (now figures)) ⌝ }
     ensures { λ u. ⌜ WithLeg n (now (legs .entry)) (now (slots .entry)) j (now (figures .entry)) (now (figures .exit)) ⌝ }
     ensures { λ u. ⌜ length (now (figures .exit)) ≡ 128 ⌝ }
@@ -57,6 +59,23 @@ fn add_trade(figures: &mut [u64], legs: &[u64], slots: &[u64], j: usize, n: usiz
     }
     let has = figures[to] + number;
     figures[to] = has;
+}
+
+// What the leg at `j` debits is not short with it, where it is not short without it.
+pub fn fits(figures: &[u64], legs: &[u64], slots: &[u64], j: usize, n: usize) -> bool
+    requires { ⌜
+        Lent (now figures) (now legs) n × Slots n (now legs) (now slots) × (j < n) × Room n (now legs) j (viewed (now slots) (now figures))
+        × (shortAt (viewed (now slots) (now figures)) j ≡ false)
+        ⌝ }
+    ensures { λ r. ⌜ r ≡ not (shortWith (now (legs .entry)) (viewed (now (slots .entry)) (now (figures .entry))) j) ⌝ }
+{
+    let from = slots[j] as usize;
+    let owes = figures[from + OWES] + legs[j + NUMBER];
+    if owes <= figures[from] {
+        return true;
+    }
+    // it brings back what it takes where it credits what it debits
+    legs[j + TO] == legs[j]
 }
 
 // The figures without the leg of the trade at `j`. From the place that is answered on, no leg debits what is short by this.
