@@ -1,11 +1,12 @@
 -- The waiting list with its marks, by places: sums over it, and how many are marked. Assumes nothing.
 use Prim.Native.Nat.{ℕ, zero, suc, _+_, _*_, _^_, _≤_, _<_}
+use native.Mathlib.Decide.{ℕ-discrete}
 use native.Mathlib.Omega.{arith}
-use mathlib.Core.Bool.{Bool, true, false, _&&_}
+use mathlib.Core.Bool.{Bool, true, false, _&&_, false≢true}
 use mathlib.Core.List.{List, [], _∷_}
 use mathlib.Core.Logic.{_≢_}
-use mathlib.Core.Path.{_≡_, refl, ap, _∙_}
-use lib.ListN.{length, length-map}
+use mathlib.Core.Path.{_≡_, refl, sym, ap, _∙_}
+use lib.ListN.{length, length-map, getD}
 use lib.Seq.{ext-getD}
 use Rattle.plain.specs.Lists.{if_then_else_, total, some, keep, sumBelow}
 use Rattle.plain.proofs.Sums.{sum-change}
@@ -29,13 +30,16 @@ abbrev pub marking : (ℕ → Bool) → (ℕ → Item) → ℕ → List Marked
 marking on item n = listFrom (λ k. (on k, item k)) 0 n
 
 -- a list by its places
-pub listed : (waiting : List Item) → listFrom (itemIn waiting) 0 (length waiting) ≡ waiting
-listed waiting =
-    ext-getD noItem (listFrom (itemIn waiting) 0 (length waiting)) waiting (length-from (itemIn waiting) 0 (length waiting))
+pub by-places : {A : Type 0} (d : A) (xs : List A) → listFrom (λ k. getD xs k d) 0 (length xs) ≡ xs
+by-places d xs =
+    ext-getD d (listFrom (λ k. getD xs k d) 0 (length xs)) xs (length-from (λ k. getD xs k d) 0 (length xs))
     (λ k l.
-    let h : k < length waiting = rw (length-from (itemIn waiting) 0 (length waiting)) at l in
+    let h : k < length xs = rw (length-from (λ k. getD xs k d) 0 (length xs)) at l in
     let z : 0 + k ≡ k = omega arith in
-    from-get (itemIn waiting) 0 (length waiting) k noItem h ∙ ap (itemIn waiting) z)
+    from-get (λ k. getD xs k d) 0 (length xs) k d h ∙ ap (λ (i : ℕ). getD xs i d) z)
+
+pub listed : (waiting : List Item) → listFrom (itemIn waiting) 0 (length waiting) ≡ waiting
+listed waiting = by-places noItem waiting
 
 module _ (item : ℕ → Item) (n : ℕ) where
   pub marking-same : (on off : ℕ → Bool) → ((k : ℕ) → k < n → on k ≡ off k) → marking on item n ≡ marking off item n
@@ -107,3 +111,41 @@ count-most on (suc n) = omega (arith, one (on n), count-most on n)
     one : (x : Bool) → (if x then 1 else 0) ≤ 1
     one true = omega arith
     one false = omega arith
+
+-- a mark less is one less in the count
+pub count-less :
+    (on off : ℕ → Bool) (n j : ℕ) → j < n → on j ≡ true → off j ≡ false → ((k : ℕ) → k < n → k ≢ j → off k ≡ on k) → countOn off n < countOn on n
+count-less on off n j l now gone e =
+    let one : Bool → ℕ = λ x. if x then 1 else 0 in
+    let s = sum-change n j (λ k. one (on k)) (λ k. one (off k)) l (λ k m d. ap one (e k m d)) in
+    let t = rw (gone, now) at s in
+    omega (arith, t)
+
+-- marks of which none is gone count no less
+pub count-grows : (on more : ℕ → Bool) (n : ℕ) → ((k : ℕ) → k < n → on k ≡ true → more k ≡ true) → countOn on n ≤ countOn more n
+unfolding sumBelow
+count-grows on more zero e = omega arith
+count-grows on more (suc n) e = omega (arith, count-grows on more n (λ k h. e k (omega arith)), one (on n) (more n) (e n (omega arith)))
+  where
+    one : (x y : Bool) → (x ≡ true → y ≡ true) → (if x then 1 else 0) ≤ (if y then 1 else 0)
+    one true true f = omega arith
+    one true false f = absurd (false≢true (f refl))
+    one false y f = omega arith
+
+-- and where they count no more, they are the same
+pub count-same :
+    (on more : ℕ → Bool) (n : ℕ) → ((k : ℕ) → k < n → on k ≡ true → more k ≡ true) → countOn more n ≤ countOn on n → (k : ℕ) → k < n → more k ≡ on k
+unfolding sumBelow
+count-same on more zero e l k h = absurd (omega arith)
+count-same on more (suc n) e l k h =
+    go (on n) refl (more n) refl (count-same on more n (λ i m. e i (omega arith))) (count-grows on more n (λ i m. e i (omega arith))) (ℕ-discrete k n)
+  where
+    go :
+        (x : Bool) → on n ≡ x → (y : Bool) → more n ≡ y → (countOn more n ≤ countOn on n → (i : ℕ) → i < n → more i ≡ on i)
+        → countOn on n ≤ countOn more n → Dec (k ≡ n) → more k ≡ on k
+    go true p false q ih g d = absurd (false≢true (sym q ∙ e n (omega arith) p))
+    go false p true q ih g d = absurd (omega (arith, rw (p, q) at l, g))
+    go true p true q ih g (yes s) = ap more s ∙ q ∙ sym (ap on s ∙ p)
+    go true p true q ih g (no d) = ih (omega (arith, rw (p, q) at l)) k (omega (arith, h, d))
+    go false p false q ih g (yes s) = ap more s ∙ q ∙ sym (ap on s ∙ p)
+    go false p false q ih g (no d) = ih (omega (arith, rw (p, q) at l)) k (omega (arith, h, d))

@@ -5,51 +5,30 @@ use mathlib.Core.Bool.{Bool, true, false, not, _&&_, _||_, false≢true}
 use mathlib.Core.List.{List}
 use mathlib.Core.Logic.{_≢_}
 use mathlib.Core.Path.{_≡_, refl, sym, ap, subst, _∙_}
-use borrow.Author.Tests.{eq-eqb, ne-eqb, eqb-true, eqb-false, ltb-true, ltb-false, le-ltb}
+use borrow.Author.Tests.{eq-eqb, ne-eqb, eqb-true, ltb-true, ltb-false, le-ltb}
 use lib.Dec.{ltb}
 use lib.ListN.{length, getD, set}
-use Rattle.plain.specs.Lists.{if_then_else_, _is_, _isNot_, _below_}
+use Rattle.plain.specs.Lists.{if_then_else_, _is_, _below_}
 use Rattle.plain.proofs.Sums.{sum-change}
 use Rattle.plain.proofs.Tests.{both}
-use Rattle.rulebook.specs.Ledger.{Ledger, sameAccount}
-use Rattle.rulebook.specs.Premise.{CashFits}
-use Rattle.rulebook.specs.Movements.{account, cashOf}
-use Rattle.rulebook.specs.Shortfall.{seller, buyer, missing, debitsShort}
-use Rattle.rulebook.specs.Shortfall as trades
+use Rattle.rulebook.specs.Ledger.{Ledger}
+use Rattle.rulebook.specs.Shortfall.{debitsShort, delivers, pays}
 use Rattle.rulebook.specs.declared.Item.{Item}
 use Rattle.words.specs.declared.Found.the-variants.{At, Nothing}
 use Rattle.words.proofs.Places.{from-get, from-set, length-from}
-use Rattle.book.specs.Keys.{keyOf}
-use Rattle.book.proofs.Keys.{key-test, key-once}
-use Rattle.marks.specs.Marks.{Marked, over, withMark, itemIn, isOn, markedOf, countOn}
-use Rattle.legs.specs.Figures.{fromAt, toAt, hasAt, owesAt, brings, takes, bringsAll, takesAll, Figures, Cover, RoomAll, shortAt, lastShort, cashKey}
-use Rattle.legs.specs.Filled.{ShareLegs, ShareStart, CashLegs, CashStart, payerOf}
-use Rattle.legs.specs.Slots.{Slots, viewed}
+use Rattle.marks.specs.Marks.{Marked, withMark, itemIn, isOn, markedOf, countOn}
+use Rattle.marks.proofs.Marking.{marking, count-most}
+use Rattle.legs.specs.Figures.{fromAt, toAt, hasAt, owesAt, brings, takes, Figures, Cover, shortAt, lastShort}
+use Rattle.legs.specs.Filled.{ShareLegs, CashLegs}
+use Rattle.legs.specs.Slots.{viewed}
 use Rattle.legs.specs.Ready.{Ready}
 use Rattle.legs.proofs.Searches.{Last, last-at, last-none, last-same}
-use Rattle.legs.proofs.Slotted.{has-viewed, owes-viewed, viewed-long, slot-leg, slot-own}
-use Rattle.marks.proofs.Marking.{if-below, marking, over-marked, count-most}
 use Rattle.netting.specs.Rounds.{unmarkLast, markRounds}
-use Rattle.netting.proofs.Netting.{Are, Small, Lined, lined-room, lined-start, lined-cover, lined-less}
+use Rattle.netting.specs.Figured.{FiguresOf, Figured}
+use Rattle.netting.specs.Selected.{Within}
+use Rattle.netting.proofs.Netting.{short-missing, cover-one, less-figures}
+use Rattle.netting.proofs.Columns.{share-column, cash-column}
 use Rattle.netting.proofs.Drops.{noMark, at, passes, none-at, some-at, drop-at, rounds-stop, rounds-step}
-
--- ---- keys tell members' cash apart
-
-cash-test : (m c p d : ℕ) → CashFits m c → CashFits p d → (cashKey m c is cashKey p d) ≡ (m is p && c is d)
-cash-test m c p d f g = go (m is p) (c is d) refl refl
-  where
-    go : (x y : Bool) → (m is p) ≡ x → (c is d) ≡ y → (cashKey m c is cashKey p d) ≡ (x && y)
-    go true true e h = eq-eqb (cashKey m c) (cashKey p d) (omega (arith, eqb-true m p e, eqb-true c d h))
-    go true false e h = ne-eqb (cashKey m c) (cashKey p d) (λ s. eqb-false c d h (omega (arith, s, eqb-true m p e)))
-    go false y e h = ne-eqb (cashKey m c) (cashKey p d) (λ s. eqb-false m p e (omega (arith, s, f, g)))
-
--- a test of figures is that of what is missing
-missing-test : (has owes : ℕ) → (has below owes) ≡ ((owes - has) isNot 0)
-missing-test has owes = go (has below owes) refl
-  where
-    go : (b : Bool) → (has below owes) ≡ b → b ≡ ((owes - has) isNot 0)
-    go true e = sym (ap not (ne-eqb (owes - has) 0 (λ z. omega (arith, z, ltb-true has owes e))))
-    go false e = sym (ap not (eq-eqb (owes - has) 0 (omega (arith, ltb-false has owes e))))
 
 -- what was not short stays so where a leg is taken away, but for what that leg credits
 still :
@@ -78,119 +57,15 @@ module _ (b : Ledger) (r : Ready b) where
   abbrev n : ℕ
   n = length b.waiting
 
-  -- what an item brings to what the item at k debits, and what it takes from it
-  abbrev shareInto : ℕ → Item → ℕ
-  shareInto k t = trades.brings (account (seller (item k))) t
-
-  abbrev shareOut : ℕ → Item → ℕ
-  shareOut k t = trades.takes (account (seller (item k))) t
-
-  abbrev shareHave : ℕ → ℕ
-  shareHave k = b.holdings.balance (seller (item k))
-
-  abbrev cashInto : ℕ → Item → ℕ
-  cashInto k t = trades.brings (cashOf (item k .credited .member) (item k .currency)) t
-
-  abbrev cashOut : ℕ → Item → ℕ
-  cashOut k t = trades.takes (cashOf (item k .credited .member) (item k .currency)) t
-
-  abbrev cashHave : ℕ → ℕ
-  cashHave k = b.holdings.cash (item k .credited .member) (item k .currency)
-
-  share-are : (legs : List ℕ) → ShareLegs b.waiting legs → Are item n shareInto shareOut legs
-  unfolding trades.brings trades.takes
-  share-are legs l = record {
-    brings-as = λ j k h g.
-        let test = key-test (buyer (item j)) (seller (item k)) (r .bookable j h .buys) (r .bookable k g .sells) in
-        rw (l .to-as j h, l .from-as k g, l .number-as j h, test);
-    takes-as = λ j k h g.
-        let test = key-test (seller (item j)) (seller (item k)) (r .bookable j h .sells) (r .bookable k g .sells) in
-        rw (l .from-as j h, l .from-as k g, l .number-as j h, test);
-  }
-
-  -- a member's cash and what the item at k debits
-  cash-key-test :
-      (member j k : ℕ) → CashFits member (item j .currency) → CashFits (item k .credited .member) (item k .currency)
-      → (cashKey member (item j .currency) is payerOf (item k)) ≡ (member is item k .credited .member && item j .currency is item k .currency)
-  cash-key-test member j k f g = cash-test member (item j .currency) (item k .credited .member) (item k .currency) f g
-
-  cash-are : (legs : List ℕ) → CashLegs b.waiting legs → Are item n cashInto cashOut legs
-  unfolding trades.brings trades.takes
-  cash-are legs l = record {
-    brings-as = λ j k h g.
-        let test = cash-key-test (item j .debited .member) j k (r .bookable j h .paid) (r .bookable k g .pays) in
-        rw (l .to-as j h, l .from-as k g, l .number-as j h, test);
-    takes-as = λ j k h g.
-        let test = cash-key-test (item j .credited .member) j k (r .bookable j h .pays) (r .bookable k g .pays) in
-        rw (l .from-as j h, l .from-as k g, l .number-as j h, test);
-  }
-
-  share-small : (legs : List ℕ) → Small item n shareInto shareOut legs
-  unfolding trades.brings trades.takes
-  share-small legs = record {
-    into-small = λ j k h g. if-below (sameAccount (buyer (item j)) (seller (item k))) _ (r .bookable j h .quantity);
-    out-small = λ j k h g. if-below (sameAccount (seller (item j)) (seller (item k))) _ (r .bookable j h .quantity);
-  }
-
-  cash-small : (legs : List ℕ) → Small item n cashInto cashOut legs
-  unfolding trades.brings trades.takes
-  cash-small legs = record {
-    into-small = λ j k h g. if-below (item j .debited .member is item k .credited .member && item j .currency is item k .currency) _ (r .bookable j h .amount);
-    out-small = λ j k h g.
-        if-below (item j .credited .member is item k .credited .member && item j .currency is item k .currency) _ (r .bookable j h .amount);
-  }
-
-  -- the marked legs can be added
-  pub share-room : (marks : ℕ) (legs figures : List ℕ) → ShareLegs b.waiting legs → ShareStart b figures → RoomAll n (isOn marks) legs figures
-  share-room marks legs figures l f =
-      lined-room item n shareInto shareOut legs (share-are legs l) (isOn marks) shareHave figures f (r .size) (λ k h. r .balances _) (share-small legs)
-
-  pub cash-room : (marks : ℕ) (legs figures : List ℕ) → CashLegs b.waiting legs → CashStart b figures → RoomAll n (isOn marks) legs figures
-  cash-room marks legs figures l f =
-      lined-room item n cashInto cashOut legs (cash-are legs l) (isOn marks) cashHave figures f (r .size) (λ k h. r .amounts _ _) (cash-small legs)
-
-  -- the figures before any leg is added, read through slots
-  abbrev near : (legs slots : List ℕ) → Slots n legs slots → (k : ℕ) → k < n → (hasAt slots k < n) × (fromAt legs (hasAt slots k) ≡ fromAt legs k)
-  near legs slots s k h = let e = s .has-as k h in rw e (slot-leg legs n (fromAt legs k) (slot-own legs n (r .size) k h))
-
-  pub share-viewed :
-      (legs slots figures : List ℕ) → ShareLegs b.waiting legs → Slots n legs slots → ShareStart b figures → ShareStart b (viewed slots figures)
-  share-viewed legs slots figures l s f = record {
-    long = viewed-long slots figures;
-    has-as = λ k h.
-        let i = near legs slots s k h in
-        let key : keyOf (seller (item (hasAt slots k))) ≡ keyOf (seller (item k)) = sym (l .from-as (hasAt slots k) (i .0)) ∙ i .1 ∙ l .from-as k h in
-        let same = key-once (seller (item (hasAt slots k))) (seller (item k)) (r .bookable (hasAt slots k) (i .0) .sells) (r .bookable k h .sells) key in
-        has-viewed slots figures k (omega (arith, r .size)) ∙ f .has-as (hasAt slots k) (i .0) ∙ ap b.holdings.balance same;
-    owes-as = λ k h. owes-viewed slots figures k (omega (arith, r .size)) ∙ f .owes-as (hasAt slots k) (near legs slots s k h .0);
-  }
-
-  pub cash-viewed : (legs slots figures : List ℕ) → CashLegs b.waiting legs → Slots n legs slots → CashStart b figures → CashStart b (viewed slots figures)
-  cash-viewed legs slots figures l s f = record {
-    long = viewed-long slots figures;
-    has-as = λ k h.
-        let i = near legs slots s k h in
-        let key : payerOf (item (hasAt slots k)) ≡ payerOf (item k) = sym (l .from-as (hasAt slots k) (i .0)) ∙ i .1 ∙ l .from-as k h in
-        let one = r .bookable (hasAt slots k) (i .0) .pays in
-        let two = r .bookable k h .pays in
-        let m : item (hasAt slots k) .credited .member ≡ item k .credited .member =
-        omega (arith, key, one .currency-most, one .currency-least, two .currency-most, two .currency-least)
-        in
-        let c : item (hasAt slots k) .currency ≡ item k .currency = omega (arith, key, m) in
-        has-viewed slots figures k (omega (arith, r .size)) ∙ f .has-as (hasAt slots k) (i .0)
-        ∙ ap (λ (x : ℕ). b.holdings.cash x (item (hasAt slots k) .currency)) m ∙ ap (b.holdings.cash (item k .credited .member)) c;
-    owes-as = λ k h. owes-viewed slots figures k (omega (arith, r .size)) ∙ f .owes-as (hasAt slots k) (near legs slots s k h .0);
-  }
-
-  -- the marks and the figures after some markRounds
+  -- the marks and the figures after some rounds
   pub record Running (due marks : ℕ) (shares cents held funds : List ℕ) : Type 0 where
     pub share-legs : ShareLegs b.waiting shares
     pub cash-legs : CashLegs b.waiting cents
-    pub held-lined : Lined item n shareInto shareOut shares shareHave (isOn marks) held
-    pub funds-lined : Lined item n cashInto cashOut cents cashHave (isOn marks) funds
+    pub held-figures : FiguresOf b marks delivers held
+    pub funds-figures : FiguresOf b marks pays funds
     -- no mark is new
-    pub fewer-on : countOn (isOn marks) n ≤ countOn (isOn due) n
-    -- there are as many markRounds left as marks, or more
+    pub within : Within due marks
+    -- there are as many rounds left as marks, or more
     pub left : ℕ
     pub enough : countOn (isOn marks) n ≤ left
     pub same : markRounds left b.holdings (markedOf marks b.waiting) ≡ markRounds n b.holdings (markedOf due b.waiting)
@@ -201,24 +76,34 @@ module _ (b : Ledger) (r : Ready b) where
   mark-long : (on : ℕ → Bool) → length (marking on item n) ≡ n
   mark-long on = length-from (λ i. (on i, item i)) 0 n
 
-  -- ---- before the first round
+  -- before the first round, and between rounds
 
-  pub starts :
-      (due : ℕ) (shares cents held₀ funds₀ held funds : List ℕ)
-      → ShareLegs b.waiting shares → CashLegs b.waiting cents → ShareStart b held₀ → CashStart b funds₀
-      → Figures n (λ k. hasAt held₀ k + bringsAll n (isOn due) shares k) (λ k. owesAt held₀ k + takesAll n (isOn due) shares k) held
-      → Figures n (λ k. hasAt funds₀ k + bringsAll n (isOn due) cents k) (λ k. owesAt funds₀ k + takesAll n (isOn due) cents k) funds
-      → Running due due shares cents held funds
-  starts due shares cents held₀ funds₀ held funds s c hs fs h f = record {
-    share-legs = s;
-    cash-legs = c;
-    held-lined = lined-start item n shareInto shareOut shares (share-are shares s) (isOn due) shareHave held₀ hs held h;
-    funds-lined = lined-start item n cashInto cashOut cents (cash-are cents c) (isOn due) cashHave funds₀ fs funds f;
-    fewer-on = omega arith;
-    left = n;
-    enough = count-most (isOn due) n;
-    same = refl;
-  }
+  module _ {shares heldAt held₀ cents fundsAt funds₀ : List ℕ} {due : ℕ} (f : Figured b due shares heldAt held₀ cents fundsAt funds₀) where
+    pub starts : Running due due shares cents (viewed heldAt held₀) (viewed fundsAt funds₀)
+    starts = record {
+      share-legs = f .share-legs;
+      cash-legs = f .cash-legs;
+      held-figures = f .held-figures;
+      funds-figures = f .funds-figures;
+      within = λ k l e. e;
+      left = n;
+      enough = count-most (isOn due) n;
+      same = refl;
+    }
+
+    pub figured :
+        (marks : ℕ) (held funds : List ℕ) → length held ≡ 128 → length funds ≡ 128 → Running due marks shares cents (viewed heldAt held) (viewed fundsAt funds)
+        → Figured b marks shares heldAt held cents fundsAt funds
+    figured marks held funds p q w = record {
+      share-legs = f .share-legs;
+      share-slots = f .share-slots;
+      held-long = p;
+      held-figures = w .held-figures;
+      cash-legs = f .cash-legs;
+      cash-slots = f .cash-slots;
+      funds-long = q;
+      funds-figures = w .funds-figures;
+    }
 
   module _ {due marks : ℕ} {shares cents held funds : List ℕ} (w : Running due marks shares cents held funds) where
     abbrev ms : List Marked
@@ -229,20 +114,12 @@ module _ (b : Ledger) (r : Ready b) where
     code k = isOn marks k && (shortAt held k || shortAt funds k)
 
     tested : (k : ℕ) → k < n → code k ≡ at (debitsShort b.holdings (withMark ms)) ms k
-    unfolding debitsShort missing
+    unfolding debitsShort markedOf
     tested k l =
         rw (
           mark-at (isOn marks) k l,
-          w .held-lined .has-as k l,
-          w .held-lined .owes-as k l,
-          w .funds-lined .has-as k l,
-          w .funds-lined .owes-as k l,
-          missing-test (shareHave k + over (shareInto k) ms) (over (shareOut k) ms),
-          missing-test (cashHave k + over (cashInto k) ms) (over (cashOut k) ms),
-          over-marked (shareInto k) ms,
-          over-marked (shareOut k) ms,
-          over-marked (cashInto k) ms,
-          over-marked (cashOut k) ms,
+          short-missing b delivers shares (share-column b r shares (w .share-legs)) marks held (w .held-figures) k l,
+          short-missing b pays cents (cash-column b r cents (w .cash-legs)) marks funds (w .funds-figures) k l,
         )
 
     -- ---- no one is short
@@ -267,12 +144,10 @@ module _ (b : Ledger) (r : Ready b) where
       marked = both (isOn marks j) _ (last-at code n j found .passed) .0
 
       pub share-cover : Cover n shares j held
-      share-cover =
-          lined-cover item n shareInto shareOut shares (share-are shares (w .share-legs)) (isOn marks) shareHave held (w .held-lined) j inside marked
+      share-cover = cover-one b delivers shares (share-column b r shares (w .share-legs)) marks held (w .held-figures) j inside marked
 
       pub cash-cover : Cover n cents j funds
-      cash-cover =
-          lined-cover item n cashInto cashOut cents (cash-are cents (w .cash-legs)) (isOn marks) cashHave funds (w .funds-lined) j inside marked
+      cash-cover = cover-one b pays cents (cash-column b r cents (w .cash-legs)) marks funds (w .funds-figures) j inside marked
 
       module _ (now : ℕ) (flips : (k : ℕ) → k < 64 → isOn now k ≡ (if k is j then not (isOn marks j) else isOn marks k)) where
         gone : isOn now j ≡ false
@@ -280,6 +155,13 @@ module _ (b : Ledger) (r : Ready b) where
 
         others : (k : ℕ) → k < n → k ≢ j → isOn marks k ≡ isOn now k
         others k l d = sym (flips k (omega (arith, r .size)) ∙ rw (ne-eqb k j d))
+
+        was-on : (k : ℕ) → k < 64 → isOn now k ≡ true → isOn marks k ≡ true
+        was-on k l e = go (k is j) refl
+          where
+            go : (t : Bool) → (k is j) ≡ t → isOn marks k ≡ true
+            go true t = ap (isOn marks) (eqb-true k j t) ∙ marked
+            go false t = sym (flips k l ∙ rw t) ∙ e
 
         pub fewer : countOn (isOn now) n < countOn (isOn marks) n
         fewer =
@@ -340,13 +222,11 @@ module _ (b : Ledger) (r : Ready b) where
         runs-on held′ funds′ h f = record {
           share-legs = w .share-legs;
           cash-legs = w .cash-legs;
-          held-lined =
-              lined-less item n shareInto shareOut shares (share-are shares (w .share-legs)) (isOn marks) shareHave held (w .held-lined) j inside marked
-              (isOn now) gone others held′ h;
-          funds-lined =
-              lined-less item n cashInto cashOut cents (cash-are cents (w .cash-legs)) (isOn marks) cashHave funds (w .funds-lined) j inside marked
-              (isOn now) gone others funds′ f;
-          fewer-on = omega (arith, w .fewer-on, fewer);
+          held-figures =
+              less-figures b delivers shares (share-column b r shares (w .share-legs)) marks held (w .held-figures) j inside marked now gone others held′ h;
+          funds-figures =
+              less-figures b pays cents (cash-column b r cents (w .cash-legs)) marks funds (w .funds-figures) j inside marked now gone others funds′ f;
+          within = λ k l e. w .within k l (was-on k l e);
           left = w .left - 1;
           enough = omega (arith, w .enough, fewer);
           same = next ∙ w .same;

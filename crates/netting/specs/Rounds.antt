@@ -6,12 +6,17 @@ use Rattle.plain.specs.Lists.{if_then_else_, some}
 use Rattle.rulebook.specs.Ledger.{Holdings}
 use Rattle.rulebook.specs.Shortfall.{debitsShort, anyShort}
 use Rattle.rulebook.specs.Selection.{Entry, isTaken}
+use Rattle.rulebook.specs.Selected.{spot}
 use Rattle.rulebook.specs.declared.Item.{Item}
 use Rattle.marks.specs.Marks.{Marked, withMark}
 
 -- an entry by its mark: it is in
 abbrev pub markOf : Entry → Marked
 markOf e = (isTaken e.standing, e.item)
+
+-- and by the mark of what is due: it is in or left
+abbrev pub dueMark : Entry → Marked
+dueMark e = (spot e .isDue, e.item)
 
 -- without the mark of the last marked item that passes a test
 unfoldable pub unmarkLast : (Item → Bool) → List Marked → List Marked

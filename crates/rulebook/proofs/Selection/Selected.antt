@@ -28,7 +28,7 @@ left-most (e ∷ rest) = go e.standing (left-most rest)
     go taken ih = omega arith
     go (left lacked) ih = omega arith
 
-dropping-length : (h : Holdings) (es : List Entry) → length (dropping h es) ≡ length es
+pub dropping-length : (h : Holdings) (es : List Entry) → length (dropping h es) ≡ length es
 dropping-length h es = sym (length-map (dropping h es) spot) ∙ ap length (dropping-spots h es) ∙ length-map es spot
 
 -- ---- each due one is sent or left, once

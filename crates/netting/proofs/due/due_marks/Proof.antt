@@ -63,9 +63,13 @@ returns c =
     let h = c .before in
     let b = ledgerOf (entry h .args .book .now) in
     let day = ap (λ (d : Day). d .number) (h .before .before .day .ensures) in
-    by-test (due (b .day .number)) (b .waiting) (h .loop .marks)
-    (λ k g. h .loop .inv .1 .first k (omega (arith, h .before .items .ensures)) ∙ ap (λ (d : ℕ). due d (itemIn (b .waiting) k)) day)
-    ∙ sym (entries-marked b)
+    record {
+      marked =
+          by-test (due (b .day .number)) (b .waiting) (h .loop .marks)
+          (λ k g. h .loop .inv .1 .first k (omega (arith, h .before .items .ensures, c .loop-test .left)) ∙ ap (λ (d : ℕ). due d (itemIn (b .waiting) k)) day)
+          ∙ sym (entries-marked b);
+      behind = λ k g l. h .loop .inv .1 .rest k (omega (arith, g, h .loop .inv .0, h .before .items .ensures)) l;
+    }
 
 pub due-marks-spec : {M : Type 1} → statement M
 due-marks-spec =
