@@ -50,9 +50,10 @@ enum depository_wrong {
 
 /* Places in the counts of an accepted call. Settled, cancelled, deleted and
  * suspended count sides (a single instruction is one, a pair or an exchange
- * trade two); left counts the trades that a cycle dropped. What a cycle (form
- * 16) sends is settled, with its rows, by the answer that confirms it (form
- * 21 with quantity 1; quantity 2 declines it). */
+ * trade two); left counts the trades that are due and that a cycle does not
+ * fix, since they would not fit. What a cycle (form 16) sends is settled, with
+ * its rows, by the answer that confirms it (form 21 with quantity 1; quantity
+ * 2 declines it). */
 enum depository_count {
     DEPOSITORY_ROWS = 0,
     DEPOSITORY_SETTLED = 1,

@@ -9,7 +9,7 @@ use Rattle.plain.specs.Lists.{if_then_else_, _is_}
 use Rattle.rulebook.specs.Ledger.{Ledger, putDay, putWaiting, cycleSent}
 use Rattle.rulebook.specs.Rows.{rowsBytes}
 use Rattle.rulebook.specs.Waiting.{withSent}
-use Rattle.rulebook.specs.Selection.{Entry, tradesIn, isSent, due as isDue, entries, selection}
+use Rattle.rulebook.specs.Selection.{Entry, isSent, selection}
 use Rattle.rulebook.specs.Cycle.{fixing, leftBy}
 use Rattle.rulebook.specs.Forms.{counts, outcome, cycle}
 use Rattle.rulebook.specs.Premise.{Premise}
@@ -17,17 +17,16 @@ use Rattle.rulebook.specs.Windows.{cycleMinutes, byKind}
 use Rattle.rulebook.specs.declared.Counts.{Counts}
 use Rattle.rulebook.specs.declared.Item.{Item}
 use Rattle.rulebook.specs.declared.Order.{Order}
-use Rattle.rulebook.proofs.Selection.Alone.{Alone, entries-alone, sent-alone}
-use Rattle.rulebook.proofs.Selection.Fixing.{selection-alone, left-and-in}
+use Rattle.rulebook.proofs.Selection.Alone.{sent-alone}
+use Rattle.rulebook.proofs.Selection.Fixing.{selection-alone}
 use Rattle.book.specs.Meaning.{ledgerOf}
 use Rattle.book.specs.Stored.{Means}
 use Rattle.book.specs.Handled.{Handled}
 use Rattle.book.proofs.Parts.{next}
-use Rattle.marks.specs.Marks.{Marked, withMark, itemIn, isOn, markedOf, countOn}
-use Rattle.marks.proofs.Marking.{count-marked}
+use Rattle.marks.specs.Marks.{isOn, markedOf, countOn}
 use Rattle.netting.specs.Rounds.{markOf}
 use Rattle.netting.specs.Selected.{Selected}
-use Rattle.netting.proofs.Entries.{in-marked}
+use Rattle.netting.proofs.Entries.{counted}
 use Rattle.fixing.specs.Borne.{bearing}
 
 -- a day has at most three cycles
@@ -45,23 +44,11 @@ premise-cycles b p = omega (arith, p .day .cycles, few b.day.kind)
 module _ (b : Ledger) (due marks : ℕ) (chosen : Selected b due marks) where
   -- how many are left
 
-  -- the entries that are in are those with a mark
-  on-in :
-      (es : List Entry) → Alone es → (m : ℕ) → markedOf m b.waiting ≡ map markOf es → countOn (isOn m) (length b.waiting) ≡ length (tradesIn es)
-  unfolding markedOf
-  on-in es a m e =
-      sym (count-marked (itemIn b.waiting) (length b.waiting) (isOn m)) ∙ ap (λ (ms : List Marked). length (withMark ms)) e
-      ∙ ap length (sym (in-marked es a))
-
   abbrev left : ℕ
   left = countOn (isOn due) (length b.waiting) - countOn (isOn marks) (length b.waiting)
 
   left-out : left ≡ leftBy b
-  unfolding entries
-  left-out =
-      let fixed = on-in (selection b) (selection-alone b) marks (chosen .fixed-marked) in
-      let all = on-in (entries b) (entries-alone (isDue b.day.number) b.waiting) due (chosen .due-marked) in
-      omega (arith, fixed, all, left-and-in b)
+  left-out = omega (arith, counted b due marks (chosen .due-marked) (chosen .fixed-marked))
 
   -- the marks on the items
   marks-fixed : bearing (markedOf marks b.waiting) ≡ fixing (selection b)

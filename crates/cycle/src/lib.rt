@@ -35,7 +35,7 @@ fn counts_of(selection: Selection, n: usize) -> Counts
     counts
 }
 
-// RULES 6.16: what is due is fixed but for what is dropped. Nothing is booked, and no row is written.
+// RULES 6.16: what is due is fixed but for what does not fit. Nothing is booked, and no row is written.
 pub fn send(book: &mut [u64]) -> Counts
     requires { ⌜ Kept (now book) ⌝ }
     ensures { λ r. ⌜ ((order : Order) (area : List ℕ) → Handled (cycle (ledgerOf (now (book .entry))) order) (now (book .exit)) area area r) ⌝ }

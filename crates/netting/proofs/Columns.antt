@@ -1,12 +1,12 @@
 -- The legs of shares and of cash debit what the rulebook says, and the figures that they start with fit. Assumes nothing.
-use Prim.Native.Nat.{ℕ, _+_, _<_}
+use Prim.Native.Nat.{ℕ, _<_}
 use native.Mathlib.Omega.{arith}
 use mathlib.Core.Bool.{Bool, true, false, _&&_}
 use mathlib.Core.List.{List}
 use mathlib.Core.Path.{_≡_, refl, sym, ap, _∙_}
 use borrow.Author.Tests.{eq-eqb, ne-eqb, eqb-true, eqb-false}
 use lib.ListN.{length}
-use Rattle.plain.specs.Lists.{if_then_else_, _is_}
+use Rattle.plain.specs.Lists.{_is_}
 use Rattle.rulebook.specs.Ledger.{Ledger, sameAccount}
 use Rattle.rulebook.specs.Premise.{CashFits}
 use Rattle.rulebook.specs.Shortfall.{seller, buyer, delivers, pays}
@@ -14,14 +14,15 @@ use Rattle.rulebook.specs.Shortfall as trades
 use Rattle.rulebook.specs.declared.Item.{Item}
 use Rattle.book.specs.Keys.{keyOf}
 use Rattle.book.proofs.Keys.{key-test, key-once}
-use Rattle.marks.specs.Marks.{itemIn}
+use Rattle.marks.specs.Marks.{itemIn, isOn}
 use Rattle.marks.proofs.Marking.{if-below}
-use Rattle.legs.specs.Figures.{fromAt, hasAt, cashKey}
+use Rattle.legs.specs.Figures.{fromAt, hasAt, RoomAll, cashKey}
 use Rattle.legs.specs.Filled.{ShareLegs, ShareStart, CashLegs, CashStart, payerOf}
-use Rattle.legs.specs.Slots.{Slots, viewed}
+use Rattle.legs.specs.Slots.{Slots, viewed, WithMarked}
 use Rattle.legs.specs.Ready.{Ready}
 use Rattle.legs.proofs.Slotted.{has-viewed, owes-viewed, viewed-long, slot-leg, slot-own}
-use Rattle.netting.proofs.Netting.{Column}
+use Rattle.netting.specs.Figured.{FiguresOf}
+use Rattle.netting.proofs.Netting.{Column, room-all, start-figures}
 
 -- ---- keys tell members' cash apart
 
@@ -81,7 +82,7 @@ module _ (b : Ledger) (r : Ready b) where
   abbrev near : (legs slots : List ℕ) → Slots n legs slots → (k : ℕ) → k < n → (hasAt slots k < n) × (fromAt legs (hasAt slots k) ≡ fromAt legs k)
   near legs slots s k h = let e = s .has-as k h in rw e (slot-leg legs n (fromAt legs k) (slot-own legs n (r .size) k h))
 
-  pub share-viewed :
+  share-viewed :
       (legs slots figures : List ℕ) → ShareLegs b.waiting legs → Slots n legs slots → ShareStart b figures → ShareStart b (viewed slots figures)
   share-viewed legs slots figures l s f = record {
     long = viewed-long slots figures;
@@ -93,7 +94,7 @@ module _ (b : Ledger) (r : Ready b) where
     owes-as = λ k h. owes-viewed slots figures k (omega (arith, r .size)) ∙ f .owes-as (hasAt slots k) (near legs slots s k h .0);
   }
 
-  pub cash-viewed : (legs slots figures : List ℕ) → CashLegs b.waiting legs → Slots n legs slots → CashStart b figures → CashStart b (viewed slots figures)
+  cash-viewed : (legs slots figures : List ℕ) → CashLegs b.waiting legs → Slots n legs slots → CashStart b figures → CashStart b (viewed slots figures)
   cash-viewed legs slots figures l s f = record {
     long = viewed-long slots figures;
     has-as = λ k h.
@@ -109,3 +110,23 @@ module _ (b : Ledger) (r : Ready b) where
         ∙ ap (λ (x : ℕ). b.holdings.cash x (item (hasAt slots k) .currency)) m ∙ ap (b.holdings.cash (item k .credited .member)) c;
     owes-as = λ k h. owes-viewed slots figures k (omega (arith, r .size)) ∙ f .owes-as (hasAt slots k) (near legs slots s k h .0);
   }
+
+  -- the figures before any leg is added: all marked ones can be, and then the figures are those with them
+  module _ (due : ℕ) (legs slots before : List ℕ) (s : Slots n legs slots) where
+    pub share-room : ShareLegs b.waiting legs → ShareStart b before → RoomAll n (isOn due) legs (viewed slots before)
+    share-room l f = room-all b delivers legs (share-column legs l) due (viewed slots before) (share-viewed legs slots before l s f)
+
+    pub cash-room : CashLegs b.waiting legs → CashStart b before → RoomAll n (isOn due) legs (viewed slots before)
+    cash-room l f = room-all b pays legs (cash-column legs l) due (viewed slots before) (cash-viewed legs slots before l s f)
+
+    pub share-figures :
+        ShareLegs b.waiting legs → ShareStart b before → (after : List ℕ) → WithMarked n (isOn due) legs slots before after
+        → FiguresOf b due delivers (viewed slots after)
+    share-figures l f after d =
+        start-figures b delivers legs (share-column legs l) due (viewed slots before) (share-viewed legs slots before l s f) (viewed slots after) d
+
+    pub cash-figures :
+        CashLegs b.waiting legs → CashStart b before → (after : List ℕ) → WithMarked n (isOn due) legs slots before after
+        → FiguresOf b due pays (viewed slots after)
+    cash-figures l f after d =
+        start-figures b pays legs (cash-column legs l) due (viewed slots before) (cash-viewed legs slots before l s f) (viewed slots after) d

@@ -113,7 +113,7 @@ module _ (b : Ledger) where
       rounds-same b.holdings (length (entries b)) (entries b) entries-by-one ∙ simp (length-map b.waiting (entryBy isIn (λ item. [])))
 
   -- what is due is in or left, and before the dropping it is in
-  due-spots : (es : List Entry) → map dueMark es ≡ map (λ s. (s.isDue, s.item)) (map spot es)
+  pub due-spots : (es : List Entry) → map dueMark es ≡ map (λ s. (s.isDue, s.item)) (map spot es)
   due-spots [] = refl
   due-spots (e ∷ rest) = ap (λ (l : List Marked). dueMark e ∷ l) (due-spots rest)
 

@@ -9,3 +9,4 @@ pub mod Running
 -- passes: one by places, and what code keeps true while it runs
 pub mod Walk
 pub mod Adding
+pub mod Repeating

@@ -8,7 +8,7 @@ use mathlib.Core.Path.{_≡_, refl, sym, ap, subst, _∙_}
 use borrow.Author.Tests.{eq-eqb, ne-eqb, eqb-true, ltb-true, ltb-false, le-ltb}
 use lib.Dec.{ltb}
 use lib.ListN.{length, getD, set}
-use Rattle.plain.specs.Lists.{if_then_else_, _is_, _below_}
+use Rattle.plain.specs.Lists.{if_then_else_, _is_}
 use Rattle.plain.proofs.Sums.{sum-change}
 use Rattle.plain.proofs.Tests.{both}
 use Rattle.rulebook.specs.Ledger.{Ledger}

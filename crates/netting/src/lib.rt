@@ -40,10 +40,25 @@ fn selected_marks(book: &[u64], due: Marks) -> Marks
     slots::fill(&mut funds_at, &cents, n);
     figures::add_marked(&mut funds, &cents, &funds_at, due, n);
     let kept = rounds::drop_short(
-        book, due, &mut held, &shares, &held_at, &mut funds, &cents, &funds_at,
+        book,
+        due,
+        &mut held,
+        &shares,
+        &held_at,
+        &mut funds,
+        &cents,
+        &funds_at,
     );
     passes::put_back(
-        book, due, kept, &mut held, &shares, &held_at, &mut funds, &cents, &funds_at,
+        book,
+        due,
+        kept,
+        &mut held,
+        &shares,
+        &held_at,
+        &mut funds,
+        &cents,
+        &funds_at,
     )
 }
 

@@ -60,7 +60,15 @@ pub fn put_back(
     let mut marks = kept;
     loop {
         let more = one_pass(
-            book, due, marks, held, shares, held_at, funds, cents, funds_at,
+            book,
+            due,
+            marks,
+            held,
+            shares,
+            held_at,
+            funds,
+            cents,
+            funds_at,
         );
         if more == marks {
             return marks;

@@ -20,13 +20,13 @@ use Rattle.rulebook.specs.Forms.{counts, outcome, moving, silent, openDa
 use Rattle.rulebook.specs.Refusals.{wrongDay, wrongCycle, awaitsAnswer, nothingSent, goesBack, outsideWindow, wrongSecurity, wrongPair, wrongParties, wrongDays, wrongReference, wrongCancel, cancelsSent, wrongRequest, endsTooSoon, tooManyRequests, tooLittle, overCeiling, noSpace, dayTests, orderTests, itemTests, requestTests, roomTests, refusals}
 use Rattle.rulebook.specs.Call.{answerNumber, refused, putMinute, accepted, orderCall, readCall, callOf}
 use Rattle.rulebook.specs.Calls.{resultOf, recordIn, callsOn, bookAfter, acceptedOf, acceptedCalls, sum, sharesOf, lastAsked, leftWith, leftOnPaper, withdrawals}
-use Rattle.rulebook.specs.Desk.{Desk, party, nobody, order, opens, admits, deposits, withdraws, pledges, paysIn, delivers, receives, deliversPounds, receivesPounds, setsRate, runs, sells, manyDelivers, closes, answers, cancels, cycles, dayEnd, asksPaper, endsPaper, send, calls, result, started, full, asked, nextDay, inCustody, withdrawn, dayAfter, custody, waits, cycled, awaiting, meanwhile}
+use Rattle.rulebook.specs.Desk.{Desk, party, nobody, order, opens, admits, deposits, withdraws, pledges, paysIn, delivers, receives, deliversPounds, receivesPounds, setsRate, runs, sells, manyDelivers, closes, answers, cancels, cycles, dayEnd, asksPaper, endsPaper, send, calls, result, started, full, asked, nextDay, inCustody, withdrawn, dayAfter, custody, waits, cycled, fourSold, awaiting, meanwhile}
 
 pub desk : Desk
 unfolding
     party nobody order opens admits deposits withdraws pledges paysIn delivers receives deliversPounds receivesPounds setsRate runs sells manyDelivers
     closes answers cancels cycles dayEnd awaiting meanwhile asksPaper endsPaper send calls result started full asked nextDay inCustody withdrawn
-    dayAfter custody waits cycled number bytes leading field typeTable typeRow isFree alike pledgedOrBlocked isOutside listed become hasPaper isPaper
+    dayAfter custody waits cycled fourSold number bytes leading field typeTable typeRow isFree alike pledgedOrBlocked isOutside listed become hasPaper isPaper
     ends wrongTypes widths places fieldsOf orderOf ceiling used least most noForm unusedNotZero usedOutOfRange fieldsIn readRefusal readOf recordOf
     writeRefusal writtenOf areaWritten fresh putDay putHoldings putWaiting putRate putRequests putRequest requestAccount accountOf sameAccount counted
     putBalance putCash putSecurities putOutside putHeld admitted issuedOf heldOf outsideOf sumBelow cashTotal credit debit credits debits recounted
@@ -67,4 +67,5 @@ desk = record {
   p23 = (refl, refl);
   p24 = refl;
   p25 = (refl, refl);
+  p26 = refl;
 }

@@ -163,6 +163,12 @@ cycled orders =
     let confirmed : Result = result (sent .book) (answers 590 1) in
     (sent.answer, confirmed.answer, map (λ item. item.quantity.0) confirmed.book.waiting)
 
+-- 8 sells 30 to 9; 7, who has 100 shares, sells 60 to 10, 50 to 11 and 30 to 8; then come others
+unfoldable pub fourSold : List Order → List Order
+fourSold others =
+    deposits 540 7 100 ∷ paysIn 550 8 10 ∷ paysIn 550 9 10 ∷ paysIn 550 10 10 ∷ paysIn 550 11 10
+    ∷ sells 8 9 30 10 1 ++ (sells 7 10 60 10 3 ++ (sells 7 11 50 10 5 ++ (sells 7 8 30 10 7 ++ others)))
+
 -- 7 has 105 shares and has sold 100 to 8, who has 10 and has sold 100 to 9; the cycle with both trades is sent
 unfoldable pub awaiting : Ledger
 awaiting =
@@ -249,13 +255,12 @@ pub record Desk : Type 0 where
       (map (λ item. item.quantity.0) (calls awaiting (answers 586 2 ∷ []) .waiting) ≡ 100 ∷ 100 ∷ [])
       × (result (calls awaiting (answers 586 2 ∷ [])) (answers 586 1) .answer ≡ Answer.Refused 23)
   -- A.24: what is put back lets another trade fit, which the next pass puts back
-  pub p24 :
-      cycled (deposits 540 7 100 ∷ paysIn 550 8 10 ∷ paysIn 550 9 10 ∷ paysIn 550 10 10 ∷ paysIn 550 11 10
-      ∷ sells 8 9 30 10 1 ++ sells 7 10 60 10 3 ++ sells 7 11 50 10 5 ++ sells 7 8 30 10 7)
-      ≡ (Answer.Accepted (counts 0 0 0 0 0 1), Answer.Accepted (counts 12 6 0 0 0 0), 50 ∷ [])
+  pub p24 : cycled (fourSold []) ≡ (Answer.Accepted (counts 0 0 0 0 0 1), Answer.Accepted (counts 12 6 0 0 0 0), 50 ∷ [])
   -- A.25: it is not the largest set: of 60, 50 and 50 the first is sent, though without it both others would be
   pub p25 :
       (cycled (deposits 540 7 100 ∷ paysIn 550 8 1_000 ∷ sells 7 8 60 100 1 ++ sells 7 8 50 100 3 ++ sells 7 8 50 100 5)
       ≡ (Answer.Accepted (counts 0 0 0 0 0 2), Answer.Accepted (counts 4 2 0 0 0 0), 50 ∷ 50 ∷ []))
       × (cycled (deposits 540 7 100 ∷ paysIn 550 8 1_000 ∷ sells 7 8 50 100 3 ++ sells 7 8 50 100 5)
       ≡ (Answer.Accepted (counts 0 0 0 0 0 0), Answer.Accepted (counts 8 4 0 0 0 0), []))
+  -- A.26: A.24 with one more that the first pass puts back, so that the second has nothing for the first trade
+  pub p26 : cycled (fourSold (paysIn 550 12 10 ∷ sells 8 12 30 10 9)) ≡ (Answer.Accepted (counts 0 0 0 0 0 2), Answer.Accepted (counts 12 6 0 0 0 0), 30 ∷ 50 ∷ [])

@@ -108,7 +108,7 @@ cancel book order =
     now : List Item
     now = marking (senderOf order) order.reference book.waiting
 
--- RULES 6.16: the trades that nothing lacks are fixed; those dropped are left; the cycle is sent, and counts as run. Nothing is booked
+-- RULES 6.16: what is selected is fixed, and the rest of what is due is left; the cycle is sent, and counts as run. Nothing is booked
 unfoldable pub cycle : Ledger → Order → Outcome
 cycle book order = settles 0 (leftBy book) (putDay (cycleSent book.day) (putWaiting (fixing (selection book)) book)) []
 

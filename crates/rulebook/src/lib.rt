@@ -56,7 +56,7 @@ pub enum Written {
     Refused(u64),
 }
 
-// What an accepted call answers with (RULES 1.8): rows, four counts of sides, and trades that a cycle dropped.
+// What an accepted call answers with (RULES 1.8): rows, four counts of sides, and trades that a cycle leaves.
 pub struct Counts {
     pub rows: u64,
     pub settled: u64,

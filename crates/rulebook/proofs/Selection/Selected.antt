@@ -18,7 +18,7 @@ use Rattle.rulebook.proofs.Selection.Dropping.{dropping-covered, droppi
 use Rattle.rulebook.proofs.Selection.Passes.{pass-none, passes-refuse, passes-covered, passes-spots}
 use Rattle.rulebook.proofs.Selection.Passes.{passes-lacked, passes-enough, refused-unfit}
 
-left-most : (es : List Entry) → countLeft es ≤ length es
+pub left-most : (es : List Entry) → countLeft es ≤ length es
 unfolding countLeft
 left-most [] = zero-le
 left-most (e ∷ rest) = go e.standing (left-most rest)
