@@ -46,7 +46,7 @@ fn cancel(minute: u64, sender: u64, reference: u64) -> Order {
 }
 
 /// An exchange trade for USD of day 1.
-pub(super) fn trade(minute: u64, quantity: u64, amount: u64, [from, to]: [Party; 2], reference: u64) -> Order {
+fn trade(minute: u64, quantity: u64, amount: u64, [from, to]: [Party; 2], reference: u64) -> Order {
     let between = credit(to, quantity, debit(from, quantity, form(14, minute)));
     Order { currency: 1, amount, trade_day: 1, settlement_day: 4, reference, ..between }
 }
