@@ -5,6 +5,7 @@
 pub mod coverage;
 pub mod depository;
 pub mod difference;
+pub mod fitting;
 pub mod generator;
 #[cfg(library_linked)]
 pub mod proved;
