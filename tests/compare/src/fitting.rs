@@ -56,6 +56,26 @@ impl<'a> Positions<'a> {
         self.short().next().is_some()
     }
 
+    /// Whether nothing is short with one trade more, where nothing is without
+    /// it: then the places that it debits are the only ones that can be.
+    pub fn fits(&self, place: usize) -> bool {
+        let trade = &self.book.waiting[place];
+        let brought = |at: &Holding| credits(trade).iter().filter(|(to, _)| to == at).map(|(_, value)| value).sum();
+        debits(trade).iter().all(|(at, value)| {
+            let own: u64 = brought(at);
+            self.at(at) + i128::from(own) >= i128::from(*value)
+        })
+    }
+
+    /// Adds a trade if it fits, and tells whether it does.
+    pub fn add_if_it_fits(&mut self, place: usize) -> bool {
+        let fits = self.fits(place);
+        if fits {
+            self.add(place);
+        }
+        fits
+    }
+
     /// The same trades and one more.
     pub fn with(&self, place: usize) -> Positions<'a> {
         let mut with = self.clone();

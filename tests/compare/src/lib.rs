@@ -11,6 +11,7 @@ pub mod generator;
 pub mod proved;
 pub mod random;
 pub mod record_alone;
+pub mod replay;
 pub mod run;
 pub mod streams;
 pub mod sweeps;

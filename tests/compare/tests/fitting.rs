@@ -4,6 +4,7 @@
 use compare::fitting::check;
 use compare::generator::Generator;
 use compare::generator::profile::profiles;
+use compare::replay::Replay;
 use reference::book::Book;
 use reference::call::Answer;
 use reference::record::{Order, unpack};
@@ -62,4 +63,19 @@ fn a_mark_too_many_is_seen() {
         }
     }
     assert!(seen > 10, "{seen} trades are left");
+}
+
+/// The replay of the comparison chooses what the reference chooses.
+#[test]
+fn replayed_passes_send_what_is_fixed() {
+    let mut several = 0;
+    for mut book in sent_cycles() {
+        let fixed: Vec<usize> = (0..book.waiting.len()).filter(|place| book.waiting[*place].sent).collect();
+        book.waiting.iter_mut().for_each(|item| item.sent = false);
+        let replay = Replay::of(&book);
+        let passes = replay.passes();
+        assert_eq!(replay.sent(passes.concat()), fixed);
+        several += usize::from(passes.len() > 1);
+    }
+    assert!(several > 5, "{several} cycles make more than one pass that adds");
 }
