@@ -9,9 +9,10 @@ use reference::book::Book;
 use reference::call::Answer;
 use reference::record::{Order, unpack};
 
-/// The books after the cycles of a busy list.
+/// The books after the cycles of a list in which much is netted.
 fn sent_cycles() -> Vec<Book> {
-    let mut generator = Generator::new(profiles().swap_remove(0), 5);
+    let netting = profiles().into_iter().find(|profile| profile.name == "netting").expect("a profile");
+    let mut generator = Generator::new(netting, 5);
     let mut book = Book::fresh();
     let mut books = Vec::new();
     for _ in 0..4_000 {
