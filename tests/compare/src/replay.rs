@@ -25,9 +25,9 @@ impl<'a> Replay<'a> {
     pub fn of(book: &'a Book) -> Replay<'a> {
         let mut replay = Replay { book, kept: due(book), dropped: Vec::new() };
         let mut positions = Positions::of(book, &replay.kept);
-        while let Some(last) = replay.last_short(&positions) {
-            positions.remove(replay.kept.remove(last.0));
-            replay.dropped.push(last.1);
+        while let Some((number, dropped)) = replay.last_short(&positions) {
+            positions.remove(replay.kept.remove(number));
+            replay.dropped.push(dropped);
         }
         replay
     }

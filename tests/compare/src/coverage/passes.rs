@@ -1,7 +1,7 @@
 //! What comes back of the trades that a cycle drops, and where another way of
 //! taking them back would send another set.
 
-use reference::book::{Book, Item, MOST_ITEMS};
+use reference::book::{Book, Item, MOST_ITEMS, State};
 use reference::cycle::{Holding, due};
 
 use super::Coverage;
@@ -97,20 +97,21 @@ impl Coverage {
 
     /// Where what is added stands in the list.
     fn places(&mut self, kept: &[usize], passes: &[Vec<usize>]) {
-        let before = |place: &usize| kept.first().is_some_and(|first| first < place);
-        let behind = |place: &usize| kept.last().is_some_and(|last| place < last);
-        let pairs =
-            || passes.windows(2).flat_map(|two| two[1].iter().flat_map(|late| two[0].iter().map(move |e| (late, e))));
+        let in_front = |place: &usize| kept.last().is_some_and(|last| place < last);
+        let behind = |place: &usize| kept.first().is_some_and(|first| first < place);
+        let between = passes.concat().iter().any(|place| behind(place) && in_front(place));
         self.named(&[
-            (passes[0].iter().any(behind), "the first pass adds a trade in front of a kept one"),
-            (passes[0].iter().any(before), "the first pass adds a trade behind a kept one"),
-            (
-                passes.concat().iter().any(|place| before(place) && behind(place)),
-                "a pass adds a trade between two kept ones",
-            ),
-            (pairs().any(|(late, early)| late < early), "a later pass adds in front of an earlier one"),
-            (pairs().any(|(late, early)| late > early), "a later pass adds behind an earlier one"),
+            (passes[0].iter().any(in_front), "the first pass adds a trade in front of a kept one"),
+            (passes[0].iter().any(behind), "the first pass adds a trade behind a kept one"),
+            (between, "a pass adds a trade between two kept ones"),
         ]);
+        for two in passes.windows(2) {
+            let (earlier, later) = (&two[0], &two[1]);
+            self.named(&[
+                (later.iter().min() < earlier.iter().max(), "a later pass adds in front of an earlier one"),
+                (later.iter().max() > earlier.iter().min(), "a later pass adds behind an earlier one"),
+            ]);
+        }
     }
 
     /// Each trade that comes back, at the moment when it is added.
@@ -123,7 +124,7 @@ impl Coverage {
             self.own_cash(&positions, trade);
             positions.add(place);
             self.used_up(&positions, trade);
-            let exchange = matches!(trade.state, reference::book::State::ExchangeTrade { .. });
+            let exchange = matches!(trade.state, State::ExchangeTrade { .. });
             self.named(&[(exchange, "an exchange trade comes back"), (!exchange, "a pair comes back")]);
         }
     }
