@@ -17,6 +17,8 @@ pub fn lists() -> Vec<List> {
         List { name: "a pass goes on behind what it adds", steps: no_new_start() },
         List { name: "cash is there for the first and the last", steps: cash_between() },
         List { name: "two trades that fit only together", steps: only_together() },
+        List { name: "63 trades come back one a pass, for their shares", steps: shares_one_a_pass() },
+        List { name: "63 trades come back one a pass, for their cash", steps: cash_one_a_pass() },
     ]
 }
 
@@ -106,5 +108,45 @@ fn only_together() -> Vec<Step> {
     steps.extend(pairs(&[(10, 5, [A, C]), (10, 5, [A, B]), (10, 5, [B, A])]));
     steps.extend([left(form(16, 585), 3), Step::Book(&[Sent(true), Marked(0)]), settled(answer(585, 1), 0)]);
     steps.push(Step::Book(&[Waiting(3), Cash(&[(7, 1, 100), (8, 1, 100), (9, 1, 100)])]));
+    steps
+}
+
+fn holder(member: u64) -> Party {
+    (member, 20, 5)
+}
+
+/// Each member sells 10 shares to the one before it. Only member 64 has them,
+/// and sells 900 besides at the head of the list.
+fn shares_one_a_pass() -> Vec<Step> {
+    let mut trades = vec![(900, 1, [holder(64), holder(1)])];
+    trades.extend((1..64).map(|member| (10, 1, [holder(member + 1), holder(member)])));
+    let mut steps = first_day();
+    steps.push(deposit(540, 10, holder(64)));
+    steps.extend((1..=64).map(|member| moved(pay_in(540, member, 10))));
+    steps.extend(pairs(&trades));
+    steps.extend([
+        left(form(16, 585), 1),
+        Step::Book(&[Waiting(64), Marked(63)]),
+        settled(answer(585, 1), 63),
+        Step::Book(&[Accounts(&[(101, 1, 20, 5, 10)]), Waiting(1), Quantities(&[900])]),
+    ]);
+    steps
+}
+
+/// Each member pays 10 to the one before it for one share of two. Only member 64
+/// has so much, and pays 900 besides, last but one in the list.
+fn cash_one_a_pass() -> Vec<Step> {
+    let mut trades: Vec<Terms> = (1..64).map(|member| (1, 10, [holder(member), holder(member + 1)])).collect();
+    trades.insert(62, (1, 900, [holder(1), holder(64)]));
+    let mut steps = first_day();
+    steps.extend((1..=64).map(|member| deposit(540, 2, holder(member))));
+    steps.push(moved(pay_in(540, 64, 10)));
+    steps.extend(pairs(&trades));
+    steps.extend([
+        left(form(16, 585), 1),
+        Step::Book(&[Waiting(64), Marked(63)]),
+        settled(answer(585, 1), 63),
+        Step::Book(&[AccountCount(64), Cash(&[(1, 1, 10)]), Waiting(1), Amounts(&[900])]),
+    ]);
     steps
 }
