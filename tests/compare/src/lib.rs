@@ -5,11 +5,13 @@
 pub mod coverage;
 pub mod depository;
 pub mod difference;
+pub mod fitting;
 pub mod generator;
 #[cfg(library_linked)]
 pub mod proved;
 pub mod random;
 pub mod record_alone;
+pub mod replay;
 pub mod run;
 pub mod streams;
 pub mod sweeps;

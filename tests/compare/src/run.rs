@@ -4,11 +4,12 @@ use std::fmt;
 
 use reference::book::{Book, LAST_DAY};
 use reference::call::{AREA_BYTES, Answer};
-use reference::record::{Order, pack};
+use reference::record::{Order, pack, unpack};
 
 use crate::coverage::Coverage;
 use crate::depository::Depository;
 use crate::difference::first_difference;
+use crate::fitting;
 use crate::generator::profile::{Profile, fast_days, profiles};
 use crate::generator::{Call, Generator};
 use crate::told;
@@ -115,6 +116,9 @@ impl<D: Depository> Sides<D> {
         if let Some(text) = first_difference(&self.book, &book) {
             return Err(after(text));
         }
+        if sends_cycle(call, &found) {
+            fitting::check(&book).map_err(after)?;
+        }
         self.totals.take(&call.record, &found, &area);
         Ok((found, area))
     }
@@ -137,6 +141,11 @@ impl<D: Depository> Sides<D> {
         self.totals.check(&*self.under_test.book()?, |security| self.under_test.held(security))?;
         told::check(&self.book, &self.under_test)
     }
+}
+
+/// Whether a call was an accepted form 16.
+fn sends_cycle(call: &Call, answer: &Answer) -> bool {
+    matches!(answer, Answer::Accepted(_)) && Order::from_fields(unpack(&call.record)).form == 16
 }
 
 /// What lies behind the rows is kept; after a refusal that is the whole area.

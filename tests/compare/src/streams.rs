@@ -8,6 +8,7 @@ use reference::windows::next_cycle_minute;
 
 use crate::generator::Generator;
 use crate::generator::profile::profiles;
+use crate::replay::Replay;
 
 const CODE: u64 = 101;
 
@@ -28,6 +29,10 @@ pub fn streams() -> Vec<Stream> {
         full_book(),
         full_cycle("cycle, 64 trades dropped one by one", false),
         full_cycle("cycle, 64 trades sent", true),
+        put_back("cycle, 64 trades dropped, put back one a pass (shares)", chain_of_shares(0)),
+        put_back("cycle, 64 trades dropped, put back one a pass (cash)", chain_of_cash(0)),
+        put_back("cycle, the same, the one left next to last (shares)", chain_of_shares(62)),
+        put_back("cycle, the same, the one left next to last (cash)", chain_of_cash(62)),
         full_answer("answer, 64 trades confirmed", 1),
         full_answer("answer, 64 trades declined", 2),
         while_sent(),
@@ -133,6 +138,61 @@ fn full_cycle(name: &'static str, settles: bool) -> Stream {
     Stream { name, before, timed: vec![cycle], repeats: 200 }
 }
 
+/// 64 due exchange trades that a cycle drops, all of them, and of which it takes
+/// back 63, one a pass, from the list's end.
+fn put_back(name: &'static str, first_day: Vec<Record>) -> Stream {
+    let (before, mut book) = on_to_day_4(first_day);
+    let (replay, cycle) = (Replay::of(&book), record(form(16, 585)));
+    assert_eq!((replay.kept.len(), replay.dropped.len(), book.accounts.len()), (0, 64, 191));
+    assert!(replay.passes().len() == 63 && replay.passes().iter().all(|added| added.len() == 1));
+    let answer = book.call(&cycle, &mut [0; AREA_BYTES]);
+    assert!(matches!(answer, Answer::Accepted(counts) if counts.left == 1));
+    assert_eq!(trades(&book).len(), 63);
+    Stream { name, before, timed: vec![cycle], repeats: 20 }
+}
+
+/// Each account sells 10 shares to the one before it; only the last account has
+/// them, and sells 1,000 besides in the trade at the place `head`.
+fn chain_of_shares(head: usize) -> Vec<Record> {
+    let mut records = first_day();
+    records.extend((0..64).map(|member| pay_in(member, 1000)));
+    records.extend((0..190).map(|place| deposit(1000 + place, 20, 1000)));
+    records.push(deposit(63, 10, 10));
+    let mut trades: Vec<Order> = (1..64).map(|place| between(place, place - 1, 10, 5)).collect();
+    trades.insert(head, between(63, 64, 1000, 5));
+    records.extend(numbered(trades));
+    records
+}
+
+/// Each member pays 10 to the one before it; only the last member has them, and
+/// pays 1,000 besides in the trade at the place `head`. All sellers have shares.
+fn chain_of_cash(head: usize) -> Vec<Record> {
+    let mut records = first_day();
+    records.extend((0..127).map(|place| deposit(1000 + place, 20, 1000)));
+    records.extend((0..64).map(|place| deposit(place, 10, 2)));
+    records.push(pay_in(63, 10));
+    let mut trades: Vec<Order> = (1..64).map(|place| between(place - 1, place, 1, 10)).collect();
+    trades.insert(head, between(0, 63, 1, 1000));
+    records.extend(numbered(trades));
+    records
+}
+
+/// To the member of account `place`.
+fn pay_in(place: u64, amount: u64) -> Record {
+    record(Order { currency: 1, credited_member: 1 + place, amount, ..form(10, 540) })
+}
+
+/// An exchange trade of day 1, from one account to another.
+fn between(from: u64, to: u64, quantity: u64, amount: u64) -> Order {
+    let terms = Order { currency: 1, quantity, amount, trade_day: 1, settlement_day: 4, ..form(14, 540) };
+    credit(debit(terms, from, 10), to, 10)
+}
+
+/// Under references from 1 on.
+fn numbered(trades: Vec<Order>) -> impl Iterator<Item = Record> {
+    trades.into_iter().zip(1..).map(|(trade, reference)| record(Order { reference, ..trade }))
+}
+
 /// The answer of a cycle that has sent 64 trades.
 fn full_answer(name: &'static str, quantity: u64) -> Stream {
     let (mut before, mut book) = due_trades(true);
@@ -158,11 +218,17 @@ fn while_sent() -> Stream {
     Stream { name: "transfers while 64 trades are sent", before, timed, repeats: 1 }
 }
 
-/// The calls before the first cycle of day 4, and the book after them.
+/// The calls before a cycle of 64 trades, and the book after them.
 fn due_trades(settles: bool) -> (Vec<Record>, Book) {
     let mut before = first_day();
     before.extend((0..190).map(|place| deposit(1000 + place, 20, 1000)));
-    before.extend((0..64).map(|place| record(trade(place, settles))));
+    before.extend(numbered((0..64).map(|place| trade(place, settles)).collect()));
+    on_to_day_4(before)
+}
+
+/// The calls of day 1 and of those up to the first cycle of day 4, and the book
+/// after them.
+fn on_to_day_4(mut before: Vec<Record>) -> (Vec<Record>, Book) {
     let mut book = Book::fresh();
     accept(&mut book, &before);
     while book.day.number < 4 {
@@ -181,9 +247,7 @@ fn due_trades(settles: bool) -> (Vec<Record>, Book) {
 /// Forth and back between couples of empty accounts, which settles; or a
 /// chain of empty accounts without cash, which is dropped trade by trade.
 fn trade(place: u64, settles: bool) -> Order {
-    let to = if settles { place ^ 1 } else { place + 1 };
-    let terms = Order { currency: 1, amount: 5, quantity: 10, reference: 1 + place, ..form(14, 540) };
-    credit(debit(Order { trade_day: 1, settlement_day: 4, ..terms }, place, 10), to, 10)
+    between(place, if settles { place ^ 1 } else { place + 1 }, 10, 5)
 }
 
 /// An unused field that is set, and a used one out of its range.

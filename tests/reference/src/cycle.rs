@@ -61,9 +61,9 @@ pub fn short(book: &Book, taken: &[usize]) -> BTreeSet<Holding> {
     outcome(book, taken).into_iter().filter(|(_, value)| *value < 0).map(|(holding, _)| holding).collect()
 }
 
-/// What is left of the taken trades when they are dropped one by one, until
+/// What is kept of the taken trades when they are dropped one by one, until
 /// nothing is short (RULES 9.5, 9.6).
-pub fn settling(book: &Book) -> Vec<usize> {
+pub fn kept(book: &Book) -> Vec<usize> {
     let mut taken = due(book);
     loop {
         let short = short(book, &taken);
@@ -73,6 +73,33 @@ pub fn settling(book: &Book) -> Vec<usize> {
             None => return taken,
         };
     }
+}
+
+/// What a cycle fixes: what is kept, and what of the dropped trades fits beside
+/// it. One that comes back can make room for another, so the dropped ones are
+/// gone through until none comes back.
+pub fn settling(book: &Book) -> Vec<usize> {
+    let mut fixed = kept(book);
+    while pass(book, &mut fixed) {}
+    fixed.sort();
+    fixed
+}
+
+/// Goes once through the trades that are out, in list order. A trade that fits
+/// is in for those behind it. Whether any came back.
+fn pass(book: &Book, fixed: &mut Vec<usize>) -> bool {
+    let before = fixed.len();
+    for place in due(book) {
+        if !fixed.contains(&place) && fits(book, fixed, place) {
+            fixed.push(place);
+        }
+    }
+    fixed.len() > before
+}
+
+/// Whether nothing is short when a trade is added to others.
+pub fn fits(book: &Book, fixed: &[usize], place: usize) -> bool {
+    short(book, &[fixed, &[place]].concat()).is_empty()
 }
 
 /// Fixes what can be settled; it is booked when the cycle is confirmed. A cycle

@@ -108,7 +108,7 @@ fn due_trades(mut book: Book, trades: &[reference::record::Order]) -> Book {
 }
 
 #[test]
-fn p10_of_60_50_and_30_only_60_settles() {
+fn p10_of_60_50_and_30_the_50_are_left() {
     let mut book = first_day(1);
     let (seller, buyer) = (account(1, 10, 5), account(2, 10, 6));
     accept(&mut book, &deposit(seller, 100, 540));
@@ -116,9 +116,10 @@ fn p10_of_60_50_and_30_only_60_settles() {
     let sell = |quantity, reference| trade(seller, buyer, quantity, 10, reference, 1, 541);
     let mut book = due_trades(book, &[sell(60, 1), sell(50, 2), sell(30, 3)]);
     let counts = run_cycle(&mut book, 585);
-    assert_eq!((counts.rows, counts.settled, counts.left), (4, 2, 2));
-    assert_eq!((book.balance(&seller), book.balance(&buyer)), (40, 60));
-    assert_eq!((cash(&book, 1), cash(&book, 2)), (10, 990));
+    assert_eq!((counts.rows, counts.settled, counts.left), (8, 4, 1));
+    assert_eq!((book.balance(&seller), book.balance(&buyer)), (10, 90));
+    assert_eq!((cash(&book, 1), cash(&book, 2)), (20, 980));
+    assert_eq!((book.waiting.len(), book.waiting[0].quantity), (1, 50));
 }
 
 /// 100 shares go from A by way of B to C, at 50 a trade; C has `cash_of_c`.

@@ -7,6 +7,7 @@ mod cycles;
 pub mod damages;
 mod edges;
 mod endings;
+mod passes;
 mod rates;
 mod requests;
 mod sent;
@@ -95,8 +96,16 @@ pub enum Cell {
     Event(&'static str),
 }
 
-const EVENTS: &[&[&str]] =
-    &[SIZES, arrivals::EVENTS, rates::EVENTS, requests::EVENTS, cycles::EVENTS, sent::EVENTS, endings::EVENTS];
+const EVENTS: &[&[&str]] = &[
+    SIZES,
+    arrivals::EVENTS,
+    rates::EVENTS,
+    requests::EVENTS,
+    cycles::EVENTS,
+    passes::EVENTS,
+    sent::EVENTS,
+    endings::EVENTS,
+];
 
 const SIZES: &[&str] = &[
     "area of 0 bytes",

@@ -4,6 +4,7 @@
 mod counterpart;
 pub mod damage;
 pub mod draft;
+mod passes;
 pub mod profile;
 mod rates;
 mod requests;
@@ -224,7 +225,8 @@ impl Generator {
         let in_the_day: Vec<u64> = forms::TABLE.iter().map(|form| form.number).filter(|form| *form != 1).collect();
         let mut found: Vec<Order> = Vec::new();
         for _ in 0..6 {
-            let form = self.random.pick(&in_the_day);
+            // The minutes of cycles move with those that have run.
+            let form = if self.random.percent(10) { 16 } else { self.random.pick(&in_the_day) };
             let Some(draft) = self.desk(book).draft(form) else { continue };
             let Some((first, last)) = window(&book.day, &draft) else { continue };
             let inside = self.random.percent(65);

@@ -27,6 +27,9 @@ pub struct Profile {
     pub edges: u64,
     /// Prepared groups of trades, begun this often, in thousandths.
     pub scenarios: u64,
+    /// Of these, such as are begun only with an empty list and fill it, in
+    /// percent.
+    pub full_lists: u64,
     /// Instructions around a new rate, begun this often, in thousandths.
     pub moving_rates: u64,
     /// Orders around the trades of a cycle that is sent, in percent.
@@ -57,6 +60,7 @@ const USUAL: Profile = Profile {
     short_areas: 5,
     edges: 3,
     scenarios: 15,
+    full_lists: 10,
     moving_rates: 3,
     around_sent: 15,
     days_ahead: 4,
@@ -135,6 +139,7 @@ const FULL_CYCLES: Profile = Profile {
     weights: &[0, 0, 2, 6, 4, 3, 1, 1, 1, 1, 6, 4, 0, 0, 0, 0, 4, 0, 0, 0, 0, 6],
     faults: 2,
     scenarios: 300,
+    full_lists: 50,
     moving_rates: 0,
     ..USUAL
 };

@@ -12,13 +12,24 @@ use super::draft::{Desk, credit, debit};
 impl Desk<'_> {
     /// A prepared group, in the order in which it is sent.
     pub fn scenario(&mut self) -> VecDeque<Order> {
-        let full = self.book.waiting.is_empty() && self.random.percent(50);
-        let orders = match self.random.below(2) {
-            half if full => self.full_list(half == 0),
-            0 => self.chain(),
-            _ => self.ring(),
+        let full = self.random.percent(self.profile.full_lists);
+        let orders = match self.random.below(8) {
+            _ if full && !self.book.waiting.is_empty() => None,
+            kind if full => self.full_group(kind),
+            0 | 1 => self.chain(),
+            2 | 3 => self.ring(),
+            _ => self.crowd(),
         };
         orders.unwrap_or_default().into()
+    }
+
+    /// A group that fills an empty list.
+    fn full_group(&mut self, kind: u64) -> Option<Vec<Order>> {
+        match kind {
+            0..=2 => self.full_chain(),
+            3..=5 => self.full_list(true),
+            _ => self.full_list(false),
+        }
     }
 
     /// Accounts of different members, by which shares can pass.
@@ -92,12 +103,12 @@ impl Desk<'_> {
         Some(orders)
     }
 
-    fn trade_of_today(&self) -> Order {
+    pub fn trade_of_today(&self) -> Order {
         let today = self.book.day.number;
         Order { form: 14, trade_day: today, settlement_day: today + 3, ..Order::default() }
     }
 
-    fn trade(&mut self, template: Order, from: Account, to: Account) -> Order {
+    pub fn trade(&mut self, template: Order, from: Account, to: Account) -> Order {
         let reference = self.random.between(1, u64::from(u32::MAX));
         credit(debit(Order { reference, ..template }, &from), &to)
     }

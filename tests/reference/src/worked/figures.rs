@@ -12,6 +12,8 @@ pub enum Figure {
     /// How many sides these are.
     Sides(u64),
     /// Of the waiting items, in list order.
+    Quantities(&'static [u64]),
+    /// Of the waiting items, in list order.
     Amounts(&'static [u64]),
     /// Of the waiting items, in list order; a pair has two, the deliver's
     /// first.
@@ -46,6 +48,9 @@ impl Figure {
             Figure::Rate(rate) => same("rate", rate, &book.rate),
             Figure::Waiting(count) => same("waiting items", count, &items.len()),
             Figure::Sides(sides) => same("waiting sides", sides, &items.iter().map(Item::sides).sum()),
+            Figure::Quantities(quantities) => {
+                same("quantities", &quantities.to_vec(), &items.iter().map(|item| item.quantity).collect())
+            }
             Figure::Amounts(amounts) => {
                 same("amounts", &amounts.to_vec(), &items.iter().map(|item| item.amount).collect())
             }

@@ -5,6 +5,7 @@
 mod custody;
 mod figures;
 mod orders;
+mod passes;
 mod rate;
 mod requests;
 mod sent;
@@ -44,7 +45,7 @@ pub struct Reply {
 
 /// All lists.
 pub fn lists() -> Vec<List> {
-    [rate::lists(), requests::lists(), custody::lists(), sent::lists()].into_iter().flatten().collect()
+    [rate::lists(), requests::lists(), custody::lists(), sent::lists(), passes::lists()].into_iter().flatten().collect()
 }
 
 /// An accepted call that writes no row and counts nothing.

@@ -7,8 +7,8 @@ use super::{List, Step, accepted, admission, left, moved, refused, settled};
 use crate::call::{Answer, Counts};
 use crate::record::Order;
 
-const A: Party = (7, 20, 5);
-const B: Party = (8, 20, 5);
+pub(super) const A: Party = (7, 20, 5);
+pub(super) const B: Party = (8, 20, 5);
 const C: Party = (9, 20, 5);
 const OTHER: Party = (6, 20, 5);
 
@@ -24,7 +24,7 @@ pub fn lists() -> Vec<List> {
     ]
 }
 
-fn deposit(minute: u64, quantity: u64, to: Party) -> Step {
+pub(super) fn deposit(minute: u64, quantity: u64, to: Party) -> Step {
     moved(credit(to, quantity, form(3, minute)))
 }
 
@@ -37,7 +37,7 @@ fn transfer(minute: u64, quantity: u64, from: Party, to: Party) -> Order {
     Order { settlement_day: 1, ..credit(to, quantity, debit(from, quantity, form(5, minute))) }
 }
 
-fn pay_in(minute: u64, member: u64, amount: u64) -> Order {
+pub(super) fn pay_in(minute: u64, member: u64, amount: u64) -> Order {
     Order { currency: 1, credited_member: member, amount, ..form(10, minute) }
 }
 
@@ -64,33 +64,37 @@ fn receive(minute: u64, quantity: u64, amount: u64, between: [Party; 2], referen
 }
 
 /// Both at 540; the receive has a reference that is 1,000 higher.
-fn pair(quantity: u64, amount: u64, between: [Party; 2], reference: u64) -> [Step; 2] {
+pub(super) fn pair(quantity: u64, amount: u64, between: [Party; 2], reference: u64) -> [Step; 2] {
     let first = deliver(540, quantity, amount, between, reference);
     [first, receive(540, quantity, amount, between, reference + 1_000)].map(accepted)
 }
 
 /// Day 1, with 101.
-fn first_day() -> Vec<Step> {
+pub(super) fn first_day() -> Vec<Step> {
     vec![accepted(open(1, 470)), admission(500)]
 }
 
-/// Of 60, 50 and 30 of 100 shares only 60 are fixed, and booked later.
+/// Of 60, 50 and 30 of 100 shares 60 and 30 are fixed, and booked later.
 fn sent_then_confirmed() -> Vec<Step> {
     let mut steps = first_day();
     steps.extend([deposit(540, 100, A), moved(pay_in(540, 8, 1_000))]);
     steps.extend([(60, 1), (50, 2), (30, 3)].into_iter().flat_map(|(shares, own)| pair(shares, 100, [A, B], own)));
     steps.extend([
-        left(form(16, 585), 2),
-        Step::Book(&[Accounts(&[(101, 7, 20, 5, 100)]), Cycles(1), Sent(true), Waiting(3), Sides(6), Marked(1)]),
-        settled(answer(590, 1), 1),
+        left(form(16, 585), 1),
+        Step::Book(&[Accounts(&[(101, 7, 20, 5, 100)]), Cycles(1), Sent(true), Waiting(3), Sides(6), Marked(2)]),
+        settled(answer(590, 1), 2),
         Step::Rows(&[
             0x006501C500000005000000000000003C,
             0x8065020500000005000000000000003C,
             0x40010200000000000000000000000064,
             0xC00101C0000000000000000000000064,
+            0x006501C500000005000000000000001E,
+            0x8065020500000005000000000000001E,
+            0x40010200000000000000000000000064,
+            0xC00101C0000000000000000000000064,
         ]),
-        Step::Book(&[Accounts(&[(101, 7, 20, 5, 40), (101, 8, 20, 5, 60)]), Cash(&[(7, 1, 100), (8, 1, 900)])]),
-        Step::Book(&[Cycles(1), Sent(false), Waiting(2), Sides(4), Marked(0)]),
+        Step::Book(&[Accounts(&[(101, 7, 20, 5, 10), (101, 8, 20, 5, 90)]), Cash(&[(7, 1, 200), (8, 1, 800)])]),
+        Step::Book(&[Cycles(1), Sent(false), Waiting(1), Sides(2), Quantities(&[50]), Marked(0)]),
     ]);
     steps
 }
