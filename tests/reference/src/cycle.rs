@@ -77,7 +77,7 @@ pub fn kept(book: &Book) -> Vec<usize> {
 
 /// What a cycle fixes: what is kept, and what of the dropped trades fits beside
 /// it. One that comes back can make room for another, so the dropped ones are
-/// gone through until none comes back.
+/// gone through until none comes back (RULES 9.26).
 pub fn settling(book: &Book) -> Vec<usize> {
     let mut fixed = kept(book);
     while pass(book, &mut fixed) {}
@@ -86,7 +86,7 @@ pub fn settling(book: &Book) -> Vec<usize> {
 }
 
 /// Goes once through the trades that are out, in list order. A trade that fits
-/// is in for those behind it. Whether any came back.
+/// is in for those behind it (RULES 9.25). Whether any came back.
 fn pass(book: &Book, fixed: &mut Vec<usize>) -> bool {
     let before = fixed.len();
     for place in due(book) {
