@@ -3,6 +3,7 @@ use mathlib.Core.Path.{_≡_, refl, sym, ap, ap₂, subst, _∙_}
 use mathlib.Core.Bool.{Bool, true, false, not, _&&_, _||_, false≢true, or-false}
 use mathlib.Core.List.{List, [], _∷_, _++_, map}
 use native.Mathlib.Omega.{arith}
+use borrow.Author.Tests.{not-true}
 use lib.ListN.{length, length-map}
 use Rattle.rulebook.specs.declared.Item.{Item}
 use Rattle.plain.specs.Lists.{if_then_else_, some, keep}
@@ -78,10 +79,6 @@ module _ (h : Holdings) (now : List Item) where
       go notDue s = tt
       go taken s = tt
       go (left lacked) s = ap length s ∙ length-map (tradesOf e) (shortfall h (now ++ tradesOf e))
-
-not-true : (b : Bool) → not b ≡ true → b ≡ false
-not-true true e = absurd (false≢true e)
-not-true false e = refl
 
 pub optimised-laws :
     (h : Holdings) (bits : List Bool) (es : List Entry) → NoneLeft es → goodMask h bits es ≡ true → Optimised h es (optimised h bits es)

@@ -182,7 +182,8 @@ module _ (b : Ledger) (r : Ready b) (due before : ℕ) (s : Started b due before
             go (yes e) t p =
                 flips k l ∙ rw (eq-eqb k j e, f .on) (sym (rw (lt-ltb k (suc j) (omega (arith, e))) (and-false (out k))))
             go (no d) true p =
-                flips k l ∙ rw (ne-eqb k j d) (f .none-before k (ltb-true k j p) ∙ sym (rw (lt-ltb k (suc j) (omega (arith, ltb-true k j p))) (and-false (out k))))
+                let a : k < j = ltb-true k j p in
+                flips k l ∙ rw (ne-eqb k j d) (f .none-before k a ∙ sym (rw (lt-ltb k (suc j) (omega (arith, a))) (and-false (out k))))
             go (no d) false p =
                 let a : j < k = omega (arith, ltb-false k j p, d) in
                 flips k l

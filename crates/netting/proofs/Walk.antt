@@ -15,7 +15,7 @@ use Rattle.rulebook.specs.Shortfall.{anyShort}
 use Rattle.rulebook.specs.Selection.{Entry, tradesOf, isTaken, isLeft, fits, pass}
 use Rattle.rulebook.specs.declared.Item.{Item}
 use Rattle.rulebook.proofs.Selection.Missing.{SameTotals}
-use Rattle.rulebook.proofs.Selection.Walking.{fits-same}
+use Rattle.rulebook.proofs.Selection.Passes.{fits-same}
 use Rattle.words.specs.Places.{listFrom}
 use Rattle.marks.specs.Marks.{Marked, withMark}
 use Rattle.marks.proofs.Marking.{marking, marking-same, over-more, over-marked}

@@ -22,7 +22,10 @@ fn one_pass(
     requires { ⌜ Stored (now book) × Ready (ledgerOf (now book)) × Started (ledgerOf (now book)) due before ⌝ }
     requires { ⌜ Figured (ledgerOf (now book)) before (now shares) (now «held_at») (now held) (now cents) (now «funds_at») (now funds) ⌝ }
     ensures { λ r. ⌜ Passed (ledgerOf (now (book .entry))) due before r ⌝ }
-    ensures { λ r. ⌜ Figured (ledgerOf (now (book .entry))) r (now (shares .entry)) (now («held_at» .entry)) (now (held .exit)) (now (cents .entry)) (now («funds_at» .entry)) (now (funds .exit)) ⌝ }
+    ensures { λ r. ⌜
+        Figured (ledgerOf (now (book .entry))) r (now (shares .entry)) (now («held_at» .entry)) (now (held .exit)) (now (cents .entry))
+        (now («funds_at» .entry)) (now (funds .exit))
+        ⌝ }
 {
     let n = book_items::items(book);
     let mut marks = before;

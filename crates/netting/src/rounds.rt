@@ -40,7 +40,10 @@ pub fn drop_short(
     requires { ⌜ Stored (now book) × Ready (ledgerOf (now book)) ⌝ }
     requires { ⌜ Figured (ledgerOf (now book)) due (now shares) (now «held_at») (now held) (now cents) (now «funds_at») (now funds) ⌝ }
     ensures { λ r. ⌜ Netted (ledgerOf (now (book .entry))) due r ⌝ }
-    ensures { λ r. ⌜ Figured (ledgerOf (now (book .entry))) r (now (shares .entry)) (now («held_at» .entry)) (now (held .exit)) (now (cents .entry)) (now («funds_at» .entry)) (now (funds .exit)) ⌝ }
+    ensures { λ r. ⌜
+        Figured (ledgerOf (now (book .entry))) r (now (shares .entry)) (now («held_at» .entry)) (now (held .exit)) (now (cents .entry))
+        (now («funds_at» .entry)) (now (funds .exit))
+        ⌝ }
 {
     let n = book_items::items(book);
     let mut marks = due;

@@ -33,7 +33,8 @@ unfolding
     booked byKind cycleMinutes allRun officeEnd postingWidths noticeWidths postingBytes postingIn postingOf noticeBytes deliverReference
     receiveReference noticeOf postingRows rowBytes rowsBytes itemOf isDeliver isReceive isTrade ownReference sidesOf sides senderOf sentBy
     notCancellable withState withSent marked bothMarked marking cancelled staying unmarked tolerance sharedTerms sameTerms agree pairsWith pairOf
-    arrive seller buyer takes brings missing debitsShort anyShort tradesIn countLeft drops dropLast rounds dropping fits pass passes selectionIn fullSelection tradesLeft isSent due
+    arrive seller buyer takes brings missing debitsShort anyShort tradesIn countLeft drops dropLast rounds dropping fits pass passes
+    selectionIn fullSelection tradesLeft isSent due
     entryBy entries selection legs settled notSettled leftBy fixing fixed
     declined offers closeKind leaves deletedAtClose suspendedAtClose closeNotice counts outcome moving silent openDay admit deposit withdraw transfer
     payIn payOut instruct trade cancel cycle confirm decline answerCycle close setRate requestPaper endRequest forms rowOf windowOf effect wrongDay

@@ -12,6 +12,5 @@ pub mod Selected
 pub mod Alone
 -- of a book: what a cycle selects and fixes
 pub mod Fixing
--- for code: the numbers fit a word, and a pass as it is walked
+-- sums over trades fit a word
 pub mod Bounds
-pub mod Walking

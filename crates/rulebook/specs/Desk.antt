@@ -263,4 +263,6 @@ pub record Desk : Type 0 where
       × (cycled (deposits 540 7 100 ∷ paysIn 550 8 1_000 ∷ sells 7 8 50 100 3 ++ sells 7 8 50 100 5)
       ≡ (Answer.Accepted (counts 0 0 0 0 0 0), Answer.Accepted (counts 8 4 0 0 0 0), []))
   -- A.26: A.24 with one more that the first pass puts back, so that the second has nothing for the first trade
-  pub p26 : cycled (fourSold (paysIn 560 12 10 ∷ sells 8 12 30 10 9)) ≡ (Answer.Accepted (counts 0 0 0 0 0 2), Answer.Accepted (counts 12 6 0 0 0 0), 30 ∷ 50 ∷ [])
+  pub p26 :
+      cycled (fourSold (paysIn 560 12 10 ∷ sells 8 12 30 10 9))
+      ≡ (Answer.Accepted (counts 0 0 0 0 0 2), Answer.Accepted (counts 12 6 0 0 0 0), 30 ∷ 50 ∷ [])

@@ -140,3 +140,12 @@ module _ (h : Holdings) (ts : List Item) where
       let p : Place = f .0 in
       some-takes p (debitsShort h ts) (debits-it p (f .1)) added
       (omega (arith, f .1, q p, e (takes p), e (brings p), total-append (takes p) now added, total-append (brings p) now added))
+
+-- the tests look at totals alone
+pub any-short-same : (h : Holdings) (ts us : List Item) → SameTotals ts us → anyShort h ts ≡ anyShort h us
+any-short-same h ts us e = go (anyShort h ts) refl (anyShort h us) refl
+  where
+    go : (a : Bool) → anyShort h ts ≡ a → (b : Bool) → anyShort h us ≡ b → anyShort h ts ≡ anyShort h us
+    go true j true k = j ∙ sym k
+    go true j false k = absurd (false≢true (sym (short-none h ts (covered-same h us ts (λ f. sym (e f)) (none-short h us k))) ∙ j))
+    go false j b k = j ∙ sym (short-none h us (covered-same h ts us e (none-short h ts j)))

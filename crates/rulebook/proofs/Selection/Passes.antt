@@ -4,7 +4,7 @@ use mathlib.Core.Bool.{Bool, true, false, not, _&&_, false≢true, or-true}
 use mathlib.Core.List.{List, [], _∷_, _++_, map}
 use Prim.Native.Nat.{ℕ, zero, suc, _+_, _≤_, _<_}
 use native.Mathlib.Omega.{arith}
-use borrow.Author.Tests.{eqb-true, eqb-false, eq-eqb}
+use borrow.Author.Tests.{eqb-true, eqb-false, eq-eqb, not-true}
 use Rattle.rulebook.specs.declared.Item.{Item}
 use Rattle.plain.specs.Lists.{_is_, some, total}
 use Rattle.rulebook.specs.Ledger.{Holdings}
@@ -14,11 +14,19 @@ use Rattle.rulebook.specs.Shortfall.{NothingShort, debitsShort, anyShort
 use Rattle.rulebook.specs.Selection.{Standing, Entry, notDue, taken, left, tradesOf, withStanding}
 use Rattle.rulebook.specs.Selection.{isLeft, tradesIn, countLeft, fits, pass, onePass, passes}
 use Rattle.rulebook.specs.Selected.{WhereLeft, Moment, spot, Unfit, OwnTest}
-use Rattle.rulebook.proofs.Selection.Missing.{none-short, any-short, covered-same, own-debits}
+use Rattle.rulebook.proofs.Selection.Missing.{SameTotals, none-short, any-short, any-short-same, covered-same, own-debits}
 
 -- left, and it does not fit
 abbrev pub Refused : Holdings → List Item → Entry → Type 0
 Refused h now e = isLeft e.standing ≡ true → fits h now e ≡ false
+
+-- whether an entry fits depends on the totals of those that are in alone
+pub fits-same : (h : Holdings) (now here : List Item) (e : Entry) → SameTotals now here → fits h now e ≡ fits h here e
+unfolding fits
+fits-same h now here e s =
+    ap not
+    (any-short-same h (now ++ tradesOf e) (here ++ tradesOf e)
+    (λ f. omega (arith, s f, total-append f now (tradesOf e), total-append f here (tradesOf e))))
 
 -- ---- one pass
 
@@ -76,10 +84,6 @@ module _ (h : Holdings) where
     where
       covered : anyShort h (now ++ tradesOf e) ≡ false → NothingShort h (r .after)
       covered s = r .covered (none-short h (now ++ tradesOf e) s)
-
-      not-true : (b : Bool) → not b ≡ true → b ≡ false
-      not-true true p = absurd (false≢true p)
-      not-true false p = refl
 
       go : (m : Standing) → e.standing ≡ m → Pass h now (e ∷ rest) (withStanding taken e ∷ rest′)
       go notDue k = absurd (false≢true (simp k at n))

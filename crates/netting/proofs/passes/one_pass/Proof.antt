@@ -44,7 +44,8 @@ module _ (l : tie.At-loop Inv-loop μ-loop) where
 
   abbrev passing :
       (let a = entry l .args in
-      Passing b r (a .due) (a .before) s (l .loop .out) (l .loop .marks) (a .shares .now) (a .held-at .now) (l .loop .held) (a .cents .now) (a .funds-at .now) (l .loop .funds))
+      Passing b r (a .due) (a .before) s (l .loop .out) (l .loop .marks) (a .shares .now) (a .held-at .now) (l .loop .held) (a .cents .now)
+      (a .funds-at .now) (l .loop .funds))
   passing = l .loop .inv r s
 
   -- how many items there are
@@ -86,7 +87,8 @@ lent-funds c =
 -- there is room for its legs
 held-fits :
     (c : tie.After-first Inv-loop μ-loop)
-    → (let l = turn c in Room (l .before .before .items .result) (entry l .args .shares .now) (c .first .result) (viewed (entry l .args .held-at .now) (l .loop .held)))
+    → (let l = turn c in
+    Room (l .before .before .items .result) (entry l .args .shares .now) (c .first .result) (viewed (entry l .args .held-at .now) (l .loop .held)))
 held-fits c =
     let l = turn c in
     subst (λ (n : ℕ). Room n (entry l .args .shares .now) (c .first .result) (viewed (entry l .args .held-at .now) (l .loop .held))) (sym (size l))
@@ -94,7 +96,8 @@ held-fits c =
 
 funds-fits :
     (c : tie.After-first Inv-loop μ-loop)
-    → (let l = turn c in Room (l .before .before .items .result) (entry l .args .cents .now) (c .first .result) (viewed (entry l .args .funds-at .now) (l .loop .funds)))
+    → (let l = turn c in
+    Room (l .before .before .items .result) (entry l .args .cents .now) (c .first .result) (viewed (entry l .args .funds-at .now) (l .loop .funds)))
 funds-fits c =
     let l = turn c in
     subst (λ (n : ℕ). Room n (entry l .args .cents .now) (c .first .result) (viewed (entry l .args .funds-at .now) (l .loop .funds))) (sym (size l))

@@ -79,7 +79,8 @@ loop-again c =
       e .0 .started,
       e .1,
       (λ es d.
-          again (ledger l) _ es (l .loop .marks) (p .one-pass .result) (l .loop .inv .2 es d) (e .0) (l .loop .inv .3) (smaller p) (l .loop .inv .0) (c .if1 .left)),
+          again (ledger l) _ es (l .loop .marks) (p .one-pass .result) (l .loop .inv .2 es d) (e .0) (l .loop .inv .3) (smaller p) (l .loop .inv .0)
+          (c .if1 .left)),
       smaller p,
     )
 

@@ -1,4 +1,4 @@
--- `netting::rounds::drop_short` meets its contract. The invariant: the marks and figures are those of some rounds, and none from `top` on is short. Assumes nothing.
+-- `netting::rounds::drop_short` meets its contract. The invariant: marks and figures are those of some rounds; none from `top` on is short. Assumes nothing.
 use mathlib.Core.Bool.{Bool, false, _&&_, _||_}
 use mathlib.Core.List.{List}
 use mathlib.Core.Path.{_≡_, sym, subst, _∙_}
@@ -217,4 +217,5 @@ drop-short-spec =
     tie.close
     (tie.spec Inv-loop μ-loop (λ c κs. search needs) loop-holds last-short-requires (λ c. search needs) (λ c. search needs) (λ c. search needs)
     (λ c. search needs) returns drop-trade-requires drop-trade-requires-2
-    (λ c κs. let f = found (held-less (c .before .before)) in omega (arith, there f, size (counted (head f)), few (counted (head f)))) next-top-requires loop-less loop-again)
+    (λ c κs. let f = found (held-less (c .before .before)) in omega (arith, there f, size (counted (head f)), few (counted (head f))))
+    next-top-requires loop-less loop-again)
