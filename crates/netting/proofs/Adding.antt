@@ -2,7 +2,7 @@
 use Prim.Native.Nat.{ℕ, suc, _+_, _≤_, _<_}
 use native.Mathlib.Omega.{arith}
 use native.Mathlib.Decide.{ℕ-discrete}
-use mathlib.Core.Bool.{Bool, true, false, not, _&&_, _||_, false≢true, or-false, and-false}
+use mathlib.Core.Bool.{Bool, true, false, not, _&&_, _||_, false≢true, or-true, or-false, and-false}
 use mathlib.Core.List.{List, [], _∷_, _++_, map}
 use mathlib.Core.Logic.{_≢_}
 use mathlib.Core.Path.{_≡_, refl, sym, ap, ap₂, _∙_}
@@ -221,14 +221,10 @@ module _ (b : Ledger) (r : Ready b) (due before : ℕ) (s : Started b due before
           more-as : (k : ℕ) → k < 64 → isOn more k ≡ to (suc j) k
           more-as k l = at (ℕ-discrete k j)
             where
-              or-yes : (x : Bool) → (x || true) ≡ true
-              or-yes true = refl
-              or-yes false = refl
-
               at : Dec (k ≡ j) → isOn more k ≡ to (suc j) k
               at (yes e) =
                   ap (isOn more) e ∙ now
-                  ∙ sym (ap (to (suc j)) e ∙ step-own b.holdings item n out (isOn before) j ∙ rw (is-out, does-fit) (or-yes (to j j)))
+                  ∙ sym (ap (to (suc j)) e ∙ step-own b.holdings item n out (isOn before) j ∙ rw (is-out, does-fit) (or-true (to j j)))
               at (no d) = others k l d ∙ jumped k l ∙ sym (step-other b.holdings item n out (isOn before) j k d)
 
           totals : SameTotals (trades-in ++ item j ∷ []) (withMark (markedOf more b.waiting))

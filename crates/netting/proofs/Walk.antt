@@ -2,7 +2,7 @@
 use Prim.Native.Nat.{ℕ, zero, suc, _+_, _≤_, _<_}
 use native.Mathlib.Omega.{arith}
 use native.Mathlib.Decide.{ℕ-discrete}
-use mathlib.Core.Bool.{Bool, true, false, not, _&&_, _||_, or-false, false≢true}
+use mathlib.Core.Bool.{Bool, true, false, not, _&&_, _||_, or-true, or-false, false≢true}
 use mathlib.Core.List.{List, [], _∷_, _++_, map}
 use mathlib.Core.Logic.{_≢_}
 use mathlib.Core.Path.{_≡_, refl, sym, ap, ap₂, _∙_}
@@ -150,10 +150,6 @@ module _ (h : Holdings) (item : ℕ → Item) (n : ℕ) (out start : ℕ → Boo
         stays n (suc i) i (omega arith) (omega arith) ∙ step-own i
         ∙ ap (λ (x : Bool). x || (out i && fitsAt (walked i) i)) (not-yet i i (omega arith))
 
-    or-yes : (x : Bool) → (x || true) ≡ true
-    or-yes true = refl
-    or-yes false = refl
-
     pub walk :
         (m i : ℕ) → i + m ≡ n → (now : List Item) → SameTotals now (before i)
         → map markOf (pass h now (listFrom ent i m)) ≡ listFrom (λ k. (walked n k, item k)) i m
@@ -171,7 +167,7 @@ module _ (h : Holdings) (item : ℕ → Item) (n : ℕ) (out start : ℕ → Boo
             → map markOf (pass h now (listFrom ent i (suc m))) ≡ listFrom (λ k. (walked n k, item k)) i (suc m)
         go true t ih =
             let head : _≡_ {A = Marked} (true, ent i .item) (walked n i, item i) =
-            ap₂ (λ (x : Bool) (y : Item). (x, y)) (sym (last-on i low ∙ ap (λ (x : Bool). start i || x) t ∙ or-yes (start i))) (f .items i low)
+            ap₂ (λ (x : Bool) (y : Item). (x, y)) (sym (last-on i low ∙ ap (λ (x : Bool). start i || x) t ∙ or-true (start i))) (f .items i low)
             in
             rw (test-same i low now s, t) (ap₂ _∷_ head (ih (now ++ tradesOf (ent i)) (more-totals i low now s t)))
         go false t ih =

@@ -11,10 +11,14 @@ use Rattle.rulebook.specs.Selection.{Entry, onePass, passes, entries, selection
 use Rattle.marks.specs.Marks.{withMark, isOn, markedOf, countOn}
 use Rattle.netting.specs.Rounds.{markOf, dueMark, markRounds}
 
--- the marks are those of the trades whose day has come, and of no place behind the list
+-- no place behind the list has a mark
+abbrev pub NoneBehind : Ledger → (due : ℕ) → Type 0
+NoneBehind b due = (k : ℕ) → length b.waiting ≤ k → k < 64 → isOn due k ≡ false
+
+-- the marks are those of the trades whose day has come, and no others
 pub record Taken (b : Ledger) (due : ℕ) : Type 0 where
   pub marked : markedOf due b.waiting ≡ map markOf (entries b)
-  pub behind : (k : ℕ) → length b.waiting ≤ k → k < 64 → isOn due k ≡ false
+  pub behind : NoneBehind b due
 
 -- no mark is new
 abbrev pub Within : (all some : ℕ) → Type 0
@@ -27,7 +31,7 @@ pub record Netted (b : Ledger) (first left : ℕ) : Type 0 where
 
 -- what the passes start from, and keep: marks of trades that are due and of no others, with which nothing is short
 pub record Started (b : Ledger) (due marks : ℕ) : Type 0 where
-  pub behind : (k : ℕ) → length b.waiting ≤ k → k < 64 → isOn due k ≡ false
+  pub behind : NoneBehind b due
   pub within : Within due marks
   pub covered : NothingShort b.holdings (withMark (markedOf marks b.waiting))
 

@@ -46,7 +46,7 @@ isOut day item = due day item && not item.sent
 pub record NothingLeftFits (book : Ledger) (waiting : List Item) : Type 0 where
   -- with those fixed nothing is short: no account at all, and no member's cash
   pub covered : NothingShort book.holdings (fixed waiting)
-  -- each that is due and not fixed, added alone to them, would make some account or some member's cash short
+  -- and no other that is due fits beside them: with any one more, some account or some member's cash misses something
   pub unfit : Each (λ item. isOut book.day.number item ≡ true → SomethingShort book.holdings (fixed waiting ++ item ∷ [])) waiting
 
 -- and how many these are is what the call counts as left

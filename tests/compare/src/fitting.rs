@@ -85,8 +85,7 @@ impl<'a> Positions<'a> {
 }
 
 /// Holds what a cycle has fixed against the book in which it is marked: nothing
-/// is short with it, and each due trade that is not fixed would make something
-/// short, added to it alone.
+/// is short with it, and with any one more of the due trades something is.
 pub fn check(book: &Book) -> Result<(), String> {
     let is_due = |item: &Item| !item.is_single() && item.settlement_day <= book.day.number;
     let due = (0..book.waiting.len()).filter(|place| is_due(&book.waiting[*place]));
