@@ -1,4 +1,6 @@
 // Form 21, on a book of words: the cycle that is sent is confirmed or declined.
+#![tactic(auto)]
+
 ghost use Rattle.std.specs.Prelude.{List, ◌≡◌, ℕ, ◌*◌, ◌≤◌, length};
 ghost use Rattle.rulebook.specs.Ledger.{put_day, cycle_answered};
 ghost use Rattle.rulebook.specs.Forms.{counts, confirm, decline, answer_cycle};

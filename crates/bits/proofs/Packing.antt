@@ -149,6 +149,8 @@ puts-put ds at w v (w' ∷ ws) (v' ∷ vs) h l hv f =
     ∙ ap (λ (n : ℕ). puts (put ds at (w + w') (v * 2 ^ w' + v')) n ws vs) (add_assoc at w w')
     ∙ puts-put ds at (w + w') (v * 2 ^ w' + v') ws vs h (omega arith) (rw (pow-add 2 w w') (digits_lt hv f.0)) f.1
     ∙ ap (λ (n : ℕ). put ds at n (pack (v * 2 ^ w' + v') ws vs)) (add_assoc w w' (total ws))
+puts-put ds at w v [] (v' ∷ vs) h l hv f = elim f [ ]
+puts-put ds at w v (w' ∷ ws) [] h l hv f = elim f [ ]
 
 pub puts-front : (ds ws vs : List ℕ) → Octets ds → total ws ≤ 8 * length ds → Fit ws vs → puts ds 0 ws vs ≡ put ds 0 (total ws) (pack 0 ws vs)
 unfolding bytes
@@ -157,6 +159,8 @@ puts-front ds (w ∷ ws) (v ∷ vs) h l f =
     ap (λ (n : ℕ). puts (put ds 0 w v) n ws vs) refl
     ∙ puts-put ds 0 w v ws vs h (omega arith) f.0 f.1
     ∙ ap (λ (n : ℕ). put ds 0 (w + total ws) (pack n ws vs)) (sym (ap (λ (x : ℕ). x + v) (zero-mul (2 ^ w)) ∙ zero-add v))
+puts-front ds [] (v ∷ vs) h l f = elim f [ ]
+puts-front ds (w ∷ ws) [] h l f = elim f [ ]
 
 -- what stands above the packed values is what they were packed behind
 pub pack-high : (n : ℕ) (ws vs : List ℕ) → Fit ws vs → pack n ws vs / 2 ^ total ws ≡ n
@@ -164,6 +168,8 @@ pack-high n [] [] f = div-one n
 pack-high n (w ∷ ws) (v ∷ vs) f =
     ap (λ (x : ℕ). pack (n * 2 ^ w + v) ws vs / 2 ^ x) (add_comm w (total ws)) ∙ sym (shr-shr (pack (n * 2 ^ w + v) ws vs) (total ws) w)
     ∙ ap (λ (x : ℕ). x / 2 ^ w) (pack-high (n * 2 ^ w + v) ws vs f.1) ∙ high n w f.0
+pack-high n [] (v ∷ vs) f = elim f [ ]
+pack-high n (w ∷ ws) [] f = elim f [ ]
 
 -- PACKED, THEN CUT: where the first bits are packed values, the fields are the values
 pub cut-pack :
@@ -176,6 +182,8 @@ cut-pack bs at n (w ∷ ws) (v ∷ vs) f l e =
     let g : leading bs (at + w) ≡ n * 2 ^ w + v =
     sym (leading-shr bs (at + w) (total ws) (omega arith)) ∙ ap (λ (x : ℕ). x / 2 ^ total ws) e' ∙ pack-high (n * 2 ^ w + v) ws vs f.1 in
     λ i. (ap (λ (x : ℕ). x % 2 ^ w) g ∙ low n w f.0) i ∷ cut-pack bs (at + w) (n * 2 ^ w + v) ws vs f.1 (omega arith) e' i
+cut-pack bs at n [] (v ∷ vs) f l e = elim f [ ]
+cut-pack bs at n (w ∷ ws) [] f l e = elim f [ ]
 
 -- CUT, THEN PACKED: the fields that are cut pack to the bits that they were cut from
 pub pack-cut : (bs : List ℕ) (at : ℕ) (ws : List ℕ) → at + total ws ≤ 8 * length bs → pack (leading bs at) ws (cut bs at ws) ≡ leading bs (at + total ws)
@@ -190,6 +198,8 @@ pack-cut bs at (w ∷ ws) l =
 pub pack-lt : (n k : ℕ) (ws vs : List ℕ) → n < 2 ^ k → Fit ws vs → pack n ws vs < 2 ^ (k + total ws)
 pack-lt n k [] [] h f = rw add-zero h
 pack-lt n k (w ∷ ws) (v ∷ vs) h f = rw (← add_assoc k w (total ws)) (pack-lt (n * 2 ^ w + v) (k + w) ws vs (rw (pow-add 2 k w) (digits_lt h f.0)) f.1)
+pack-lt n k [] (v ∷ vs) h f = elim f [ ]
+pack-lt n k (w ∷ ws) [] h f = elim f [ ]
 
 -- any layout of n whole_bytes bytes: the bytes of packed values, whatever follows them, are cut to the values
 pub values_back : (n : ℕ) (ws vs rest : List ℕ) → Octets rest → total ws ≡ 8 * n → Fit ws vs → cut (bytes n (pack 0 ws vs) ++ rest) 0 ws ≡ vs
@@ -242,6 +252,8 @@ pub record Rest (all ds ws vs : List ℕ) (at j : ℕ) : Type 0 where
 pub fit_length : (ws vs : List ℕ) → Fit ws vs → length vs ≡ length ws
 fit_length [] [] f = refl
 fit_length (w ∷ ws) (v ∷ vs) f = ap suc (fit_length ws vs f.1)
+fit_length [] (v ∷ vs) f = elim f [ ]
+fit_length (w ∷ ws) [] f = elim f [ ]
 
 pub rest_none : (ds ws vs : List ℕ) → Spans 0 ws → total ws ≤ 65535 → total ws ≤ 8 * length ds → Fit ws vs → Rest (puts ds 0 ws vs) ds ws vs 0 0
 rest_none ds ws vs s t l f = record { upto = omega arith; same = fit_length ws vs f; small = omega arith; room = omega arith; span = s; fit = f; is = refl }

@@ -1,4 +1,6 @@
 // The book: one buffer of words that the caller owns and lends, in regions. A region's functions are lent that region alone.
+#![tactic(auto)]
+
 ghost use Rattle.std.specs.Prelude.{◌≡◌, ◌≤◌, length, get_or};
 ghost use Rattle.rulebook.specs.Ledger.{put_day, put_rate};
 ghost use Rattle.book.specs.Meaning.{day_in, rate_in, ledger_of};

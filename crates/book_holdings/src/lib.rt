@@ -1,4 +1,6 @@
 // The holdings of a book: accounts, cash and securities. Each function is lent the whole book, and hands on one region of it.
+#![tactic(auto)]
+
 ghost use Rattle.std.specs.Prelude.{◌≡◌, false, ◌+◌, ◌^◌, ◌≤◌, ◌<◌, length, get_or};
 ghost use Rattle.rulebook.specs.Ledger.{admitted, outside_of, held_of, cash_total};
 ghost use Rattle.rulebook.specs.Movements as movements;

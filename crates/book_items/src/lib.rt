@@ -1,4 +1,6 @@
 // The waiting list of a book. Each function is lent the whole book, and hands on one region of it.
+#![tactic(auto)]
+
 ghost use Rattle.std.specs.Prelude.{◌≡◌, false, ◌++◌, ◌∷◌, [], ℕ, ◌+◌, ◌≤◌, ◌<◌, length, get_or, set, take};
 ghost use Rattle.rulebook.specs.Matching.{pairs_with};
 ghost use Rattle.rulebook.specs.Waiting.{sent_by, with_sent};

@@ -1,4 +1,6 @@
 // The open requests for paper of a book. Each function is lent the whole book, and hands on one region of it.
+#![tactic(auto)]
+
 ghost use Rattle.std.specs.Prelude.{◌≡◌, ◌≤◌, ◌<◌};
 ghost use Rattle.rulebook.specs.Ledger.{no_request, put_request};
 ghost use Rattle.book.specs.Keys.{Next, ReferenceInRange, RequestInRange, request_limit, is_open};

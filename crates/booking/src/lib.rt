@@ -1,4 +1,6 @@
 // One movement of shares, booked and written as its two rows: from an account to another, or out of custody.
+#![tactic(auto)]
+
 ghost use Rattle.std.specs.Prelude.{[], ◌∷◌, ◌≤◌, length};
 ghost use Rattle.rulebook.specs.Movements.{account, type91, move};
 ghost use Rattle.rulebook.specs.Forms.{moving};

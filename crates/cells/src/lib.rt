@@ -1,4 +1,6 @@
 // The cells of a line, and the numbers in them.
+#![tactic(auto)]
+
 pub mod kinds;
 
 ghost use Rattle.std.specs.Prelude.{◌≡◌, ◌+◌, ◌≤◌, length, drop, take};
@@ -6,7 +8,7 @@ ghost use Rattle.plain.specs.Lists.{◌one_of◌};
 ghost use Rattle.cells.specs.Cells.{quote, blank, front, back, trim, is_empty, strange, number_in};
 
 // The number in a cell, or the kind of refusal.
-#[derive(Drop)]
+#[derive(Clone, Copy)]
 pub enum Number {
     Value(u64),
     Refused(u64),

@@ -1,4 +1,6 @@
 // What the stages of the checking order share.
+#![tactic(auto)]
+
 ghost use Rattle.std.specs.Prelude.{◌≡◌};
 ghost use Rattle.plain.specs.Lists.{if◌then◌else◌, within};
 

@@ -1,4 +1,6 @@
 // Form 17, on a book of words: the items that leave at the end of a day, and the day closed.
+#![tactic(auto)]
+
 ghost use Rattle.std.specs.Prelude.{◌≡◌, ◌≤◌, length};
 ghost use Rattle.rulebook.specs.Forms.{close};
 ghost use Rattle.book.specs.Meaning.{ledger_of};

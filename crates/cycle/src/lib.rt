@@ -1,4 +1,6 @@
 // Form 16, on a book of words: a cycle is sent.
+#![tactic(auto)]
+
 ghost use Rattle.std.specs.Prelude.{List, ◌≡◌, ℕ, ◌-◌, ◌^◌, ◌≤◌, ◌<◌};
 ghost use Rattle.rulebook.specs.Ledger.{put_day, cycle_sent};
 ghost use Rattle.rulebook.specs.Forms.{counts, cycle};

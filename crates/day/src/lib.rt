@@ -1,4 +1,6 @@
 // Form 1, on a book of words, and the minute that every accepted call sets.
+#![tactic(auto)]
+
 ghost use Rattle.std.specs.Prelude.{◌≡◌, List, ℕ};
 ghost use Rattle.rulebook.specs.Forms.{open_day};
 ghost use Rattle.rulebook.specs.Call.{put_minute};

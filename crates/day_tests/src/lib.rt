@@ -1,4 +1,6 @@
 // Refusals 6 to 9, 22 and 23: what the day and the order settle.
+#![tactic(auto)]
+
 ghost use Rattle.std.specs.Prelude.{◌≡◌, get_or, length, ◌≤◌};
 ghost use Rattle.plain.specs.Lists.{first};
 ghost use Rattle.rulebook.specs.Windows.{cycle_minutes, all_run, office_end, by_kind};
@@ -91,7 +93,7 @@ fn cycle_minute(kind: u64, cycles: u64) -> u64
 }
 
 // A window of minutes, both ends inside.
-#[derive(Drop)]
+#[derive(Clone, Copy)]
 struct Window {
     first: u64,
     last: u64,

@@ -1,5 +1,7 @@
 // The printing program: calls the records of standard input one after the other on a fresh book, and prints a line for each, then a line for each
 // security. What it cannot do it tells in one line on standard error.
+#![tactic(auto)]
+
 ghost use Rattle.std.specs.Prelude.{◌≡◌, ◌+◌, ◌^◌, ◌≤◌, ◌<◌, length};
 ghost use Rattle.book.specs.Meaning.{ledger_of};
 ghost use Rattle.book.specs.Stored.{Kept};

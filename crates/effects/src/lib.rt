@@ -1,4 +1,6 @@
 // What an accepted order does, by its form.
+#![tactic(auto)]
+
 ghost use Rattle.rulebook.specs.Forms.{effect};
 ghost use Rattle.book.specs.Meaning.{ledger_of};
 ghost use Rattle.book.specs.Handled.{Handled};

@@ -1,5 +1,7 @@
 // Export: writes the records of standard input as a comma-separated table, every field under its name. What it cannot do it tells in one line on
 // standard error.
+#![tactic(auto)]
+
 ghost use Rattle.std.specs.Prelude.{◌≡◌, ◌+◌, ◌^◌, ◌≤◌, ◌<◌, length, take};
 ghost use Rattle.export.specs.Written.{BLOCK, OUT, HALF, Emptied, BlockWritten, RecordsWritten, TableWritten};
 
@@ -13,7 +15,7 @@ const OUT: usize = 262144;
 const LAST: usize = 1 << 63;
 
 // How far the output buffer is filled with lines that are still to be printed, and whether more may follow.
-#[derive(Drop)]
+#[derive(Clone, Copy)]
 struct Pending {
     end: usize,
     more: bool,

@@ -1,4 +1,6 @@
 // What C and Rust programs call: numbers, and slices as a pointer and a length. include/depository.h declares these functions.
+#![tactic(auto)]
+
 ghost use Rattle.std.specs.Prelude.{◌≡◌, ◌∷◌, [], length};
 ghost use Rattle.rulebook.specs.Ledger as Ledger;
 ghost use Rattle.book.specs.Meaning.{ledger_of};

@@ -1,4 +1,6 @@
 // Refusals 3, 4 and 5, which reader and writer share.
+#![tactic(auto)]
+
 ghost use Rattle.std.specs.Prelude.{◌≡◌, true, not, ◌&&◌, ◌||◌, [], ◌∷◌, map, ◌<◌, get_or};
 ghost use Rattle.std.specs.Int.Bits.{bit_or};
 ghost use Rattle.plain.specs.Lists.{◌is◌, ◌is_not◌, within, first};
@@ -66,7 +68,7 @@ const MOST: [u64; 19] = [
 ];
 
 // What a form says of its fields: those that it uses, and those that may be 0.
-#[derive(Drop)]
+#[derive(Clone, Copy)]
 struct Rule {
     used: u64,
     optional: u64,

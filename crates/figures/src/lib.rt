@@ -1,11 +1,13 @@
 // A call's counts and what a book says, as words in a buffer of the right length.
+#![tactic(auto)]
+
 ghost use Rattle.std.specs.Prelude.{◌≡◌, length};
 ghost use Rattle.figures.specs.Figures.{count_figures, day_figures, security_with, request_figures, state_figures, item_figures};
 
 use rulebook::{Counts, Day, Item, Request, Security, State};
 
 // A waiting item's state: 1 deliver, 2 receive, 3 pair, 4 exchange trade; its references, and which halves of a pair are marked.
-#[derive(Drop)]
+#[derive(Clone, Copy)]
 pub struct StateFigures {
     pub state: u64,
     pub reference: u64,

@@ -1,15 +1,17 @@
 // A record file, walked record by record (RULES 13.2).
+#![tactic(auto)]
+
 ghost use Rattle.std.specs.Prelude.{◌≡◌, ◌<◌, length};
 ghost use Rattle.file.specs.Records.{end_of, next_at};
 
 // A place in a record file.
-#[derive(Drop)]
+#[derive(Clone, Copy)]
 pub struct Cursor {
     pub at: usize,
 }
 
 // What a walk finds at a place: a record, from its start to its end, and the place behind it; or the file's end.
-#[derive(Drop)]
+#[derive(Clone, Copy)]
 pub enum Next {
     Record {
         start: usize,
@@ -46,7 +48,7 @@ pub fn record_at(file: &[u8], cursor: Cursor) -> Next
 }
 
 // A record file, and a place in it.
-#[derive(Drop)]
+#[derive(Clone, Copy)]
 pub struct Walk<'a> {
     pub file: &'a [u8],
     pub at: usize,

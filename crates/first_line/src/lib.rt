@@ -1,4 +1,6 @@
 // The first line of a table: columns are found by their names alone.
+#![tactic(auto)]
+
 ghost use Rattle.std.specs.Prelude.{[], ◌≡◌, ◌≤◌, ◌<◌, length, drop, take};
 ghost use Rattle.plain.specs.Lists.{◌one_of◌};
 ghost use Rattle.text.specs.Parts.{split};

@@ -1,4 +1,6 @@
 // Which waiting items a sent cycle has fixed: its marks, put onto the items and read from them, so that they go with the items wherever their places are.
+#![tactic(auto)]
+
 ghost use Rattle.std.specs.Prelude.{◌≡◌, ◌≤◌, length};
 ghost use Rattle.book.specs.Meaning.{waiting_of};
 ghost use Rattle.book.specs.Stored.{Stored, WaitingBecomes};

@@ -1,5 +1,7 @@
 // Import: makes records of a table of orders. The file is read twice: first to check it, then to write its records to standard output. What is
 // wrong with it is told in one line on standard error.
+#![tactic(auto)]
+
 mod rows;
 mod tables;
 mod telling;
@@ -12,7 +14,7 @@ ghost use Rattle.import.specs.Reading.{FileRead};
 const OUT: usize = 327720;
 
 // What a reading came to: a refusal, which was told; the number behind that of the last line; or something failed, which was told.
-#[derive(Drop)]
+#[derive(Clone, Copy)]
 pub enum Read {
     Refused {
         kind: u64,

@@ -1,4 +1,6 @@
 // The line that is told of a refused table.
+#![tactic(auto)]
+
 ghost use Rattle.std.specs.Prelude.{◌++◌, ◌∷◌, [], map, ◌≡◌, ◌+◌, ◌≤◌, length};
 ghost use Rattle.rulebook.specs.Names.{field_name};
 ghost use Rattle.text.specs.Text.{text, Put};

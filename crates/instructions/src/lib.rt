@@ -1,5 +1,7 @@
 // Forms 12 to 15 and 18, on a book of words: instructions and their matching, exchange trades, cancels, the rate that matching goes by.
 // A form that writes no row is lent no area: what it does is said of any area, which stays as it is.
+#![tactic(auto)]
+
 ghost use Rattle.std.specs.Prelude.{◌≡◌, true, List, [], ◌∷◌, ℕ};
 ghost use Rattle.plain.specs.Lists.{◌one_of◌};
 ghost use Rattle.rulebook.specs.Forms.{instruct, trade, cancel, set_rate};

@@ -1,4 +1,6 @@
 // The rules for one waiting item: who sent it, its marks, how it leaves at close.
+#![tactic(auto)]
+
 ghost use Rattle.std.specs.Prelude.{◌≡◌, ◌<◌, ◌^◌};
 ghost use Rattle.rulebook.specs.Waiting.{item_of, single_of, is_deliver, is_receive, own_reference, sides_of, sender_of, sent_by, not_cancellable, with_state, marked, both_marked, unmarked};
 ghost use Rattle.rulebook.specs.Close.{close_kind};

@@ -1,4 +1,6 @@
 // Refusals 14, 15 and 24: what the order says of an item that waits.
+#![tactic(auto)]
+
 ghost use Rattle.std.specs.Prelude.{◌≡◌};
 ghost use Rattle.plain.specs.Lists.{first};
 ghost use Rattle.rulebook.specs.Refusals.{wrong_reference, wrong_cancel, cancels_sent, item_tests};

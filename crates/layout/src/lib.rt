@@ -1,4 +1,6 @@
 // A record's layout: its fields packed without gaps, and behind them the bits that no field has.
+#![tactic(auto)]
+
 pub mod places;
 
 ghost use Rattle.std.specs.Prelude.{◌≡◌, ◌≤◌, length};

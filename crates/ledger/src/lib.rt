@@ -1,4 +1,6 @@
 // The depository ledger: a fresh book, and one call.
+#![tactic(auto)]
+
 ghost use Rattle.std.specs.Prelude.{◌≡◌};
 ghost use Rattle.rulebook.specs.Record.{read_number};
 ghost use Rattle.book.specs.Stored.{Kept};

@@ -1,4 +1,6 @@
 // The legs of the waiting trades, of shares or of cash, in columns of 64 words: what is debited, what is credited, how many.
+#![tactic(auto)]
+
 pub mod figures;
 
 ghost use Rattle.std.specs.Prelude.{◌≡◌, ◌+◌, ◌*◌, ◌≤◌, ◌<◌, length, set};

@@ -1,4 +1,6 @@
 // Blocks of lines. A line that has no end in its block is left: its bytes start the next block.
+#![tactic(auto)]
+
 ghost use Rattle.std.specs.Prelude.{◌≡◌, ◌+◌, ◌*◌, ◌^◌, ◌≤◌, ◌<◌, length};
 ghost use Rattle.cells.specs.Cells.{whole_lines};
 ghost use Rattle.table.specs.Header.{Known};

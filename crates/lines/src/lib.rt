@@ -1,4 +1,6 @@
 // The lines of the printing program. Each function puts bytes into a buffer from a place on, and answers the place behind them.
+#![tactic(auto)]
+
 ghost use Rattle.std.specs.Prelude.{◌≡◌, ◌+◌, ◌≤◌, length};
 ghost use Rattle.rulebook.specs.Call.{answer_number, answer_rows};
 ghost use Rattle.text.specs.Text.{Put};

@@ -1,4 +1,6 @@
 // Matching: whether a deliver and a receive agree, how far their amounts may differ, and the pair that they make.
+#![tactic(auto)]
+
 ghost use Rattle.std.specs.Prelude.{◌≡◌, ◌&&◌, ◌-◌};
 ghost use Rattle.plain.specs.Lists.{◌is◌, ◌at_most◌};
 ghost use Rattle.rulebook.specs.Matching.{tolerance, shared_terms, agree, pairs_with, pair_of};

@@ -1,4 +1,6 @@
 // Forms 2 to 11, on a book of words: admission, and what moves shares or cash.
+#![tactic(auto)]
+
 ghost use Rattle.std.specs.Prelude.{◌≡◌, ◌≤◌};
 ghost use Rattle.rulebook.specs.Forms.{admit, deposit, withdraw, transfer, pay_in, pay_out};
 ghost use Rattle.book.specs.Meaning.{ledger_of};

@@ -1,4 +1,6 @@
 // What things are called: a name put into a buffer, and what a name means. A number that has no name puts nothing.
+#![tactic(auto)]
+
 mod tables;
 mod types;
 

@@ -1,4 +1,6 @@
 // Which of the trades that a cycle takes it fixes: what each account and each member's cash has with what the trades bring, against what they take.
+#![tactic(auto)]
+
 mod due;
 mod passes;
 mod rounds;
@@ -16,7 +18,7 @@ use legs::figures;
 use marks::Marks;
 
 // The waiting trades that are due, and those of them that a cycle fixes.
-#[derive(Drop)]
+#[derive(Clone, Copy)]
 pub struct Selection {
     pub due: Marks,
     pub fixed: Marks,

@@ -1,5 +1,7 @@
 // Reads every one-bit change of a valid record of each form, and prints how many of the 320 changes
 // read as an order, and how many get 2, 3, 4 and 5.
+#![tactic(auto)]
+
 mod samples;
 
 ghost use Rattle.std.specs.Prelude.{◌≡◌, ◌<◌};

@@ -1,4 +1,6 @@
 // The lines of a table: each is one order.
+#![tactic(auto)]
+
 ghost use Rattle.std.specs.Prelude.{false, ◌≡◌, ◌≤◌, ◌<◌, length};
 ghost use Rattle.plain.specs.Lists.{within};
 ghost use Rattle.rulebook.specs.Record.{fields_of};

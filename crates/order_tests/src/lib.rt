@@ -1,4 +1,6 @@
 // Refusals 10 to 13: what the order says of its security, types, parties and days.
+#![tactic(auto)]
+
 ghost use Rattle.std.specs.Prelude.{◌≡◌, ◌<◌, ◌^◌};
 ghost use Rattle.plain.specs.Lists.{first};
 ghost use Rattle.rulebook.specs.Refusals.{wrong_security, wrong_pair, wrong_parties, wrong_days, order_tests};

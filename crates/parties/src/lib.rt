@@ -1,4 +1,6 @@
 // What an order, an item, a request and a party name: the accounts on both sides, and those that count a security.
+#![tactic(auto)]
+
 ghost use Rattle.std.specs.Prelude.{◌≡◌, ℕ};
 ghost use Rattle.rulebook.specs.Ledger.{account_of, request_account, same_account};
 ghost use Rattle.rulebook.specs.TypeTable.{requested};

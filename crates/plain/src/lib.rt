@@ -1,1 +1,3 @@
 // Plain words that the definitions are written in (specs/), and their laws (proofs/). Nothing in it runs.
+#![tactic(auto)]
+

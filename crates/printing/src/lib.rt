@@ -1,4 +1,6 @@
 // What the printing program makes of records and of a book, as lines in a buffer.
+#![tactic(auto)]
+
 mod answers;
 mod custody;
 

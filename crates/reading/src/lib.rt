@@ -1,4 +1,6 @@
 // What a book says, part by part, to a program that does not know its words.
+#![tactic(auto)]
+
 ghost use Rattle.std.specs.Prelude.{◌≡◌, ◌<◌, length, get_or};
 ghost use Rattle.rulebook.specs.Ledger as Ledger;
 ghost use Rattle.book.specs.Meaning.{ledger_of};

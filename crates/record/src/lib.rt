@@ -1,4 +1,6 @@
 // The record reader and the record writer.
+#![tactic(auto)]
+
 ghost use Rattle.record.specs.Answers.{ReadAs, WrittenAs};
 
 use rulebook::{Order, Read, Written};

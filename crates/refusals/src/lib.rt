@@ -1,4 +1,6 @@
 // Refusals 6 to 24 of an order on a book: the first that applies, in checking order, stage by stage.
+#![tactic(auto)]
+
 ghost use Rattle.std.specs.Prelude.{◌≡◌};
 ghost use Rattle.plain.specs.Lists.{first};
 ghost use Rattle.rulebook.specs.Refusals.{refusals};

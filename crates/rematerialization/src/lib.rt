@@ -1,4 +1,6 @@
 // Forms 19 and 20: a request for paper, and its ending.
+#![tactic(auto)]
+
 ghost use Rattle.std.specs.Prelude.{◌≡◌};
 ghost use Rattle.rulebook.specs.Forms.{new_request, request_paper, end_request};
 ghost use Rattle.book.specs.Meaning.{ledger_of};

@@ -1,4 +1,6 @@
 // Refusals 19 to 21: what the order says of an open request.
+#![tactic(auto)]
+
 ghost use Rattle.std.specs.Prelude.{◌≡◌};
 ghost use Rattle.plain.specs.Lists.{first};
 ghost use Rattle.rulebook.specs.Ledger.{Requests};

@@ -1,4 +1,6 @@
 // The open requests for paper of a book, as 49 words: how many there are, 16 keys, and two words for each. A member and a reference are one key.
+#![tactic(auto)]
+
 ghost use Rattle.std.specs.Prelude.{◌≡◌, ◌≤◌, ◌<◌, length};
 ghost use Rattle.rulebook.specs.Ledger.{no_request, put_request};
 ghost use Rattle.words.specs.Tables.{rows, place_of};

@@ -1,4 +1,6 @@
 // Refusals 16 to 18: whether the book has enough, and room.
+#![tactic(auto)]
+
 mod offers;
 
 ghost use Rattle.std.specs.Prelude.{◌≡◌};

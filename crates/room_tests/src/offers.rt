@@ -11,7 +11,7 @@ ghost use Rattle.room_tests.specs.Offered.{takes_from, brings_to, if_fixed};
 use rulebook::{Account, Item, Shares};
 
 // What trades take from an account, and what they bring to it.
-#[derive(Drop)]
+#[derive(Clone, Copy)]
 struct Flow {
     taken: Shares,
     brought: Shares,

@@ -1,4 +1,6 @@
 // The lines of a statement's rows: of a posting row, and of a notice. Each has at most 512 bytes.
+#![tactic(auto)]
+
 ghost use Rattle.std.specs.Prelude.{◌+◌, ◌≤◌, length};
 ghost use Rattle.text.specs.Text.{Put};
 ghost use Rattle.row_lines.specs.Rows.{side_word, cash_part, shares_part, posting_line, notice_line};

@@ -1,5 +1,7 @@
 // Posting rows and notices, 16 bytes each, and the counts that are answered with them. The area that a function is lent starts at the next free
 // byte; the bytes after its rows are kept.
+#![tactic(auto)]
+
 mod reading;
 
 ghost use Rattle.std.specs.Prelude.{◌≡◌, [], ◌∷◌, ◌++◌, ◌≤◌, length, drop};

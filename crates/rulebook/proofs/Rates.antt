@@ -28,7 +28,7 @@ use Rattle.rulebook.proofs.ByCall.{by_answer, effect-at}
 last_after : (before : ℕ) (first later : List Accepted) → last_rate before (first ++ later) ≡ last_rate (last_rate before first) later
 unfolding last_rate
 last_after before [] later = refl
-last_after before (c ∷ rest) later = last_after _ rest later
+last_after before (c ∷ rest) later = last_after (if c.order.form is 18 then c.order.quantity.0 else before) rest later
 
 call_rate : (b : Ledger) (c : Call) → (result_of b c).book.rate ≡ last_rate b.rate (accepted_of (result_of b c).answer (record_in c) (result_of b c).area)
 unfolding last_rate put_minute put_day

@@ -129,8 +129,8 @@ record EndsSome (credited : ℕ) : Type 0 where
 abbrev ends_some : ℕ → Bool
 ends_some credited = 1 at_most credited && (credited at_most 255 && not (wrong_types 20 0 credited))
 
-ends_some : (credited : ℕ) → ends_some credited ≡ true → EndsSome credited
-ends_some credited e =
+ends_some_lem : (credited : ℕ) → ends_some credited ≡ true → EndsSome credited
+ends_some_lem credited e =
     let first = both (1 at_most credited) (credited at_most 255 && not (wrong_types 20 0 credited)) e in
     let second = both (credited at_most 255) (not (wrong_types 20 0 credited)) first.1 in
     record { least = first.0; most = second.0; right = second.1 }
@@ -138,13 +138,13 @@ ends_some credited e =
 outside-ends : (credited : ℕ) → is_outside credited ≡ true → EndsSome credited
 unfolding is_outside wrong_types is_paper listed type_row type_table
 outside-ends credited e =
-    ends_some credited
+    ends_some_lem credited
     (not-false (ends_some credited)
     (not-second (is_outside credited) (not (ends_some credited)) (no_row (λ t row. row.state is outside && not (ends_some t)) refl credited refl) e))
 
 paper_ends : (came credited : ℕ) → become on_paper_as came credited ≡ true → EndsSome credited
 unfolding is_outside wrong_types is_paper listed type_row type_table
-paper_ends came credited e = ends_some credited (pair_of on_paper_as (λ row t. ends_some t) refl came credited e)
+paper_ends came credited e = ends_some_lem credited (pair_of on_paper_as (λ row t. ends_some t) refl came credited e)
 
 module _ (b : Ledger) (m n c : ℕ) (area : List ℕ) (p : Premise b) (d : LaterDay b m n) (room : 4_096 ≤ length area) (t : EndsSome c) where
   abbrev order : Order

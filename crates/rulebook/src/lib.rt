@@ -1,19 +1,21 @@
 // The types of the depository ledger. The definitions in specs/ speak of these under specs.declared.
+#![tactic(auto)]
+
 
 // A count of shares.
-#[derive(Drop)]
+#[derive(Clone, Copy)]
 pub struct Shares(pub u64);
 
 // An amount of cash, in hundredths.
-#[derive(Drop)]
+#[derive(Clone, Copy)]
 pub struct Cents(pub u64);
 
 // A rate: hundredths of LBP for one USD. It is neither shares nor cash.
-#[derive(Drop)]
+#[derive(Clone, Copy)]
 pub struct Rate(pub u64);
 
 // One side of an order: a member, an account type and a shareholder. (`type` is a word of the language.)
-#[derive(Drop)]
+#[derive(Clone, Copy)]
 pub struct Party {
     pub member: u64,
     pub typ: u64,
@@ -21,7 +23,7 @@ pub struct Party {
 }
 
 // An account: a party in a security.
-#[derive(Drop)]
+#[derive(Clone, Copy)]
 pub struct Account {
     pub security: u64,
     pub member: u64,
@@ -30,7 +32,7 @@ pub struct Account {
 }
 
 // A record's fields.
-#[derive(Drop)]
+#[derive(Clone, Copy)]
 pub struct Order {
     pub form: u64,
     pub minute: u64,
@@ -51,21 +53,21 @@ pub struct Order {
 }
 
 // What the record reader answers.
-#[derive(Drop)]
+#[derive(Clone, Copy)]
 pub enum Read {
     Order(Order),
     Refused(u64),
 }
 
 // What the record writer answers.
-#[derive(Drop)]
+#[derive(Clone, Copy)]
 pub enum Written {
     Record,
     Refused(u64),
 }
 
 // What an accepted call answers with (RULES 1.8): rows, four counts of sides, and trades that a cycle leaves.
-#[derive(Drop)]
+#[derive(Clone, Copy)]
 pub struct Counts {
     pub rows: u64,
     pub settled: u64,
@@ -76,7 +78,7 @@ pub struct Counts {
 }
 
 // What a call answers.
-#[derive(Drop)]
+#[derive(Clone, Copy)]
 pub enum Answer {
     Accepted(Counts),
     Refused(u64),
@@ -84,7 +86,7 @@ pub enum Answer {
 
 // The day (RULES 4): its number, whether it is open, its kind, how many cycles have run, the last minute, and whether a cycle is sent that nobody has
 // answered yet.
-#[derive(Drop)]
+#[derive(Clone, Copy)]
 pub struct Day {
     pub number: u64,
     pub opened: bool,
@@ -95,7 +97,7 @@ pub struct Day {
 }
 
 // An admitted security (RULES 3.1, 3.19): its code, how many shares of it are issued, are outside, and are held in its accounts.
-#[derive(Drop)]
+#[derive(Clone, Copy)]
 pub struct Security {
     pub code: u64,
     pub issued: Shares,
@@ -104,7 +106,7 @@ pub struct Security {
 }
 
 // A request for paper (RULES 3.15): of which shares, the type that they came from, how many, and the day on which it was made.
-#[derive(Drop)]
+#[derive(Clone, Copy)]
 pub struct Request {
     pub security: u64,
     pub typ: u64,
@@ -114,7 +116,7 @@ pub struct Request {
 }
 
 // The state of a waiting item (RULES 1.19): a single is a deliver or else a receive.
-#[derive(Drop)]
+#[derive(Clone, Copy)]
 pub enum State {
     Single {
         delivers: bool,
@@ -132,7 +134,7 @@ pub enum State {
 }
 
 // A waiting item, and whether a sent cycle has fixed it (RULES 9.19).
-#[derive(Drop)]
+#[derive(Clone, Copy)]
 pub struct Item {
     pub security: u64,
     pub currency: u64,
@@ -147,7 +149,7 @@ pub struct Item {
 }
 
 // A posting row. `what` is the security or the currency, and `number` the quantity or the amount.
-#[derive(Drop)]
+#[derive(Clone, Copy)]
 pub struct Posting {
     pub credit: u64,
     pub cash: u64,
@@ -159,7 +161,7 @@ pub struct Posting {
 }
 
 // A notice row: why an item left, its members and their references.
-#[derive(Drop)]
+#[derive(Clone, Copy)]
 pub struct Notice {
     pub kind: u64,
     pub deliverer: u64,

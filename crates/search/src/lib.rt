@@ -1,4 +1,6 @@
 // Searches in the waiting list: the first item that a test finds.
+#![tactic(auto)]
+
 ghost use Rattle.std.specs.Prelude.{◌≡◌, ◌<◌, length, get_or};
 ghost use Rattle.rulebook.specs.Waiting.{sent_by};
 ghost use Rattle.rulebook.specs.Matching.{tolerance, pairs_with};

@@ -1,4 +1,6 @@
 // The securities of a book, as 129 words: how many there are, 32 codes, 32 issued counts, 32 outside counts, 32 held counts, in order of admission.
+#![tactic(auto)]
+
 ghost use Rattle.std.specs.Prelude.{◌≡◌, false, ◌++◌, ◌∷◌, [], ◌+◌, ◌^◌, ◌≤◌, ◌<◌, get_or};
 ghost use Rattle.rulebook.specs.Ledger.{Holdings, admitted, outside_of, held_of, new_security, with_outside};
 ghost use Rattle.words.specs.Tables.{rows};

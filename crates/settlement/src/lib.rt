@@ -1,4 +1,6 @@
 // The settlement of marked trades, on a book of words: their movements, their rows, and the waiting list without them.
+#![tactic(auto)]
+
 mod booking;
 mod leaving;
 mod postings;

@@ -1,5 +1,7 @@
 // The handover sheet: calls the records of standard input one after the other on a fresh book, and prints the book that they lead to; with the word
 // `html` as a page. What it cannot do it tells in one line on standard error.
+#![tactic(auto)]
+
 ghost use Rattle.std.specs.Prelude.{◌≡◌, ◌+◌, ◌^◌, ◌<◌, length};
 ghost use Rattle.book.specs.Meaning.{ledger_of};
 ghost use Rattle.book.specs.Stored.{Kept};

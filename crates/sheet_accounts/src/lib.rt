@@ -1,4 +1,6 @@
 // The accounts whose shares are pledged, blocked or in transit (RULES 18.5): lines of text, or a table of a page.
+#![tactic(auto)]
+
 mod line;
 mod rows;
 

@@ -1,4 +1,6 @@
 // The members' cash (RULES 18.6): lines of text, or a table of a page.
+#![tactic(auto)]
+
 mod line;
 mod rows;
 

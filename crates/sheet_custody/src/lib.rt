@@ -1,4 +1,6 @@
 // What is issued, held and outside of each security (RULES 18.8): lines of text, or a table of a page.
+#![tactic(auto)]
+
 mod line;
 mod rows;
 

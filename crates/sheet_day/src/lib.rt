@@ -1,4 +1,6 @@
 // The sheet's heading and the day: lines of text, or a heading and a table of a page.
+#![tactic(auto)]
+
 mod line;
 
 ghost use Rattle.std.specs.Prelude.{◌+◌, ◌≤◌, length};

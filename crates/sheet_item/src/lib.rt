@@ -1,4 +1,6 @@
 // A waiting item's line.
+#![tactic(auto)]
+
 ghost use Rattle.std.specs.Prelude.{[], ◌+◌, ◌≤◌, length};
 ghost use Rattle.text.specs.Text.{Put};
 ghost use Rattle.text_or_page.specs.Written.{written};

@@ -1,4 +1,6 @@
 // The open requests for paper (RULES 18.7): lines of text, or a table of a page.
+#![tactic(auto)]
+
 mod line;
 mod rows;
 

@@ -1,4 +1,6 @@
 // The waiting items (RULES 18.4): lines of text, or a table of a page.
+#![tactic(auto)]
+
 mod rows;
 
 ghost use Rattle.std.specs.Prelude.{◌+◌, ◌≤◌, length};

@@ -1,4 +1,6 @@
 // Slots: the figures of what a leg debits stand at the last leg that debits the same, so that a change of them is one store.
+#![tactic(auto)]
+
 ghost use Rattle.std.specs.Prelude.{◌≡◌, ◌+◌, ◌≤◌, ◌<◌, length, get_or, set};
 ghost use Rattle.legs.specs.Slots.{slot_of, Slots};
 ghost use Rattle.slots.specs.Links.{bucket_of, Unlinked, Linked};

@@ -1,5 +1,7 @@
 // The statement: calls the records of standard input one after the other on a fresh book, and prints for each its answer in words, then a line for
 // each row that its call wrote. What it cannot do it tells in one line on standard error.
+#![tactic(auto)]
+
 ghost use Rattle.std.specs.Prelude.{◌≡◌, ◌+◌, ◌^◌, ◌≤◌, ◌<◌, length, take};
 ghost use Rattle.book.specs.Stored.{Kept};
 ghost use Rattle.statement.specs.Read.{BLOCK, OUT, FileStated, BlockStated, FileRead};
@@ -14,7 +16,7 @@ const OUT: usize = 524288;
 const LAST: u64 = 1 << 63;
 
 // How far the output buffer is filled with lines that are still to be printed, and whether more may follow.
-#[derive(Drop)]
+#[derive(Clone, Copy)]
 struct Pending {
     end: usize,
     more: bool,

@@ -1,4 +1,6 @@
 // The lines of a statement: of an answer, and of the rows that a call wrote. Each has at most 512 bytes.
+#![tactic(auto)]
+
 mod told;
 
 ghost use Rattle.std.specs.Prelude.{◌+◌, ◌≤◌, length};

@@ -15,7 +15,7 @@ use rulebook::{Answer, Read};
 pub const RECORD: usize = 131584;
 
 // How far a walk over a file came: the end of its lines in the buffer, the place behind the last record, and the number of the next.
-#[derive(Drop)]
+#[derive(Clone, Copy)]
 pub struct Part {
     pub end: usize,
     pub next: usize,

@@ -1,10 +1,12 @@
 // Standard input, output and error, as the programs use them. A complaint is what a program says, before the system's reason, of what it could not do.
+#![tactic(auto)]
+
 ghost use Rattle.std.specs.Prelude.{length};
 ghost use Rattle.streams.specs.Input.{Within, RecordsWithin};
 
 // What a filling of a buffer brought: how many bytes; whether the buffer is full, so that more may follow; whether the input ended. Where neither, a
 // read has failed.
-#[derive(Drop)]
+#[derive(Clone, Copy)]
 pub struct Filled {
     pub size: usize,
     pub more: bool,

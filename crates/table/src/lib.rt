@@ -1,8 +1,10 @@
 // The types that the definitions of a table are written with. Nothing here runs.
+#![tactic(auto)]
+
 use rulebook::Order;
 
 // The columns of a table: where they are good, the field's place for each of them; else a kind of refusal and its column.
-#[derive(Drop)]
+#[derive(Clone, Copy)]
 pub struct Columns {
     pub good: bool,
     pub kind: u64,
@@ -12,7 +14,7 @@ pub struct Columns {
 }
 
 // The fields of a line: where they are good, the values; else a kind of refusal, its column and its field's place.
-#[derive(Drop)]
+#[derive(Clone, Copy)]
 pub struct Fields {
     pub good: bool,
     pub kind: u64,
@@ -22,7 +24,7 @@ pub struct Fields {
 }
 
 // A line's order, or why there is none.
-#[derive(Drop)]
+#[derive(Clone, Copy)]
 pub enum Row {
     Order(Order),
     Refused {
@@ -34,7 +36,7 @@ pub enum Row {
 
 // What a line does to a walk over lines: it is refused, or the first of the empty lines just before the next one, 0 for none, and how many
 // bytes were written.
-#[derive(Drop)]
+#[derive(Clone, Copy)]
 pub enum Step {
     Refused {
         kind: u64,
@@ -50,7 +52,7 @@ pub enum Step {
 
 // What a block's lines answer: the first refusal; or how many bytes they take, the number of the next line, the first of the empty lines just
 // before it, 0 for none, and how many bytes were written.
-#[derive(Drop)]
+#[derive(Clone, Copy)]
 pub enum Checked {
     Refused {
         kind: u64,

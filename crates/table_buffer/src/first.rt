@@ -6,7 +6,7 @@ use cells::kinds;
 use table::Columns;
 
 // Where the line starts and ends, where the lines behind it start, and its columns.
-#[derive(Drop)]
+#[derive(Clone, Copy)]
 pub struct First {
     pub start: usize,
     pub end: usize,

@@ -1,4 +1,6 @@
 // The lines of the table that records say.
+#![tactic(auto)]
+
 ghost use Rattle.std.specs.Prelude.{◌+◌, ◌*◌, ◌≤◌, length};
 ghost use Rattle.rulebook.specs.Record.{read_of};
 ghost use Rattle.text.specs.Text.{Put};

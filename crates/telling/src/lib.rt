@@ -1,4 +1,6 @@
 // What a book says, put into words that are lent, behind a look at all lengths.
+#![tactic(auto)]
+
 ghost use Rattle.std.specs.Prelude.{◌≡◌, ◌∷◌, []};
 ghost use Rattle.rulebook.specs.Ledger as Ledger;
 ghost use Rattle.book.specs.Meaning.{ledger_of};

@@ -1,4 +1,6 @@
 // Texts as bytes. A function that puts bytes into a buffer puts them from a place on, and answers the place behind them.
+#![tactic(auto)]
+
 mod parts;
 
 ghost use Rattle.std.specs.Prelude.{◌++◌, ◌+◌, ◌≤◌, ◌<◌, length};

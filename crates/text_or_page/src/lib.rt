@@ -1,4 +1,6 @@
 // A sheet is lines of text, or a page of tables. Each function puts bytes into a buffer from a place on, and answers the place behind them.
+#![tactic(auto)]
+
 ghost use Rattle.std.specs.Prelude.{[], ◌∷◌, ◌+◌, ◌*◌, ◌≤◌, length};
 ghost use Rattle.plain.specs.Lists.{if◌then◌else◌};
 ghost use Rattle.text.specs.Text.{Put};

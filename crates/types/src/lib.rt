@@ -1,4 +1,6 @@
 // What the rules ask of account types, and of the pairs of types between which shares may move. The table answers.
+#![tactic(auto)]
+
 ghost use Rattle.std.specs.Prelude.{◌≡◌, not, ◌&&◌, ◌<◌, ◌^◌, ◌%◌, ◌/◌};
 ghost use Rattle.rulebook.specs.TypeTable.{pledged_as, blocked_as, type_row};
 ghost use Rattle.rulebook.specs.AccountTypes.{is_free, alike, is_outside, become, has_paper, is_paper, ends};

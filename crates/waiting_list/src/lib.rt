@@ -1,4 +1,6 @@
 // The waiting list of a book, as 1025 words: how many items there are, and 64 rows of 16 words, in order of arrival.
+#![tactic(auto)]
+
 ghost use Rattle.std.specs.Prelude.{◌≡◌, ◌++◌, ◌∷◌, [], false, ℕ, ◌+◌, ◌*◌, ◌≤◌, ◌<◌, length, get_or, set, take};
 ghost use Rattle.rulebook.specs.Waiting.{sent_by, with_sent};
 ghost use Rattle.rulebook.specs.Matching.{pairs_with};
@@ -9,7 +11,7 @@ ghost use Rattle.waiting_list.specs.Waiting.{Sized, state_of, state_words, item_
 use rulebook::{Cents, Item, Party, Shares, State};
 
 // A state in four words: which it is, its references, its marks.
-#[derive(Drop)]
+#[derive(Clone, Copy)]
 pub struct StateWords {
     pub tag: u64,
     pub first: u64,

@@ -1,4 +1,6 @@
 // Lines: a pattern, and the numbers that its signs stand for.
+#![tactic(auto)]
+
 ghost use Rattle.std.specs.Prelude.{true, ◌≡◌, ◌+◌, ◌*◌, ◌≤◌, length, drop};
 ghost use Rattle.text.specs.Text.{Put};
 ghost use Rattle.wording.specs.Fill.{is_sign, said, part, left, fill};
@@ -34,7 +36,7 @@ fn put_said(out: &mut [u8], at: usize, sign: u8, n: u64) -> usize
 }
 
 // The place behind what was put, and that of the next number.
-#[derive(Drop)]
+#[derive(Clone, Copy)]
 struct Placed {
     next: usize,
     number: usize,

@@ -1,4 +1,6 @@
 // What the regions of a book of words need: a table's rows, a search by key, keys in ascending order, copies of words.
+#![tactic(auto)]
+
 mod order;
 
 ghost use Rattle.std.specs.Prelude.{◌≡◌, ◌+◌, ◌-◌, ◌≤◌, ◌<◌, length, take, drop};
@@ -10,7 +12,7 @@ ghost use Rattle.words.specs.Tables.{rows, is_key, place_of, value_of, KeysOnce}
 pub use order::next_key;
 
 // What a search for a place finds.
-#[derive(Drop)]
+#[derive(Clone, Copy)]
 pub enum Found {
     At(usize),
     Nothing,

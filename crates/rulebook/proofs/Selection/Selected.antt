@@ -67,10 +67,10 @@ sorted_total f (x ∷ rest) e = go x.standing refl e.0 (sorted_total f rest e.1)
         (m : Standing) → x.standing ≡ m → IfLeft Full (trades_of x) m
         → total f (trades_in rest) + total (λ l. f l.trade) (trades_left rest) ≡ over_due f (map spot rest)
         → total f (trades_in (x ∷ rest)) + total (λ l. f l.trade) (trades_left (x ∷ rest)) ≡ over_due f (map spot (x ∷ rest))
-    go not_due k s ih = simp k (omega arith)
-    go taken k s ih = simp k (omega (arith, total-append f (trades_of x) (trades_in rest)))
+    go not_due k s ih = rw k (omega arith)
+    go taken k s ih = rw k (omega (arith, total-append f (trades_of x) (trades_in rest)))
     go (left lacked) k s ih =
-        simp (k, total-append (λ (l : LeftTrade). f l.trade) (with_lacks (trades_of x) lacked) (trades_left rest))
+        rw (k, total-append (λ (l : LeftTrade). f l.trade) (with_lacks (trades_of x) lacked) (trades_left rest))
         (omega (arith, lacked_total f (trades_of x) lacked s))
 
 nothing_left : (es : List Entry) → NoneLeft es → trades_left es ≡ []

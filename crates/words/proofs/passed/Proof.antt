@@ -9,31 +9,31 @@ use Rattle.words.proofs.Tables.{four-passed}
 use Rattle.words.proofs.passed.Statement.{statement}
 use Rattle.words.proofs.passed.Tie as tie
 
-abbrev invariant-loop : tie.invariant-loop
+abbrev invariant-loop : tie.invariant-loop-i
 invariant-loop table key n i₀ i = (i ≤ n) × (first_from (is_key table key) 0 n ≡ first_from (is_key table key) i (n - i))
 
-abbrev decreases-loop : tie.decreases-loop
+abbrev decreases-loop : tie.decreases-loop-i
 decreases-loop table key n i₀ i = n - i
 
-loop-again : tie.Need-loop-preserved invariant-loop decreases-loop
+loop-again : tie.Need-loop-i-preserved invariant-loop decreases-loop
 loop-again c =
     let second = c.before.before.before.before in
     let turn = second.before.before.before.before in
-    let l = turn.before.loop in
+    let l = turn.before.loop-i in
     let a = turn.before.before.args in (
       omega arith,
       l.invariant.1
-          ∙ four-passed a.table.now a.key a.n l.i turn.loop-test.true
-          second.before.before.if1.false second.if2.false c.before.before.if3.false c.if4.false,
+          ∙ four-passed a.table.now a.key a.n l.i turn.loop-i-test.true
+          second.before.before.if-table-i.false second.if-table-i-2.false c.before.before.if-table-i-3.false c.if-table-i-4.false,
     )
 
-pub passed-spec : {M : Type 1} → statement M
-passed-spec =
+pub passed_spec : {M : Type 1} → statement M
+passed_spec =
     tie.close
     (tie.spec invariant-loop decreases-loop (λ c. (omega arith, first-start (is_key c.args.table.now c.args.key) c.args.n)) (λ c. omega arith)
-    (λ c. omega arith) (λ c. omega arith) (λ c. omega arith) (λ c. c.before.before.before.loop.invariant) (λ c. omega arith) (λ c. omega arith)
-    (λ c. omega arith) (λ c. c.before.before.before.before.before.loop.invariant) (λ c. omega arith) (λ c. omega arith) (λ c. omega arith)
-    (λ c. let first = c.before.before.before.before in first.before.before.before.loop.invariant) (λ c. omega arith) (λ c. omega arith) (λ c. omega arith)
-    (λ c. let first = c.before.before.before.before.before.before in first.before.before.before.loop.invariant) (λ c. omega arith) (λ c. omega arith)
+    (λ c. omega arith) (λ c. omega arith) (λ c. omega arith) (λ c. c.before.before.before.loop-i.invariant) (λ c. omega arith) (λ c. omega arith)
+    (λ c. omega arith) (λ c. c.before.before.before.before.before.loop-i.invariant) (λ c. omega arith) (λ c. omega arith) (λ c. omega arith)
+    (λ c. let first = c.before.before.before.before in first.before.before.before.loop-i.invariant) (λ c. omega arith) (λ c. omega arith) (λ c. omega arith)
+    (λ c. let first = c.before.before.before.before.before.before in first.before.before.before.loop-i.invariant) (λ c. omega arith) (λ c. omega arith)
     loop-again
-    (λ c. c.before.loop.invariant))
+    (λ c. c.before.loop-i.invariant))

@@ -10,16 +10,16 @@ use Rattle.words.proofs.Regions.{copy_none, copy_more, copy_ahead, paste_mid}
 use Rattle.words.proofs.shift_down.Statement.{statement}
 use Rattle.words.proofs.shift_down.Tie as tie
 
-abbrev invariant-loop : tie.invariant-loop
+abbrev invariant-loop : tie.invariant-loop-j
 invariant-loop w₀ at gap n j₀ w j = (j ≤ n) × (length w ≡ length w₀) × (w ≡ paste w₀ at (drop (at + gap) w₀) j)
 
-abbrev decreases-loop : tie.decreases-loop
+abbrev decreases-loop : tie.decreases-loop-j
 decreases-loop w₀ at gap n j₀ w j = n - j
 
-loop-again : tie.Need-loop-preserved invariant-loop decreases-loop
+loop-again : tie.Need-loop-j-preserved invariant-loop decreases-loop
 loop-again c =
     let a = c.before.before.before.args in
-    let l = c.before.before.loop in
+    let l = c.before.before.loop-j in
     let w : List ℕ = a.w.now in
     let s : List ℕ = drop (a.at + a.gap) w in
     let long : l.j < length s = rw length-drop (omega arith) in
@@ -32,13 +32,13 @@ loop-again c =
 returns : tie.Need-returns invariant-loop decreases-loop
 returns c =
     let a = c.before.before.args in
-    let l = c.before.loop in
+    let l = c.before.loop-j in
     let all : l.j ≡ a.n = omega arith in
     l.invariant.2 ∙ ap (paste a.w.now a.at (drop (a.at + a.gap) a.w.now)) all
     ∙ paste_mid a.w.now a.at (drop (a.at + a.gap) a.w.now) a.n
 
-pub shift-down-spec : {M : Type 1} → statement M
-shift-down-spec =
+pub shift_down_spec : {M : Type 1} → statement M
+shift_down_spec =
     tie.close
     (tie.spec invariant-loop decreases-loop
     (λ c. (omega arith, search rules, copy_none c.args.w.now c.args.at (drop (c.args.at + c.args.gap) c.args.w.now))) (λ c. omega arith)

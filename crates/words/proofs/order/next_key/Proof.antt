@@ -9,30 +9,30 @@ use Rattle.words.proofs.NextKeys.{least-none, least_more}
 use Rattle.words.proofs.order.next_key.Statement.{statement}
 use Rattle.words.proofs.order.next_key.Tie as tie
 
-abbrev invariant-loop : tie.invariant-loop
+abbrev invariant-loop : tie.invariant-loop-i
 invariant-loop table from limit n least₀ i₀ least i = (i ≤ n) × LeastOf table i from limit least
 
-abbrev decreases-loop : tie.decreases-loop
+abbrev decreases-loop : tie.decreases-loop-i
 decreases-loop table from limit n least₀ i₀ least i = n - i
 
-loop-holds : tie.Need-loop-init invariant-loop decreases-loop
+loop-holds : tie.Need-loop-i-init invariant-loop decreases-loop
 loop-holds c = (omega arith, least-none _ _ _ (search rules))
 
-loop-again : tie.Need-loop-preserved invariant-loop decreases-loop
+loop-again : tie.Need-loop-i-preserved invariant-loop decreases-loop
 loop-again c =
     let turn = c.before.before.before in
     let a = turn.before.before.before.args in
-    (omega arith, rw c.lesser.ensures (least_more a.table.now a.from a.limit turn.loop.i turn.loop.least turn.loop.invariant.1))
+    (omega arith, rw c.lesser-least.ensures (least_more a.table.now a.from a.limit turn.loop-i.i turn.loop-i.least turn.loop-i.invariant.1))
 
 returns : tie.Need-returns invariant-loop decreases-loop
 returns c =
     let turn = c.before in
-    let all : turn.loop.i ≡ rows turn.before.before.before.args.table.now = omega arith in
+    let all : turn.loop-i.i ≡ rows turn.before.before.before.args.table.now = omega arith in
     let a = turn.before.before.before.args in
-    subst (λ (n : ℕ). LeastOf a.table.now n a.from a.limit turn.loop.least) all turn.loop.invariant.1
+    subst (λ (n : ℕ). LeastOf a.table.now n a.from a.limit turn.loop-i.least) all turn.loop-i.invariant.1
 
-pub next-key-spec : {M : Type 1} → statement M
-next-key-spec =
+pub next_key_spec : {M : Type 1} → statement M
+next_key_spec =
     tie.close
     (tie.spec
     invariant-loop
