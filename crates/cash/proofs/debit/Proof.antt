@@ -8,16 +8,16 @@ use Rattle.cash.proofs.debit.Tie as tie
 returns : tie.Need-returns
 returns c =
     let s = c.before.before.before.before in debited s.args.cash.now s.requires.0 s.args.member s.args.currency s.requires.1
-    c.before.before.place_of.result c.before.before.place_of.ensures s.args.amount.0
+    c.before.before.place_of-at.result c.before.before.place_of-at.ensures s.args.amount.0
 
-pub debit-spec : {M : Type 1} → statement M
-debit-spec =
+pub debit_spec : {M : Type 1} → statement M
+debit_spec =
     tie.close
     (tie.spec (λ c κs. search rules) (λ c. search rules) (λ c. search rules)
     (λ c. let s = c.before.before.before.before in omega (
       arith,
       s.requires.2,
-      amount-at s.args.cash.now s.requires.0 s.args.member s.args.currency s.requires.1 c.before.before.place_of.result
-          c.before.before.place_of.ensures,
+      amount-at s.args.cash.now s.requires.0 s.args.member s.args.currency s.requires.1 c.before.before.place_of-at.result
+          c.before.before.place_of-at.ensures,
     ))
     (λ c. search rules) (λ c. search rules) (λ c. search rules) returns)

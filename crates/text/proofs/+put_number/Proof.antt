@@ -22,8 +22,8 @@ put-number-at t = and 1 put-number-kinds.ps (is 1 put-number-kinds.ps μ-put-num
 abbrev put-number-below : ℕ → In 1 put-number-kinds.ps
 put-number-below t = and 1 put-number-kinds.ps (falls 1 put-number-kinds.ps ◌<◌ μ-put-number t) put-number.Pre
 
-pub +put-number-spec : {M : Type 1} → statement M
-+put-number-spec =
+pub +put_number_spec : {M : Type 1} → statement M
++put_number_spec =
     close
     μ-put-number
     (λ t. put-number-lts.spec
@@ -32,19 +32,19 @@ pub +put-number-spec : {M : Type 1} → statement M
     put-number.Post
     (λ c κs. search rules)
     (λ c. search rules)
-    (λ c. (rw (decimal-one c.before.before.before.before.before.before.args.n (search rules)) c.before.before.put-digit.ensures, search rules))
+    (λ c. (rw (decimal-one c.before.before.before.before.before.before.args.n (search rules)) c.before.before.put_digit.ensures, search rules))
     (λ c κs. (omega arith, search rules))
     (λ c κs.
     let front = c.before.before.before in
     let start = front.before.before.before.before in
     let short = front-short start.args.n start.ranges.n.fits (search rules) in
-    (omega (arith, front.put-number.ensures.0.place, front.put-number.auto.0), search rules))
+    (omega (arith, front.put_number-next.ensures.0.place, front.put_number-next.auto.out), search rules))
     (λ c. search rules)
     (λ c.
     let front = c.before.before.before.before.before.before in
     let start = front.before.before.before.before in
     let short = front-short start.args.n start.ranges.n.fits (search rules) in
-    let both = put_then front.put-number.ensures.0 c.before.before.put-digit2.ensures in (
+    let both = put_then front.put_number-next.ensures.0 c.before.before.put_digit-2.ensures in (
       rw (decimal-more start.args.n (search rules)) both,
-      omega (arith, front.put-number.ensures.0.place, c.before.before.put-digit2.ensures.place),
+      omega (arith, front.put_number-next.ensures.0.place, c.before.before.put_digit-2.ensures.place),
     )))

@@ -8,5 +8,5 @@ use Rattle.text.proofs.put_digit.Tie as tie
 returns : tie.Need-returns
 returns c = record { room = search rules; contents = put_one _ _ _ c.requires.0; place = refl }
 
-pub put-digit-spec : {M : Type 1} → statement M
-put-digit-spec = tie.close (tie.spec (λ c. search rules) (λ c. search rules) (λ c. search rules) (λ c. search rules) (λ c. search rules) returns)
+pub put_digit_spec : {M : Type 1} → statement M
+put_digit_spec = tie.close (tie.spec (λ c. search rules) (λ c. search rules) (λ c. search rules) (λ c. search rules) (λ c. search rules) returns)
