@@ -123,14 +123,14 @@ pub record Desk : Type 0 where
   -- masks: the 50 and the 30, none; not all three, not the instruction, not a place behind the list
   pub masks :
       map (λ m. good_mask seller7 (mask_bits 64 m) (alone three))
-      (0x6000000000000000 ∷ 0 ∷ 0x_e000000000000000 ∷ 0x7000000000000000 ∷ 0x6800000000000000 ∷ [])
+      (0x6000000000000000 ∷ 0 ∷ 0xE000000000000000 ∷ 0x7000000000000000 ∷ 0x6800000000000000 ∷ [])
       ≡ true ∷ true ∷ false ∷ false ∷ false ∷ []
   pub by_mask : shown (optimised seller7 (mask_bits 64 0x6000000000000000) (alone three)) ≡ (2 ∷ 3 ∷ [], (1, 40, 0) ∷ [])
   pub by_none : shown (optimised seller7 (mask_bits 64 0) (alone three)) ≡ ([], (1, 0, 0) ∷ (2, 0, 0) ∷ (3, 0, 0) ∷ [])
   -- two that go together are set together
   pub masks_together :
       map (λ m. good_mask (seller10 ((8, 500) ∷ (7, 10) ∷ [])) (mask_bits 64 m) (together (original ∷ operation 60 ∷ [])))
-      (0x_c000000000000000 ∷ 0x8000000000000000 ∷ 0x4000000000000000 ∷ [])
+      (0xC000000000000000 ∷ 0x8000000000000000 ∷ 0x4000000000000000 ∷ [])
       ≡ true ∷ false ∷ false ∷ []
   -- 9 lacks 50 USD, and nobody else anything
   pub lacks_50 : map (λ m. amounts (holders []) chain m 1) (7 ∷ 8 ∷ 9 ∷ []) ≡ 0 ∷ 0 ∷ 50 ∷ []

@@ -4,6 +4,6 @@ use Rattle.rulebook.specs.Waiting.{both_marked}
 use Rattle.item.proofs.both_marked.Statement.{statement}
 use Rattle.item.proofs.both_marked.Tie as tie
 
-pub both-marked-spec : {M : Type 1} → statement M
+pub both_marked_spec : {M : Type 1} → statement M
 unfolding both_marked
-both-marked-spec = tie.close (tie.spec (λ c. search rules) (λ c. search rules) (λ c. search rules) (λ c. cc) (λ c. cc) (λ c. cc))
+both_marked_spec = tie.close (tie.spec (λ c. search rules) (λ c. search rules) (λ c. search rules) (λ c. cc) (λ c. cc) (λ c. cc))

@@ -5,11 +5,11 @@ use Rattle.rulebook.specs.Close.{close_kind}
 use Rattle.item.proofs.close_kind.Statement.{statement}
 use Rattle.item.proofs.close_kind.Tie as tie
 
-pub close-kind-spec : {M : Type 1} → statement M
+pub close_kind_spec : {M : Type 1} → statement M
 unfolding close_kind
-close-kind-spec =
+close_kind_spec =
     tie.close
-    (tie.spec (λ c. search rules) (λ c. rw (c.before.enum_told.given.1, eq-eqb _ _ c.if1.true)) (λ c. search rules) (λ c. search rules)
-    (λ c. rw (c.before.enum-told2.given.1, eq-eqb _ _ c.if2.true)) (λ c. search rules)
-    (λ c. rw (c.before.enum-told3.given.1, le-leb _ _ c.if3.true)) (λ c. rw (c.before.enum_told.given.1, ne_eqb _ _ c.if1.false))
-    (λ c. rw (c.before.enum-told2.given.1, ne_eqb _ _ c.if2.false)) (λ c. rw (c.before.enum-told3.given.1, lt-leb _ _ c.if3.false)))
+    (tie.spec (λ c. search rules) (λ c. rw (c.in-Single.is, eq-eqb _ _ c.if-settles-day.true)) (λ c. search rules) (λ c. search rules)
+    (λ c. rw (c.in-Pair.is, eq-eqb _ _ c.if-day-settles.true)) (λ c. search rules)
+    (λ c. rw (c.in-Trade.is, le-leb _ _ c.if-settles-day-2.true)) (λ c. rw (c.in-Single.is, ne_eqb _ _ c.if-settles-day.false))
+    (λ c. rw (c.in-Pair.is, ne_eqb _ _ c.if-day-settles.false)) (λ c. rw (c.in-Trade.is, lt-leb _ _ c.if-settles-day-2.false)))

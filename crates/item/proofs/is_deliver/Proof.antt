@@ -4,6 +4,6 @@ use Rattle.rulebook.specs.Waiting.{is_deliver}
 use Rattle.item.proofs.is_deliver.Statement.{statement}
 use Rattle.item.proofs.is_deliver.Tie as tie
 
-pub is-deliver-spec : {M : Type 1} → statement M
+pub is_deliver_spec : {M : Type 1} → statement M
 unfolding is_deliver
-is-deliver-spec = tie.close (tie.spec (λ c. search rules) (λ c. search rules) (λ c. search rules) (λ c. cc) (λ c. cc) (λ c. cc))
+is_deliver_spec = tie.close (tie.spec (λ c. search rules) (λ c. search rules) (λ c. search rules) (λ c. cc) (λ c. cc) (λ c. cc))

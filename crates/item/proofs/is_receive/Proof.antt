@@ -4,6 +4,6 @@ use Rattle.rulebook.specs.Waiting.{is_receive}
 use Rattle.item.proofs.is_receive.Statement.{statement}
 use Rattle.item.proofs.is_receive.Tie as tie
 
-pub is-receive-spec : {M : Type 1} → statement M
+pub is_receive_spec : {M : Type 1} → statement M
 unfolding is_receive
-is-receive-spec = tie.close (tie.spec (λ c. search rules) (λ c. search rules) (λ c. search rules) (λ c. cc) (λ c. cc) (λ c. cc))
+is_receive_spec = tie.close (tie.spec (λ c. search rules) (λ c. search rules) (λ c. search rules) (λ c. cc) (λ c. cc) (λ c. cc))

@@ -3,6 +3,6 @@ use Rattle.rulebook.specs.Waiting.{item_of}
 use Rattle.item.proofs.item_of.Statement.{statement}
 use Rattle.item.proofs.item_of.Tie as tie
 
-pub item-of-spec : {M : Type 1} → statement M
+pub item_of_spec : {M : Type 1} → statement M
 unfolding item_of
-item-of-spec = tie.close (tie.spec (λ c. cc))
+item_of_spec = tie.close (tie.spec (λ c. cc))

@@ -11,7 +11,7 @@ unfolding with_state marked
 mark_spec =
     tie.close
     (tie.spec (λ c. search rules) (λ c. search rules) (λ c κs. search rules)
-    (λ c. c.with-state.ensures ∙ rw (c.before.before.before.before.state.given.1, eq-eqb _ _ c.before.if1.true)) (λ c κs. search rules)
-    (λ c. search rules) (λ c. rw c.enum_told.given.1)
-    (λ c. c.with-state2.ensures ∙ rw (c.before.before.before.before.state.given.1, ne_eqb _ _ c.before.if1.false))
-    (λ c. rw c.enum-told2.given.1))
+    (λ c. c.with_state.ensures ∙ rw (c.in-Pair.is, eq-eqb _ _ c.if-sender-item.true)) (λ c κs. search rules)
+    (λ c. search rules) (λ c. rw c.in-Single.is)
+    (λ c. c.with_state-in-Pair.ensures ∙ rw (c.in-Pair.is, ne_eqb _ _ c.if-sender-item.false))
+    (λ c. rw c.in-Trade.is))

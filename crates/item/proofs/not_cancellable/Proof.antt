@@ -5,9 +5,9 @@ use Rattle.rulebook.specs.Waiting.{not_cancellable}
 use Rattle.item.proofs.not_cancellable.Statement.{statement}
 use Rattle.item.proofs.not_cancellable.Tie as tie
 
-pub not-cancellable-spec : {M : Type 1} → statement M
+pub not_cancellable_spec : {M : Type 1} → statement M
 unfolding not_cancellable
-not-cancellable-spec =
+not_cancellable_spec =
     tie.close
-    (tie.spec (λ c. search rules) (λ c. search rules) (λ c. rw (c.before.before.before.state.given.1, eq-eqb _ _ c.if1.true))
-    (λ c. search rules) (λ c. cc) (λ c. rw (c.before.before.before.state.given.1, ne_eqb _ _ c.if1.false)) (λ c. cc))
+    (tie.spec (λ c. search rules) (λ c. search rules) (λ c. rw (c.in-Pair.is, eq-eqb _ _ c.if-sender-item.true))
+    (λ c. search rules) (λ c. cc) (λ c. rw (c.in-Pair.is, ne_eqb _ _ c.if-sender-item.false)) (λ c. cc))

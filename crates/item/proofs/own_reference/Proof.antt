@@ -4,6 +4,6 @@ use Rattle.rulebook.specs.Waiting.{own_reference}
 use Rattle.item.proofs.own_reference.Statement.{statement}
 use Rattle.item.proofs.own_reference.Tie as tie
 
-pub own-reference-spec : {M : Type 1} → statement M
+pub own_reference_spec : {M : Type 1} → statement M
 unfolding own_reference
-own-reference-spec = tie.close (tie.spec (λ c. search rules) (λ c. search rules) (λ c. search rules) (λ c. cc) (λ c. cc) (λ c. cc))
+own_reference_spec = tie.close (tie.spec (λ c. search rules) (λ c. search rules) (λ c. search rules) (λ c. cc) (λ c. cc) (λ c. cc))

@@ -4,9 +4,9 @@ use Rattle.rulebook.specs.Waiting.{sender_of}
 use Rattle.item.proofs.sender_of.Statement.{statement}
 use Rattle.item.proofs.sender_of.Tie as tie
 
-pub sender-of-spec : {M : Type 1} → statement M
+pub sender_of_spec : {M : Type 1} → statement M
 unfolding sender_of
-sender-of-spec =
+sender_of_spec =
     tie.close
-    (tie.spec (λ c. rw (eq-eqb _ _ c.if1.true)) (λ c. rw (ne_eqb _ _ c.before.before.if1.false, eq-eqb _ _ c.if2.true))
-    (λ c. rw (ne_eqb _ _ c.before.before.if1.false, ne_eqb _ _ c.if2.false)))
+    (tie.spec (λ c. rw (eq-eqb _ _ c.if-order-eq13.true)) (λ c. rw (ne_eqb _ _ c.before.before.if-order-eq13.false, eq-eqb _ _ c.if-order-eq14.true))
+    (λ c. rw (ne_eqb _ _ c.before.before.if-order-eq13.false, ne_eqb _ _ c.if-order-eq14.false)))

@@ -4,6 +4,6 @@ use Rattle.rulebook.specs.Waiting.{sides_of}
 use Rattle.item.proofs.sides_of.Statement.{statement}
 use Rattle.item.proofs.sides_of.Tie as tie
 
-pub sides-of-spec : {M : Type 1} → statement M
+pub sides_of_spec : {M : Type 1} → statement M
 unfolding sides_of
-sides-of-spec = tie.close (tie.spec (λ c. search rules) (λ c. search rules) (λ c. search rules) (λ c. cc) (λ c. cc) (λ c. cc))
+sides_of_spec = tie.close (tie.spec (λ c. search rules) (λ c. search rules) (λ c. search rules) (λ c. cc) (λ c. cc) (λ c. cc))

@@ -3,6 +3,6 @@ use Rattle.rulebook.specs.Waiting.{with_state}
 use Rattle.item.proofs.with_state.Statement.{statement}
 use Rattle.item.proofs.with_state.Tie as tie
 
-pub with-state-spec : {M : Type 1} → statement M
+pub with_state_spec : {M : Type 1} → statement M
 unfolding with_state
-with-state-spec = tie.close (tie.spec (λ c. cc))
+with_state_spec = tie.close (tie.spec (λ c. cc))

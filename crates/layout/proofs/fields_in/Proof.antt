@@ -7,10 +7,10 @@ use Rattle.layout.proofs.fields_in.Statement.{statement}
 use Rattle.layout.proofs.fields_in.Tie as tie
 
 -- the start, after six fields and after twelve
-abbrev six : tie.After-get-bits6 → tie.After-shared-slice-known
+abbrev six : tie.After-get_bits-6 → tie.After-shared_slice_known-1
 six c = c.before.before.before.before.before.before
 
-abbrev twelve : tie.After-get-bits12 → tie.Start
+abbrev twelve : tie.After-get_bits-12 → tie.Start
 twelve c = (six c.before.before.before.before.before.before).before
 
 returns : tie.Need-returns
@@ -18,29 +18,29 @@ unfolding fields_in widths
 returns c = λ i.
     let middle = c.before.before.before.before.before.before in
     let first = middle.before.before.before.before.before.before in
-    first.before.before.before.before.before.before.get-bits.ensures i
-    ∷ first.before.before.before.before.before.get-bits2.ensures i
-    ∷ first.before.before.before.before.get-bits3.ensures i
-    ∷ first.before.before.before.get-bits4.ensures i
-    ∷ first.before.before.get-bits5.ensures i
-    ∷ first.before.get-bits6.ensures i
-    ∷ first.get-bits7.ensures i
-    ∷ middle.before.before.before.before.before.get-bits8.ensures i
-    ∷ middle.before.before.before.before.get-bits9.ensures i
-    ∷ middle.before.before.before.get-bits10.ensures i
-    ∷ middle.before.before.get-bits11.ensures i
-    ∷ middle.before.get-bits12.ensures i
-    ∷ middle.get-bits13.ensures i
-    ∷ c.before.before.before.before.before.get-bits14.ensures i
-    ∷ c.before.before.before.before.get-bits15.ensures i
-    ∷ c.before.before.before.get-bits16.ensures i
-    ∷ c.before.before.get-bits17.ensures i
-    ∷ c.before.get-bits18.ensures i
-    ∷ c.get-bits19.ensures i
+    first.before.before.before.before.before.before.get_bits.ensures i
+    ∷ first.before.before.before.before.before.get_bits-2.ensures i
+    ∷ first.before.before.before.before.get_bits-3.ensures i
+    ∷ first.before.before.before.get_bits-4.ensures i
+    ∷ first.before.before.get_bits-5.ensures i
+    ∷ first.before.get_bits-6.ensures i
+    ∷ first.get_bits-7.ensures i
+    ∷ middle.before.before.before.before.before.get_bits-8.ensures i
+    ∷ middle.before.before.before.before.get_bits-9.ensures i
+    ∷ middle.before.before.before.get_bits-10.ensures i
+    ∷ middle.before.before.get_bits-11.ensures i
+    ∷ middle.before.get_bits-12.ensures i
+    ∷ middle.get_bits-13.ensures i
+    ∷ c.before.before.before.before.before.get_bits-14.ensures i
+    ∷ c.before.before.before.before.get_bits-15.ensures i
+    ∷ c.before.before.before.get_bits-16.ensures i
+    ∷ c.before.before.get_bits-17.ensures i
+    ∷ c.before.get_bits-18.ensures i
+    ∷ c.get_bits-19.ensures i
     ∷ []
 
-pub fields-in-spec : {M : Type 1} → statement M
-fields-in-spec =
+pub fields_in_spec : {M : Type 1} → statement M
+fields_in_spec =
     tie.close
     (tie.spec
     (λ c κs. search rules)

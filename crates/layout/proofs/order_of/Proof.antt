@@ -9,8 +9,8 @@ returns : tie.Need-returns
 unfolding order_of
 returns c = refl
 
-pub order-of-spec : {M : Type 1} → statement M
-order-of-spec =
+pub order_of_spec : {M : Type 1} → statement M
+order_of_spec =
     tie.close
     (tie.spec
     (λ c. search rules)

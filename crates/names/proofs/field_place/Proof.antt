@@ -11,7 +11,7 @@ use Rattle.names.proofs.field_place.Tie as tie
 
 returns : tie.Need-returns
 unfolding split joined field_names field_place
-returns c = c.IsPlace-in.ensures
+returns c = c.place_in.ensures
 
-pub field-place-spec : {M : Type 1} → statement M
-field-place-spec = tie.close (tie.spec (λ c. search rules) (λ c κs. search rules) returns)
+pub field_place_spec : {M : Type 1} → statement M
+field_place_spec = tie.close (tie.spec (λ c κs. search rules) returns)

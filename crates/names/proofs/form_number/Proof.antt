@@ -9,13 +9,13 @@ use Rattle.names.specs.Numbers.{form_number}
 use Rattle.names.proofs.form_number.Statement.{statement}
 use Rattle.names.proofs.form_number.Tie as tie
 
-returns : tie.Need-returns
+returns : tie.Need-returns-then-place-lt21
 unfolding split joined forms form_number
-returns c = rw (← c.before.IsPlace-in.ensures, lt-ltb c.before.IsPlace-in.result 21 c.if1.true, add-one c.before.IsPlace-in.result)
+returns c = rw (← c.before.place_in-place.ensures, lt-ltb c.before.place_in-place.result 21 c.if-place-lt21.true, add-one c.before.place_in-place.result)
 
-returns-2 : tie.Need-returns-2
+returns-2 : tie.Need-returns
 unfolding split joined forms form_number
-returns-2 c = rw (← c.before.IsPlace-in.ensures, le-ltb c.before.IsPlace-in.result 21 c.if1.false)
+returns-2 c = rw (← c.before.place_in-place.ensures, le-ltb c.before.place_in-place.result 21 c.if-place-lt21.false)
 
-pub form-number-spec : {M : Type 1} → statement M
-form-number-spec = tie.close (tie.spec (λ c. search rules) (λ c κs. search rules) (λ c. search rules) returns returns-2)
+pub form_number_spec : {M : Type 1} → statement M
+form_number_spec = tie.close (tie.spec (λ c κs. search rules) (λ c. search rules) returns returns-2)

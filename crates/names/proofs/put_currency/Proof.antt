@@ -7,7 +7,7 @@ use Rattle.names.proofs.Named.{short, named}
 use Rattle.names.proofs.put_currency.Statement.{statement}
 use Rattle.names.proofs.put_currency.Tie as tie
 
-put-part-requires : tie.Need-put-part-requires
+put-part-requires : tie.Need-put_part-requires
 unfolding split joined currency_names
 put-part-requires c κs = (search rules, short currency_names _ refl refl)
 
@@ -15,8 +15,8 @@ returns : tie.Need-returns
 unfolding split joined currency_names
 returns c =
     let start = c.before.before.before.before.before.before in
-    let put = c.before.before.put-part.ensures in
+    let put = c.before.before.put_part.ensures in
     (rw (← named currency_names _ refl start.args.currency) put.0, put.1)
 
-pub put-currency-spec : {M : Type 1} → statement M
-put-currency-spec = tie.close (tie.spec (λ c. search rules) put-part-requires (λ c. search rules) returns)
+pub put_currency_spec : {M : Type 1} → statement M
+put_currency_spec = tie.close (tie.spec put-part-requires (λ c. search rules) returns)

@@ -7,7 +7,7 @@ use Rattle.names.proofs.Named.{short, named}
 use Rattle.names.proofs.put_refusal.Statement.{statement}
 use Rattle.names.proofs.put_refusal.Tie as tie
 
-put-part-requires : tie.Need-put-part-requires
+put-part-requires : tie.Need-put_part-requires
 unfolding split joined refusal_names
 put-part-requires c κs = (search rules, short refusal_names _ refl refl)
 
@@ -15,8 +15,8 @@ returns : tie.Need-returns
 unfolding split joined refusal_names
 returns c =
     let start = c.before.before.before.before.before.before in
-    let put = c.before.before.put-part.ensures in
+    let put = c.before.before.put_part.ensures in
     (rw (← named refusal_names _ refl start.args.number) put.0, put.1)
 
-pub put-refusal-spec : {M : Type 1} → statement M
-put-refusal-spec = tie.close (tie.spec (λ c. search rules) put-part-requires (λ c. search rules) returns)
+pub put_refusal_spec : {M : Type 1} → statement M
+put_refusal_spec = tie.close (tie.spec put-part-requires (λ c. search rules) returns)

@@ -8,5 +8,5 @@ use Rattle.waiting_list.proofs.is_sent.Tie as tie
 returns : tie.Need-returns
 returns c = let s = c.before in is_sent_lem s.args.items.now s.args.i s.requires.1
 
-pub is-sent-spec : {M : Type 1} → statement M
-is-sent-spec = tie.close (tie.spec (λ c. search rules) (λ c. search rules) (λ c. search rules) (λ c. search rules) returns)
+pub is_sent_spec : {M : Type 1} → statement M
+is_sent_spec = tie.close (tie.spec (λ c. search rules) (λ c. search rules) (λ c. search rules) (λ c. search rules) returns)

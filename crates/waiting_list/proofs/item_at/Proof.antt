@@ -16,8 +16,8 @@ returns c =
     λ d. c.item_of.ensures ∙ ap (λ (k : ℕ). item_of (take k (drop (a.i * 16 + 1) a.items.now))) n
     ∙ item-there a.items.now a.i d c.before.before.before.requires.1
 
-pub item-at-spec : {M : Type 1} → statement M
-item-at-spec =
+pub item_at_spec : {M : Type 1} → statement M
+item_at_spec =
     tie.close
     (tie.spec (λ c. search rules) (λ c. search rules) (λ c. search rules) (λ c. search rules) (λ c. search rules) (λ c. search rules) (λ c. search rules)
     (λ c κs. search rules) returns)

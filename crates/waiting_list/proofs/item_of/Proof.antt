@@ -8,10 +8,10 @@ use Rattle.waiting_list.proofs.item_of.Statement.{statement}
 use Rattle.waiting_list.proofs.item_of.Tie as tie
 
 -- four words are read for the state, then twelve in the row's order
-abbrev start : tie.After-state-of → tie.Start
+abbrev start : tie.After-state_of-state → tie.Start
 start c = c.before.before.before.before.before.before
 
-abbrev after-six : tie.After-shared-slice-known11 → tie.After-state-of
+abbrev after-six : tie.After-shared_slice_known-11-1 → tie.After-state_of-state
 after-six c = c.before.before.before.before.before.before
 
 returns : tie.Need-returns
@@ -27,12 +27,12 @@ returns c =
       amount = record { 0 = get_or r 9 0 };
       trade_day = get_or r 10 0;
       settlement_day = get_or r 11 0;
-      state = state.state-of.ensures k;
+      state = state.state_of-state.ensures k;
       sent = get_or r 15 0 / 4 is 1;
     }
 
-pub item-of-spec : {M : Type 1} → statement M
-item-of-spec =
+pub item_of_spec : {M : Type 1} → statement M
+item_of_spec =
     tie.close
     (tie.spec (λ c. search rules) (λ c. search rules) (λ c. search rules) (λ c. search rules) (λ c κs. search rules) (λ c. search rules) (λ c. search rules)
     (λ c. search rules) (λ c. search rules) (λ c. search rules) (λ c. search rules) (λ c. search rules) (λ c. search rules) (λ c. search rules)

@@ -14,9 +14,9 @@ returns : tie.Need-returns
 returns c =
     let a = c.before.before.before.before.before.before.args in
     let p = c.before.before.before.before.before.before.requires in
-    let l : List ℕ = a.items.now in
+    let l : List ℕ = a.items-1.now in
     subst (λ (w : List ℕ). Sized (set w 0 (rows l + 1)) × (items_of (set w 0 (rows l + 1)) ≡ items_of l ++ (a.item ∷ [])))
-    (sym c.before.before.write-row.ensures) (pushed l a.item p.0 p.1)
+    (sym c.before.before.write_row.ensures) (pushed l a.item p.0 p.1)
 
 pub push_spec : {M : Type 1} → statement M
 push_spec =

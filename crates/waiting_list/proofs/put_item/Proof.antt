@@ -13,8 +13,8 @@ returns : tie.Need-returns
 returns c =
     let s = c.before.before.before.before.before in
     let l : List ℕ = s.args.items.now in
-    subst (λ (w : List ℕ). Sized w × (items_of w ≡ set (items_of l) s.args.i s.args.item)) (sym c.before.before.write-row.ensures)
+    subst (λ (w : List ℕ). Sized w × (items_of w ≡ set (items_of l) s.args.i s.args.item)) (sym c.before.before.write_row.ensures)
     (put_in l s.args.i s.args.item s.requires.0 s.requires.1)
 
-pub put-item-spec : {M : Type 1} → statement M
-put-item-spec = tie.close (tie.spec (λ c κs. search rules) (λ c. search rules) returns)
+pub put_item_spec : {M : Type 1} → statement M
+put_item_spec = tie.close (tie.spec (λ c κs. search rules) (λ c. search rules) returns)

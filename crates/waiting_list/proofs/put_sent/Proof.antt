@@ -21,10 +21,10 @@ returns c =
     subst (λ (b : ℕ).
     let after = set w (i * 16 + 16) (get_or w (i * 16 + 16) 0 % 4 + 4 * b) in
     Sized after × ((d : Item) → items_of after ≡ set (items_of w) i (with_sent s.args.sent (get_or (items_of w) i d))))
-    (sym c.bit-of.ensures.0) (put w s.requires.0 i s.requires.1 s.args.sent)
+    (sym c.bit_of.ensures.0) (put w s.requires.0 i s.requires.1 s.args.sent)
 
-pub put-sent-spec : {M : Type 1} → statement M
-put-sent-spec =
+pub put_sent_spec : {M : Type 1} → statement M
+put_sent_spec =
     tie.close
     (tie.spec (λ c. search rules) (λ c. search rules) (λ c. search rules) (λ c. search rules) (λ c κs. search rules)
-    (λ c. omega (arith, c.bit-of.ensures.1)) (λ c. search rules) (λ c. search rules) (λ c. search rules) (λ c. search rules) returns)
+    (λ c. omega (arith, c.bit_of.ensures.1)) (λ c. search rules) (λ c. search rules) (λ c. search rules) (λ c. search rules) returns)

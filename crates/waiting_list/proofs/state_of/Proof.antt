@@ -4,19 +4,19 @@ use Rattle.waiting_list.specs.Waiting.{state_of}
 use Rattle.waiting_list.proofs.state_of.Statement.{statement}
 use Rattle.waiting_list.proofs.state_of.Tie as tie
 
-returns : tie.Need-returns
+returns : tie.Need-returns-then-tag-eq0
 unfolding state_of
-returns c = simp (eq-eqb _ _ c.if1.true)
+returns c = simp (eq-eqb _ _ c.if-tag-eq0.true)
 
-returns-2 : tie.Need-returns-2
+returns-2 : tie.Need-returns-then-tag-eq1
 unfolding state_of
-returns-2 c = simp (ne_eqb _ _ c.before.if1.false, eq-eqb _ _ c.if2.true)
+returns-2 c = simp (ne_eqb _ _ c.before.if-tag-eq0.false, eq-eqb _ _ c.if-tag-eq1.true)
 
-returns-3 : tie.Need-returns-3
+returns-3 : tie.Need-returns
 unfolding state_of
-returns-3 c = simp (ne_eqb _ _ c.before.if1.false, ne_eqb _ _ c.if2.false)
+returns-3 c = simp (ne_eqb _ _ c.before.if-tag-eq0.false, ne_eqb _ _ c.if-tag-eq1.false)
 
-pub state-of-spec : {M : Type 1} → statement M
-state-of-spec =
+pub state_of_spec : {M : Type 1} → statement M
+state_of_spec =
     tie.close
     (tie.spec returns returns-2 returns-3)

@@ -11,24 +11,24 @@ use Rattle.waiting_list.proofs.state_words.Tie as tie
 words : ℕ → ℕ → ℕ → ℕ → StateWords
 words t f s m = record { tag = t; first = f; second = s; marks = m }
 
-returns : tie.Need-returns
+returns : tie.Need-returns-in-Single
 unfolding words
-returns c = ap (words 0 c.before.before.s.given.0.1.0 0) c.bit-of.ensures.0 ∙ ap state_words (sym c.before.before.s.given.1)
+returns c = ap (words 0 c.in-Single.reference 0) c.bit_of.ensures.0 ∙ ap state_words (sym c.in-Single.is)
 
-returns-2 : tie.Need-returns-2
+returns-2 : tie.Need-returns-in-Pair
 unfolding words
 returns-2 c =
-    let g = c.before.before.before.s2.given in
-    let m : c.before.bit-of2.result + 2 * c.bit-of3.result ≡ bit g.0.1.1.0 + 2 * bit g.0.1.1.1.0 =
-    ap (λ (n : ℕ). n + 2 * c.bit-of3.result) c.before.bit-of2.ensures.0
-    ∙ ap (λ (n : ℕ). bit g.0.1.1.0 + 2 * n) c.bit-of3.ensures.0 in
+    let g = c.s2.given in
+    let m : c.bit_of-in-Pair.result + 2 * c.bit_of-in-Pair-2.result ≡ bit g.0.1.1.0 + 2 * bit g.0.1.1.1.0 =
+    ap (λ (n : ℕ). n + 2 * c.bit_of-in-Pair-2.result) c.bit_of-in-Pair.ensures.0
+    ∙ ap (λ (n : ℕ). bit g.0.1.1.0 + 2 * n) c.bit_of-in-Pair-2.ensures.0 in
     ap (words 1 g.0.0 g.0.1.0) m ∙ ap state_words (sym g.1)
 
-returns-3 : tie.Need-returns-3
-returns-3 c = ap state_words (sym c.before.s3.given.1)
+returns-3 : tie.Need-returns-in-Trade
+returns-3 c = ap state_words (sym c.in-Trade.is)
 
-pub state-words-spec : {M : Type 1} → statement M
-state-words-spec =
+pub state_words_spec : {M : Type 1} → statement M
+state_words_spec =
     tie.close
     (tie.spec (λ c. search rules) (λ c κs. search rules) (λ c. search rules) (λ c κs. search rules) (λ c κs. search rules) (λ c. search rules)
     (λ c. search rules) (λ c. search rules) returns returns-2 returns-3)

@@ -9,8 +9,8 @@ use Rattle.waiting_list.proofs.StoredItems.{marks_low}
 use Rattle.waiting_list.proofs.write_row.Statement.{statement}
 use Rattle.waiting_list.proofs.write_row.Tie as tie
 
-low : (c : tie.After-state-words) → c.state-words.result.marks < 4
-low c = subst (λ (s : StateWords). s.marks < 4) (sym c.state-words.ensures) (marks_low c.before.before.args.item.state)
+low : (c : tie.After-state_words-s) → c.state_words-s.result.marks < 4
+low c = subst (λ (s : StateWords). s.marks < 4) (sym c.state_words-s.ensures) (marks_low c.before.before.args.item.state)
 
 returns : tie.Need-returns
 returns c =
@@ -19,12 +19,12 @@ returns c =
     let state = flag.before in
     let a = state.before.before.args in
     written.write.ensures
-    ∙ ap (λ (sent : ℕ). put_row a.items.now a.i (row_with a.item state.state-words.result sent)) flag.bit-of.ensures.0
-    ∙ ap (λ (s : StateWords). put_row a.items.now a.i (row_of a.item s)) state.state-words.ensures
+    ∙ ap (λ (sent : ℕ). put_row a.items-1.now a.i (row_with a.item state.state_words-s.result sent)) flag.bit_of.ensures.0
+    ∙ ap (λ (s : StateWords). put_row a.items-1.now a.i (row_of a.item s)) state.state_words-s.ensures
 
-pub write-row-spec : {M : Type 1} → statement M
-write-row-spec =
+pub write_row_spec : {M : Type 1} → statement M
+write_row_spec =
     tie.close
-    (tie.spec (λ c κs. search rules) (λ c κs. search rules) (λ c. omega (arith, c.bit-of.ensures.1))
-    (λ c. omega (arith, c.before.bit-of.ensures.1, low c.before.before)) (λ c. search rules) (λ c. search rules) (λ c. search rules)
+    (tie.spec (λ c κs. search rules) (λ c κs. search rules) (λ c. omega (arith, c.bit_of.ensures.1))
+    (λ c. omega (arith, c.before.bit_of.ensures.1, low c.before.before)) (λ c. search rules) (λ c. search rules) (λ c. search rules)
     (λ c κs. search rules) (λ c. search rules) returns)

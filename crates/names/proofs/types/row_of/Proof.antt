@@ -5,11 +5,11 @@ use Rattle.names.proofs.Named.{no_type}
 use Rattle.names.proofs.types.row_of.Statement.{statement}
 use Rattle.names.proofs.types.row_of.Tie as tie
 
-others : tie.Need-returns-14
+others : tie.Need-returns-in_default
 unfolding type_table
 others c =
-    let t = c.before.args.typ in
-    let rest = c.match.rest in
+    let t = c.args.typ in
+    let rest = c.in_default.in_default-own.rest in
     no_type t
     (rw (
       ne_eqb t 10 rest.0.0.0.0.0.0.0.0.0.0.0.0.1,
@@ -27,22 +27,22 @@ others c =
       ne_eqb t 122 rest.1,
     ))
 
-pub row-of-spec : {M : Type 1} → statement M
+pub row_of_spec : {M : Type 1} → statement M
 unfolding type_row type_table
-row-of-spec =
+row_of_spec =
     tie.close
     (tie.spec
-    (λ c. rw c.match.keys1)
-    (λ c. rw c.match.keys2)
-    (λ c. rw c.match.keys3)
-    (λ c. rw c.match.keys4)
-    (λ c. rw c.match.keys5)
-    (λ c. rw c.match.keys6)
-    (λ c. rw c.match.keys7)
-    (λ c. rw c.match.keys8)
-    (λ c. rw c.match.keys9)
-    (λ c. rw c.match.keys10)
-    (λ c. rw c.match.keys11)
-    (λ c. rw c.match.keys12)
-    (λ c. rw c.match.keys13)
+    (λ c. rw c.in-10.is)
+    (λ c. rw c.in-11.is)
+    (λ c. rw c.in-12.is)
+    (λ c. rw c.in-20.is)
+    (λ c. rw c.in-21.is)
+    (λ c. rw c.in-22.is)
+    (λ c. rw c.in-50.is)
+    (λ c. rw c.in-91.is)
+    (λ c. rw c.in-110.is)
+    (λ c. rw c.in-112.is)
+    (λ c. rw c.in-120.is)
+    (λ c. rw c.in-121.is)
+    (λ c. rw c.in-122.is)
     others)
