@@ -3,9 +3,9 @@ use borrow.Author.Tests.{eq-eqb, ne_eqb}
 use Rattle.cells.proofs.is_blank.Statement.{statement}
 use Rattle.cells.proofs.is_blank.Tie as tie
 
-pub is-blank-spec : {M : Type 1} → statement M
-is-blank-spec =
+pub is_blank_spec : {M : Type 1} → statement M
+is_blank_spec =
     tie.close
     (tie.spec
-    (λ c. simp (eq-eqb _ _ c.if1.true)) (λ c. simp (ne_eqb _ _ c.before.if1.false, eq-eqb _ _ c.if2.true))
-    (λ c. simp (ne_eqb _ _ c.before.if1.false, ne_eqb _ _ c.if2.false)))
+    (λ c. simp (eq-eqb _ _ c.if-b-eq32.true)) (λ c. simp (ne_eqb _ _ c.before.if-b-eq32.false, eq-eqb _ _ c.if-b-eq13.true))
+    (λ c. simp (ne_eqb _ _ c.before.if-b-eq32.false, ne_eqb _ _ c.if-b-eq13.false)))

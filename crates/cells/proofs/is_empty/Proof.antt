@@ -6,4 +6,4 @@ use Rattle.cells.proofs.is_empty.Tie as tie
 
 pub is_empty_spec : {M : Type 1} → statement M
 is_empty_spec =
-    tie.close (tie.spec (λ c κs. search rules) (λ c. all-blank _ c.blanks-before.result c.blanks-before.ensures.0 c.blanks-before.ensures.1))
+    tie.close (tie.spec (λ c κs. search rules) (λ c. all-blank _ c.blanks_before.result c.blanks_before.ensures.0 c.blanks_before.ensures.1))

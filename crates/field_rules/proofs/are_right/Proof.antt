@@ -14,55 +14,55 @@ use Rattle.field_rules.proofs.FieldsBelow.{below, below_more, field_is, at_place
 use Rattle.field_rules.proofs.are_right.Statement.{statement}
 use Rattle.field_rules.proofs.are_right.Tie as tie
 
-abbrev invariant-loop : tie.invariant-loop
+abbrev invariant-loop : tie.invariant-loop-place
 invariant-loop form fields used optional most place₀ place = (place ≤ 15) × (0 ≡ below form fields place)
 
-abbrev decreases-loop : tie.decreases-loop
+abbrev decreases-loop : tie.decreases-loop-place
 decreases-loop form fields used optional most place₀ place = 15 - place
 
 -- the loop's place, and the start
-abbrev turn : tie.Else2 invariant-loop decreases-loop → tie.At-loop invariant-loop decreases-loop
-turn c = c.before.before.before.before.before.before
+abbrev turn : tie.Else-number-ne0 invariant-loop decreases-loop → tie.At-loop-place invariant-loop decreases-loop
+turn c = c.before.before.before.before.before.before.before
 
-abbrev start : tie.At-loop invariant-loop decreases-loop → tie.Start invariant-loop decreases-loop
+abbrev start : tie.At-loop-place invariant-loop decreases-loop → tie.Start invariant-loop decreases-loop
 start c = c.before.before.before.before
 
-loop-again : tie.Need-loop-preserved invariant-loop decreases-loop
+loop-again : tie.Need-loop-place-preserved invariant-loop decreases-loop
 unfolding earlier_of places
 loop-again c =
     let here = turn c in
-    let place : ℕ = here.loop.place in
+    let place : ℕ = here.loop-place.place in
     let fields : List ℕ = (start here).args.fields.now in
-    let rule = (start here).pre.0 in
+    let rule = (start here).requires.0 in
     let l : place < 19 = search rules in
-    let top : get_or here.before.most-of.result place 0 ≡ most _ place =
-    ap (λ (m : List ℕ). get_or m place 0) here.before.most-of.ensures ∙ at_place (most _) place l
+    let top : get_or here.before.most_of-most.result place 0 ≡ most _ place =
+    ap (λ (m : List ℕ). get_or m place 0) here.before.most_of-most.ensures ∙ at_place (most _) place l
     in
-    let low = c.before.before.before.least-of.ensures ∙ rule.optional place l in
-    let bit = c.before.before.before.before.is-in.ensures ∙ rule.used place l in (
+    let low = c.before.before.before.least_of.ensures ∙ rule.optional place l in
+    let bit = c.before.before.before.before.is_in.ensures ∙ rule.used place l in (
       search rules,
-      sym c.if2.false ∙ below_more _ fields _ 0 _ here.loop.inv.1 (c.before.field-refusal.ensures ∙ field_is _ fields place _ _ _ bit low top),
+      sym c.if-number-ne0.false ∙ below_more _ fields _ 0 _ here.loop-place.invariant.1 (c.before.field_refusal-number.ensures ∙ field_is _ fields place _ _ _ bit low top),
     )
 
-returns : tie.Need-returns invariant-loop decreases-loop
+returns : tie.Need-returns-then-not-last_are_zero invariant-loop decreases-loop
 returns c = λ e. absurd (false≢true e)
 
-returns-2 : tie.Need-returns-2 invariant-loop decreases-loop
+returns-2 : tie.Need-returns-then-number-ne0 invariant-loop decreases-loop
 returns-2 c = λ e. absurd (false≢true e)
 
-returns-3 : tie.Need-returns-3 invariant-loop decreases-loop
+returns-3 : tie.Need-returns invariant-loop decreases-loop
 unfolding unused_not_zero used_out_of_range places
 returns-3 c =
     let first = start c.before in
     let fields : List ℕ = first.args.fields.now in
-    let done : c.before.loop.place ≡ 15 = search rules in
-    let most-right : 0 ≡ below first.args.form fields 15 = c.before.loop.invariant.1 ∙ ap (below first.args.form fields) done in
+    let done : c.before.loop-place.place ≡ 15 = search rules in
+    let most-right : 0 ≡ below first.args.form fields 15 = c.before.loop-place.invariant.1 ∙ ap (below first.args.form fields) done in
     let zero : last_are_zero fields ≡ true =
-    sym c.before.before.before.before.last-are-zero.ensures ∙ not-false _ c.before.before.before.if1.false in
-    λ e. subst (λ (form : ℕ). 0 ≡ below form fields 19) (sym first.pre.1) (last_right first.args.form fields zero most-right)
+    sym c.before.before.before.before.last_are_zero.ensures ∙ c.before.before.before.if-not-last_are_zero.false in
+    λ e. subst (λ (form : ℕ). 0 ≡ below form fields 19) (sym first.requires.1) (last_right first.args.form fields zero most-right)
 
-pub are-right-spec : {M : Type 1} → statement M
-are-right-spec =
+pub are_right_spec : {M : Type 1} → statement M
+are_right_spec =
     tie.close
     (tie.spec invariant-loop decreases-loop (λ c κs. search rules) returns (λ c κs. search rules) (λ c. (search rules, refl)) (λ c κs. search rules) (λ c κs. search rules)
     (λ c. search rules) (λ c. search rules) (λ c. search rules) (λ c. search rules) (λ c κs. search rules) returns-2 (λ c. search rules) (λ c. search rules)

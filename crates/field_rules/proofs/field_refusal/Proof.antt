@@ -3,20 +3,20 @@ use borrow.Author.Tests.{eq-eqb, ne_eqb, lt-leb, le-leb}
 use Rattle.field_rules.proofs.field_refusal.Statement.{statement}
 use Rattle.field_rules.proofs.field_refusal.Tie as tie
 
-returns : tie.Need-returns
-returns c = simp (c.before.if1.true, lt-leb _ _ c.if2.true)
+returns : tie.Need-returns-then-value-least
+returns c = simp (c.before.if-is_used.true, lt-leb _ _ c.if-value-least.true)
 
-returns-2 : tie.Need-returns-2
-returns-2 c = simp (c.before.before.if1.true, le-leb _ _ c.before.if2.false, lt-leb _ _ c.if3.true)
+returns-2 : tie.Need-returns-then-most-value
+returns-2 c = simp (c.before.before.if-is_used.true, le-leb _ _ c.before.if-value-least.false, lt-leb _ _ c.if-most-value.true)
 
-returns-3 : tie.Need-returns-3
-returns-3 c = simp (c.before.before.if1.true, le-leb _ _ c.before.if2.false, le-leb _ _ c.if3.false)
+returns-3 : tie.Need-returns-then-is_used
+returns-3 c = simp (c.before.before.if-is_used.true, le-leb _ _ c.before.if-value-least.false, le-leb _ _ c.if-most-value.false)
 
-returns-4 : tie.Need-returns-4
-returns-4 c = simp (c.before.if1.false, eq-eqb _ _ c.if4.true)
+returns-4 : tie.Need-returns-then-value-eq0
+returns-4 c = simp (c.before.if-is_used.false, eq-eqb _ _ c.if-value-eq0.true)
 
-returns-5 : tie.Need-returns-5
-returns-5 c = simp (c.before.if1.false, ne_eqb _ _ c.if4.false)
+returns-5 : tie.Need-returns-else-value-eq0
+returns-5 c = simp (c.before.if-is_used.false, ne_eqb _ _ c.if-value-eq0.false)
 
-pub field-refusal-spec : {M : Type 1} → statement M
-field-refusal-spec = tie.close (tie.spec returns returns-2 returns-3 returns-4 returns-5)
+pub field_refusal_spec : {M : Type 1} → statement M
+field_refusal_spec = tie.close (tie.spec returns returns-2 returns-3 returns-4 returns-5)

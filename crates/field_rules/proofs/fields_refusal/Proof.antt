@@ -11,47 +11,47 @@ use Rattle.field_rules.proofs.FieldsBelow.{below, below_more, field_is, at_place
 use Rattle.field_rules.proofs.fields_refusal.Statement.{statement}
 use Rattle.field_rules.proofs.fields_refusal.Tie as tie
 
-abbrev invariant-loop : tie.invariant-loop
+abbrev invariant-loop : tie.invariant-loop-place
 invariant-loop form fields used optional most number₀ place₀ number place = (place ≤ 19) × (number ≡ below form fields place)
 
-abbrev decreases-loop : tie.decreases-loop
+abbrev decreases-loop : tie.decreases-loop-place
 decreases-loop form fields used optional most number₀ place₀ number place = 19 - place
 
-loop-holds : tie.Need-loop-init invariant-loop decreases-loop
+loop-holds : tie.Need-loop-place-init invariant-loop decreases-loop
 loop-holds c = (search rules, refl)
 
 -- the loop's place, and the start
-abbrev turn : tie.After-earlier invariant-loop decreases-loop → tie.At-loop invariant-loop decreases-loop
-turn c = c.before.before.before.before.before.before
+abbrev turn : tie.After-earlier-number invariant-loop decreases-loop → tie.At-loop-place invariant-loop decreases-loop
+turn c = c.before.before.before.before.before.before.before
 
-abbrev start : tie.At-loop invariant-loop decreases-loop → tie.Start invariant-loop decreases-loop
+abbrev start : tie.At-loop-place invariant-loop decreases-loop → tie.Start invariant-loop decreases-loop
 start c = c.before.before
 
-loop-again : tie.Need-loop-preserved invariant-loop decreases-loop
+loop-again : tie.Need-loop-place-preserved invariant-loop decreases-loop
 unfolding places
 loop-again c =
     let here = turn c in
-    let place : ℕ = here.loop.place in
+    let place : ℕ = here.loop-place.place in
     let fields : List ℕ = (start here).args.fields.now in
-    let rule = (start here).pre.0 in
+    let rule = (start here).requires.0 in
     let l : place < 19 = search rules in
-    let top : get_or here.before.most-of.result place 0 ≡ most _ place =
-    ap (λ (m : List ℕ). get_or m place 0) here.before.most-of.ensures ∙ at_place (most _) place l
+    let top : get_or here.before.most_of-most.result place 0 ≡ most _ place =
+    ap (λ (m : List ℕ). get_or m place 0) here.before.most_of-most.ensures ∙ at_place (most _) place l
     in
-    let low = c.before.before.before.least-of.ensures ∙ rule.optional place l in
-    let bit = c.before.before.before.before.is-in.ensures ∙ rule.used place l in (
+    let low = c.before.before.before.least_of.ensures ∙ rule.optional place l in
+    let bit = c.before.before.before.before.is_in.ensures ∙ rule.used place l in (
       search rules,
-      c.earlier.ensures ∙ below_more _ fields _ _ _ here.loop.inv.1 (c.before.field-refusal.ensures ∙ field_is _ fields place _ _ _ bit low top),
+      c.earlier-number.ensures ∙ below_more _ fields _ _ _ here.loop-place.invariant.1 (c.before.field_refusal.ensures ∙ field_is _ fields place _ _ _ bit low top),
     )
 
 returns : tie.Need-returns invariant-loop decreases-loop
 unfolding unused_not_zero used_out_of_range places
 returns c =
-    let done : c.before.loop.place ≡ 19 = search rules in
-    c.before.loop.invariant.1 ∙ rw (done, ← (start c.before).pre.1)
+    let done : c.before.loop-place.place ≡ 19 = search rules in
+    c.before.loop-place.invariant.1 ∙ rw (done, ← (start c.before).requires.1)
 
-pub fields-refusal-spec : {M : Type 1} → statement M
-fields-refusal-spec =
+pub fields_refusal_spec : {M : Type 1} → statement M
+fields_refusal_spec =
     tie.close
     (tie.spec
     invariant-loop

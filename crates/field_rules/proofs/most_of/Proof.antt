@@ -45,13 +45,13 @@ most-of-two n e = go (n is 1) refl e
     go true f g = rw (eqb-true n 1 f)
     go false f g = rw (eqb-true n 21 g)
 
-returns : tie.Need-returns
+returns : tie.Need-returns-then-is_one_of_two
 unfolding places widths ceiling most forms row_of
-returns c = sym (most-of-two c.before.before.args.form (sym c.before.is-one-of-two.ensures ∙ c.if1.true))
+returns c = sym (most-of-two c.before.before.args.form (sym c.before.is_one_of_two.ensures ∙ c.if-is_one_of_two.true))
 
-returns-2 : tie.Need-returns-2
+returns-2 : tie.Need-returns
 unfolding places widths ceiling
-returns-2 c = sym (most-is _ (sym c.before.is-one-of-two.ensures ∙ c.if1.false))
+returns-2 c = sym (most-is _ (sym c.before.is_one_of_two.ensures ∙ c.if-is_one_of_two.false))
 
-pub most-of-spec : {M : Type 1} → statement M
-most-of-spec = tie.close (tie.spec (λ c κs. search rules) (λ c. search rules) returns returns-2)
+pub most_of_spec : {M : Type 1} → statement M
+most_of_spec = tie.close (tie.spec (λ c κs. search rules) (λ c. search rules) returns returns-2)

@@ -65,93 +65,93 @@ several from count fields form r l u s w =
 none : (form : ℕ) (r : Rule) → r.used ≡ 0 → within 1 (length forms) form ≡ false → RuleOf form r
 none form r z w = record { none = λ _. w; some = λ n. absurd (n z) }
 
-returns : tie.Need-returns
+returns : tie.Need-returns-in-1
 unfolding wrong apart forms row_of used least places
-returns c = one 1 _ _ _ c.before.match.keys1 c.uses.ensures refl
+returns c = one 1 _ _ _ c.in-1.is c.uses.ensures refl
 
-returns-2 : tie.Need-returns-2
+returns-2 : tie.Need-returns-in-2
 unfolding wrong apart forms row_of used least places
-returns-2 c = one 2 _ _ _ c.before.match.keys2 c.uses2.ensures refl
+returns-2 c = one 2 _ _ _ c.in-2.is c.uses-in-2.ensures refl
 
-returns-3 : tie.Need-returns-3
+returns-3 : tie.Need-returns-in-3
 unfolding wrong apart forms row_of used least places
-returns-3 c = one 3 _ _ _ c.before.match.keys3 c.uses3.ensures refl
+returns-3 c = one 3 _ _ _ c.in-3.is c.uses-in-3.ensures refl
 
-returns-4 : tie.Need-returns-4
+returns-4 : tie.Need-returns-in-4
 unfolding wrong apart forms row_of used least places
-returns-4 c = one 4 _ _ _ c.before.match.keys4 c.uses4.ensures refl
+returns-4 c = one 4 _ _ _ c.in-4.is c.uses-in-4.ensures refl
 
-returns-5 : tie.Need-returns-5
+returns-5 : tie.Need-returns-in-10
 unfolding wrong apart forms row_of used least places
-returns-5 c = one 10 _ _ _ c.before.match.keys5 c.uses5.ensures refl
+returns-5 c = one 10 _ _ _ c.in-10.is c.uses-in-10.ensures refl
 
-returns-6 : tie.Need-returns-6
+returns-6 : tie.Need-returns-in-11
 unfolding wrong apart forms row_of used least places
-returns-6 c = one 11 _ _ _ c.before.match.keys6 c.uses6.ensures refl
+returns-6 c = one 11 _ _ _ c.in-11.is c.uses-in-11.ensures refl
 
-returns-7 : tie.Need-returns-7
+returns-7 : tie.Need-returns-in-12
 unfolding wrong apart forms row_of used least places
-returns-7 c = one 12 _ _ _ c.before.match.keys7 c.uses7.ensures refl
+returns-7 c = one 12 _ _ _ c.in-12.is c.uses-in-12.ensures refl
 
-returns-8 : tie.Need-returns-8
+returns-8 : tie.Need-returns-in-13
 unfolding wrong apart forms row_of used least places
-returns-8 c = one 13 _ _ _ c.before.match.keys8 c.uses8.ensures refl
+returns-8 c = one 13 _ _ _ c.in-13.is c.uses-in-13.ensures refl
 
-returns-9 : tie.Need-returns-9
+returns-9 : tie.Need-returns-in-14
 unfolding wrong apart forms row_of used least places
-returns-9 c = one 14 _ _ _ c.before.match.keys9 c.uses9.ensures refl
+returns-9 c = one 14 _ _ _ c.in-14.is c.uses-in-14.ensures refl
 
-returns-10 : tie.Need-returns-10
+returns-10 : tie.Need-returns-in-15
 unfolding wrong apart forms row_of used least places
-returns-10 c = one 15 _ _ _ c.before.match.keys10 c.uses10.ensures refl
+returns-10 c = one 15 _ _ _ c.in-15.is c.uses-in-15.ensures refl
 
-returns-11 : tie.Need-returns-11
+returns-11 : tie.Need-returns-in-18
 unfolding wrong apart forms row_of used least places
-returns-11 c = one 18 _ _ _ c.before.match.keys11 c.uses11.ensures refl
+returns-11 c = one 18 _ _ _ c.in-18.is c.uses-in-18.ensures refl
 
-returns-12 : tie.Need-returns-12
+returns-12 : tie.Need-returns-in-19
 unfolding wrong apart forms row_of used least places
-returns-12 c = one 19 _ _ _ c.before.match.keys12 c.uses12.ensures refl
+returns-12 c = one 19 _ _ _ c.in-19.is c.uses-in-19.ensures refl
 
-returns-13 : tie.Need-returns-13
+returns-13 : tie.Need-returns-in-20
 unfolding wrong apart forms row_of used least places
-returns-13 c = one 20 _ _ _ c.before.match.keys13 c.uses13.ensures refl
+returns-13 c = one 20 _ _ _ c.in-20.is c.uses-in-20.ensures refl
 
-returns-14 : tie.Need-returns-14
+returns-14 : tie.Need-returns-in-21
 unfolding wrong apart forms row_of used least places
-returns-14 c = one 21 _ _ _ c.before.match.keys14 c.uses14.ensures refl
+returns-14 c = one 21 _ _ _ c.in-21.is c.uses-in-21.ensures refl
 
 -- past one number more
 past : (k n : ℕ) → k ≤ n → (n ≡ k → ⊥) → k + 1 ≤ n
 past k n l a = omega (arith, a)
 
-returns-15 : tie.Need-returns-15
+returns-15 : tie.Need-returns-in-5
 unfolding wrong apart forms row_of used least places
 returns-15 c =
-    let rest = c.before.before.before.match.rest.0.0.0.0.0.0.0.0.0.0 in
-    several 5 5 _ _ _ (past 4 _ (past 3 _ (past 2 _ (past 1 _ c.before.before.if1.false rest.0.0.0.1) rest.0.0.1) rest.0.1) rest.1)
-    c.before.if2.true c.uses15.ensures refl
+    let rest = c.in-5.in_default-own.rest.0.0.0.0.0.0.0.0.0.0 in
+    several 5 5 _ _ _ (past 4 _ (past 3 _ (past 2 _ (past 1 _ c.in-5.if-form-lt1-own.false rest.0.0.0.1) rest.0.0.1) rest.0.1) rest.1)
+    c.in-5.if-form-lt10-own.true c.uses-in-5.ensures refl
 
-returns-16 : tie.Need-returns-16
+returns-16 : tie.Need-returns-in-16
 unfolding wrong apart forms row_of used least places
 returns-16 c =
-    let rest = c.before.before.before.before.match.rest.0.0.0.0 in
-    let twelve = past 12 _ (past 11 _ (past 10 _ c.before.before.if2.false rest.0.0.0.0.0.1) rest.0.0.0.0.1) rest.0.0.0.1 in
-    several 16 2 _ _ _ (past 15 _ (past 14 _ (past 13 _ twelve rest.0.0.1) rest.0.1) rest.1) c.before.if3.true c.uses16.ensures refl
+    let rest = c.in-16.in_default-own.rest.0.0.0.0 in
+    let twelve = past 12 _ (past 11 _ (past 10 _ c.in-16.if-form-lt10-own.false rest.0.0.0.0.0.1) rest.0.0.0.0.1) rest.0.0.0.1 in
+    several 16 2 _ _ _ (past 15 _ (past 14 _ (past 13 _ twelve rest.0.0.1) rest.0.1) rest.1) c.in-16.if-form-lt18-own.true c.uses-in-16.ensures refl
 
-returns-17 : tie.Need-returns-17
+returns-17 : tie.Need-returns-in_default
 unfolding forms
-returns-17 c = none _ _ refl (rw (lt-leb 1 _ c.if1.true))
+returns-17 c = none _ _ refl (rw (lt-leb 1 _ c.in_default.if-form-lt1-own.true))
 
-returns-18 : tie.Need-returns-18
+returns-18 : tie.Need-returns-in_default-2
 unfolding forms
 returns-18 c =
-    let rest = c.before.before.before.match.rest in
-    let twenty = past 19 _ (past 18 _ c.if3.false rest.0.0.0.1) rest.0.0.1 in
+    let rest = c.in_default.in_default-own.rest in
+    let twenty = past 19 _ (past 18 _ c.in_default.if-form-lt18-own.false rest.0.0.0.1) rest.0.0.1 in
     none _ _ refl (simp (lt-leb _ _ (past 21 _ (past 20 _ twenty rest.0.1) rest.1), and-false))
 
-pub rule-of-spec : {M : Type 1} → statement M
-rule-of-spec =
+pub rule_of_spec : {M : Type 1} → statement M
+rule_of_spec =
     tie.close
     (tie.spec
     (λ c κs. search rules)

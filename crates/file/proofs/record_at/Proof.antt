@@ -5,13 +5,13 @@ use Rattle.file.specs.Records.{next_at}
 use Rattle.file.proofs.record_at.Statement.{statement}
 use Rattle.file.proofs.record_at.Tie as tie
 
-returns : tie.Need-returns
+returns : tie.Need-returns-then-file-start
 unfolding next_at
-returns c = simp (le-ltb _ _ c.if1.true)
+returns c = simp (le-ltb _ _ c.if-file-start.true)
 
-returns-2 : tie.Need-returns-2
+returns-2 : tie.Need-returns
 unfolding next_at
-returns-2 c = simp (lt-ltb _ _ c.before.if1.false, c.end_of_lem.ensures)
+returns-2 c = simp (lt-ltb _ _ c.before.if-file-start.false, c.end_of-end.ensures)
 
-pub record-at-spec : {M : Type 1} → statement M
-record-at-spec = tie.close (tie.spec returns (λ c κs. search rules) returns-2)
+pub record_at_spec : {M : Type 1} → statement M
+record_at_spec = tie.close (tie.spec returns (λ c κs. search rules) returns-2)

@@ -9,27 +9,27 @@ use Rattle.marks.proofs.Masks.{on_counts}
 use Rattle.marks.proofs.count.Statement.{statement}
 use Rattle.marks.proofs.count.Tie as tie
 
-abbrev invariant-loop : tie.invariant-loop
+abbrev invariant-loop : tie.invariant-loop-i
 invariant-loop marks n marked₀ i₀ marked i = (i ≤ n) × (marked ≤ i) × (marked ≡ count_on (is_on marks) i)
 
-abbrev decreases-loop : tie.decreases-loop
+abbrev decreases-loop : tie.decreases-loop-i
 decreases-loop marks n marked₀ i₀ marked i = n - i
 
-loop-holds : tie.Need-loop-init invariant-loop decreases-loop
+loop-holds : tie.Need-loop-i-init invariant-loop decreases-loop
 unfolding sum_below
 loop-holds c = (omega arith, omega arith, omega arith)
 
-loop-again : tie.Need-loop-preserved invariant-loop decreases-loop
+loop-again : tie.Need-loop-i-preserved invariant-loop decreases-loop
 loop-again c =
     let marks = c.before.before.args.marks in
-    let l = c.before.loop in
+    let l = c.before.loop-i in
     (omega arith, omega arith, omega (arith, l.invariant.2, on_counts marks l.i, sum-last l.i (λ k. if is_on marks k then 1 else 0)))
 
 returns : tie.Need-returns invariant-loop decreases-loop
 returns c =
     let s = c.before.before in
-    let all : c.before.loop.i ≡ s.args.n = omega arith in
-    c.before.loop.invariant.2 ∙ ap (λ (k : ℕ). count_on (is_on s.args.marks) k) all
+    let all : c.before.loop-i.i ≡ s.args.n = omega arith in
+    c.before.loop-i.invariant.2 ∙ ap (λ (k : ℕ). count_on (is_on s.args.marks) k) all
 
 pub count_spec : {M : Type 1} → statement M
 count_spec =

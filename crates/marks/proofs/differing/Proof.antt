@@ -3,5 +3,5 @@ use Rattle.marks.proofs.Masks.{differ_on}
 use Rattle.marks.proofs.differing.Statement.{statement}
 use Rattle.marks.proofs.differing.Tie as tie
 
-pub differing-spec : {M : Type 1} → statement M
-differing-spec = tie.close (tie.spec (λ c k h. differ_on c.args.one c.args.other k))
+pub differing_spec : {M : Type 1} → statement M
+differing_spec = tie.close (tie.spec (λ c k h. differ_on c.args.one c.args.other k))

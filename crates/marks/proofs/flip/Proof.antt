@@ -4,5 +4,5 @@ use Rattle.marks.proofs.Masks.{flip_on}
 use Rattle.marks.proofs.flip.Statement.{statement}
 use Rattle.marks.proofs.flip.Tie as tie
 
-pub flip-spec : {M : Type 1} → statement M
-flip-spec = tie.close (tie.spec (λ c. search rules) (λ c. search rules) (λ c k h. flip_on c.args.marks c.args.i k c.requires h))
+pub flip_spec : {M : Type 1} → statement M
+flip_spec = tie.close (tie.spec (λ c. search rules) (λ c. search rules) (λ c k h. flip_on c.args.marks c.args.i k c.requires h))

@@ -8,5 +8,5 @@ returns : tie.Need-returns
 unfolding is_on
 returns c = search rules
 
-pub is-on-spec : {M : Type 1} → statement M
-is-on-spec = tie.close (tie.spec (λ c. search rules) (λ c. search rules) returns)
+pub is_on_spec : {M : Type 1} → statement M
+is_on_spec = tie.close (tie.spec (λ c. search rules) (λ c. search rules) returns)

@@ -24,26 +24,26 @@ in_order limit d r =
     go true y z w = and_assoc y z w
     go false y z w = refl
 
-returns : tie.Need-returns
+returns : tie.Need-returns-then-not-share_terms
 returns c =
     let start = c.before.before in
     rw (
       in_order start.args.limit.0 start.args.deliver start.args.receive,
-      ← c.before.share-terms.ensures,
-      not-true c.before.share-terms.result c.if1.true,
+      ← c.before.share_terms.ensures,
+      c.if-not-share_terms.true,
     )
 
-returns-2 : tie.Need-returns-2
+returns-2 : tie.Need-returns
 returns-2 c =
     let asked = c.before.before in
     let start = asked.before.before in
     rw (
       in_order start.args.limit.0 start.args.deliver start.args.receive,
-      ← asked.before.share-terms.ensures,
-      not-false asked.before.share-terms.result asked.if1.false,
-      c.before.are-alike.ensures,
-      c.are-close.ensures,
+      ← asked.before.share_terms.ensures,
+      asked.if-not-share_terms.false,
+      c.before.are_alike.ensures,
+      c.are_close.ensures,
     )
 
-pub do-agree-spec : {M : Type 1} → statement M
-do-agree-spec = tie.close (tie.spec (λ c κs. search rules) returns (λ c κs. search rules) (λ c κs. search rules) returns-2)
+pub do_agree_spec : {M : Type 1} → statement M
+do_agree_spec = tie.close (tie.spec (λ c κs. search rules) returns (λ c κs. search rules) (λ c κs. search rules) returns-2)

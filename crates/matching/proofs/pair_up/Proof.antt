@@ -4,6 +4,6 @@ use Rattle.rulebook.specs.Matching.{pair_of}
 use Rattle.matching.proofs.pair_up.Statement.{statement}
 use Rattle.matching.proofs.pair_up.Tie as tie
 
-pub pair-up-spec : {M : Type 1} → statement M
+pub pair_up_spec : {M : Type 1} → statement M
 unfolding pair_of
-pair-up-spec = tie.close (tie.spec (λ c κs. search rules) (λ c κs. search rules) (λ c. cc))
+pair_up_spec = tie.close (tie.spec (λ c κs. search rules) (λ c κs. search rules) (λ c. cc))

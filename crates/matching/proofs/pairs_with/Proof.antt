@@ -7,26 +7,26 @@ use Rattle.rulebook.proofs.EveryCall.Items.{deliver_not_receive}
 use Rattle.matching.proofs.pairs_with.Statement.{statement}
 use Rattle.matching.proofs.pairs_with.Tie as tie
 
-returns : tie.Need-returns
+returns : tie.Need-returns-then-is_deliver
 unfolding pairs_with
 returns c =
     let asked = c.before.before.before in
-    let delivers = sym asked.is-deliver.ensures ∙ c.before.before.if1.true in
-    rw (c.before.is-receive.ensures, c.do-agree.ensures, delivers, deliver_not_receive asked.before.args.waits.state delivers, or-false)
+    let delivers = sym asked.is_deliver.ensures ∙ c.before.before.if-is_deliver.true in
+    rw (c.before.is_receive.ensures, c.do_agree.ensures, delivers, deliver_not_receive asked.before.args.waits.state delivers, or-false)
 
-returns-2 : tie.Need-returns-2
+returns-2 : tie.Need-returns
 unfolding pairs_with
 returns-2 c =
     let agreed = c.before.before.before in
     rw (
-      c.before.before.is-receive2.ensures,
-      c.before.is-deliver2.ensures,
-      c.do-agree2.ensures,
-      sym agreed.before.is-deliver.ensures ∙ agreed.if1.false,
+      c.before.before.is_receive-2.ensures,
+      c.before.is_deliver-2.ensures,
+      c.do_agree-2.ensures,
+      sym agreed.before.is_deliver.ensures ∙ agreed.if-is_deliver.false,
     )
 
-pub pairs-with-spec : {M : Type 1} → statement M
-pairs-with-spec =
+pub pairs_with_spec : {M : Type 1} → statement M
+pairs_with_spec =
     tie.close
     (tie.spec (λ c κs. search rules) (λ c κs. search rules) (λ c κs. search rules) returns
     (λ c κs. search rules) (λ c κs. search rules) (λ c κs. search rules) returns-2)

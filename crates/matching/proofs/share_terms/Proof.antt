@@ -5,9 +5,9 @@ use Rattle.matching.proofs.share_terms.Statement.{statement}
 use Rattle.matching.proofs.share_terms.Tie as tie
 
 -- where the quantities were compared
-abbrev quantities : tie.After-struct-known14 → tie.After-are-equal
+abbrev quantities : tie.After-struct_known-14-1 → tie.After-are_equal
 quantities c = c.before.before.before.before.before.before
 
-pub share-terms-spec : {M : Type 1} → statement M
+pub share_terms_spec : {M : Type 1} → statement M
 unfolding shared_terms
-share-terms-spec = tie.close (tie.spec (λ c κs. search rules) (λ c. rw (quantities c).are-equal.ensures))
+share_terms_spec = tie.close (tie.spec (λ c κs. search rules) (λ c. rw (quantities c).are_equal.ensures))

@@ -5,6 +5,6 @@ use Rattle.rulebook.specs.Matching.{tolerance}
 use Rattle.matching.proofs.tolerance_of.Statement.{statement}
 use Rattle.matching.proofs.tolerance_of.Tie as tie
 
-pub tolerance-of-spec : {M : Type 1} → statement M
+pub tolerance_of_spec : {M : Type 1} → statement M
 unfolding tolerance
-tolerance-of-spec = tie.close (tie.spec (λ c. rw (eq-eqb _ _ c.if1.true)) (λ c. search rules) (λ c. rw (ne_eqb _ _ c.before.if1.false)))
+tolerance_of_spec = tie.close (tie.spec (λ c. rw (eq-eqb _ _ c.if-currency-eq1.true)) (λ c. search rules) (λ c. rw (ne_eqb _ _ c.before.if-currency-eq1.false)))

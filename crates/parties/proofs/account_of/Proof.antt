@@ -3,6 +3,6 @@ use Rattle.rulebook.specs.Ledger.{account_of}
 use Rattle.parties.proofs.account_of.Statement.{statement}
 use Rattle.parties.proofs.account_of.Tie as tie
 
-pub account-of-spec : {M : Type 1} → statement M
+pub account_of_spec : {M : Type 1} → statement M
 unfolding account_of
-account-of-spec = tie.close (tie.spec (λ c. cc))
+account_of_spec = tie.close (tie.spec (λ c. cc))

@@ -4,6 +4,6 @@ use Rattle.rulebook.specs.Shortfall.{buyer}
 use Rattle.parties.proofs.buyer_of.Statement.{statement}
 use Rattle.parties.proofs.buyer_of.Tie as tie
 
-pub buyer-of-spec : {M : Type 1} → statement M
+pub buyer_of_spec : {M : Type 1} → statement M
 unfolding buyer
-buyer-of-spec = tie.close (tie.spec (λ c κs. search rules) (λ c. cc))
+buyer_of_spec = tie.close (tie.spec (λ c κs. search rules) (λ c. cc))

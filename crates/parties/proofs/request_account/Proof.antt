@@ -3,6 +3,6 @@ use Rattle.rulebook.specs.Ledger.{request_account}
 use Rattle.parties.proofs.request_account.Statement.{statement}
 use Rattle.parties.proofs.request_account.Tie as tie
 
-pub request-account-spec : {M : Type 1} → statement M
+pub request_account_spec : {M : Type 1} → statement M
 unfolding request_account
-request-account-spec = tie.close (tie.spec (λ c. cc))
+request_account_spec = tie.close (tie.spec (λ c. cc))

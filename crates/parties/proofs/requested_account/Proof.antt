@@ -4,6 +4,6 @@ use Rattle.rulebook.specs.Ledger.{request_account}
 use Rattle.parties.proofs.requested_account.Statement.{statement}
 use Rattle.parties.proofs.requested_account.Tie as tie
 
-pub requested-account-spec : {M : Type 1} → statement M
+pub requested_account_spec : {M : Type 1} → statement M
 unfolding request_account
-requested-account-spec = tie.close (tie.spec (λ c today. refl))
+requested_account_spec = tie.close (tie.spec (λ c today. refl))

@@ -3,6 +3,6 @@ use Rattle.rulebook.specs.Ledger.{same_account}
 use Rattle.parties.proofs.same_account.Statement.{statement}
 use Rattle.parties.proofs.same_account.Tie as tie
 
-pub same-account-spec : {M : Type 1} → statement M
+pub same_account_spec : {M : Type 1} → statement M
 unfolding same_account
-same-account-spec = tie.close (tie.spec (λ c. cc))
+same_account_spec = tie.close (tie.spec (λ c. cc))

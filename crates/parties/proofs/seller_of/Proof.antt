@@ -4,6 +4,6 @@ use Rattle.rulebook.specs.Shortfall.{seller}
 use Rattle.parties.proofs.seller_of.Statement.{statement}
 use Rattle.parties.proofs.seller_of.Tie as tie
 
-pub seller-of-spec : {M : Type 1} → statement M
+pub seller_of_spec : {M : Type 1} → statement M
 unfolding seller
-seller-of-spec = tie.close (tie.spec (λ c κs. search rules) (λ c. cc))
+seller_of_spec = tie.close (tie.spec (λ c κs. search rules) (λ c. cc))

@@ -11,27 +11,27 @@ use Rattle.record.proofs.Answers.{as_read, read-refused, read_order}
 use Rattle.record.proofs.read.Statement.{statement}
 use Rattle.record.proofs.read.Tie as tie
 
-returns : tie.Need-returns
+returns : tie.Need-returns-then-record-ne40
 unfolding read_of read_refusal
-returns c = as_read (simp (ne_eqb _ _ c.if1.true))
+returns c = as_read (simp (ne_eqb _ _ c.if-record-ne40.true))
 
-returns-2 : tie.Need-returns-2
+returns-2 : tie.Need-returns-then-number-ne0
 returns-2 c =
     as_read
-    (read-refused _ _ c.before.before.before.before.if1.false
-    (c.before.refusal.ensures ∙ ap fields_refusal c.before.before.before.fields_in.ensures) c.if2.true)
+    (read-refused _ _ c.before.before.before.before.if-record-ne40.false
+    (c.before.refusal-number.ensures ∙ ap fields_refusal c.before.before.before.fields_in-fields.ensures) c.if-number-ne0.true)
 
-order-of-requires : tie.Need-order-of-requires
+order-of-requires : tie.Need-order_of-requires
 unfolding fields_in widths
-order-of-requires c κs = rw c.before.before.before.before.fields_in.ensures (omega arith)
+order-of-requires c κs = rw c.before.before.before.before.fields_in-fields.ensures (omega arith)
 
-returns-3 : tie.Need-returns-3
+returns-3 : tie.Need-returns
 returns-3 c =
     as_read
-    (ap Read.Order (c.order-of.ensures ∙ ap order_of c.before.before.before.before.before.fields_in.ensures)
-    ∙ read_order _ _ c.before.before.before.before.before.before.if1.false
-    (c.before.before.before.refusal.ensures ∙ ap fields_refusal c.before.before.before.before.before.fields_in.ensures)
-    c.before.before.if2.false)
+    (ap Read.Order (c.order_of.ensures ∙ ap order_of c.before.before.before.before.before.fields_in-fields.ensures)
+    ∙ read_order _ _ c.before.before.before.before.before.before.if-record-ne40.false
+    (c.before.before.before.refusal-number.ensures ∙ ap fields_refusal c.before.before.before.before.before.fields_in-fields.ensures)
+    c.before.before.if-number-ne0.false)
 
 pub read_spec : {M : Type 1} → statement M
 read_spec = tie.close (tie.spec returns (λ c κs. search rules) (λ c κs. search rules) returns-2 (λ c. search rules) order-of-requires returns-3)

@@ -19,36 +19,36 @@ use Rattle.record.proofs.write.Tie as tie
 
 -- ---- places
 
-abbrev fields : tie.After-refusal → tie.After-fields-of
+abbrev fields : tie.After-refusal-number → tie.After-fields_of-fields
 fields c = c.before.before
 
-abbrev start : tie.Else1 → tie.Start
+abbrev start : tie.Else-area-lt40 → tie.Start
 start c = c.before.before
 
-abbrev passed : tie.After-fields2 → tie.Then2
-passed c = c.before.before.before
+abbrev passed : tie.After-fields-then-number-eq0-1 → tie.Then-number-eq0
+passed c = c.before.before.before.before
 
 -- ---- what is answered
 
 -- the refusal of the fields is that of the order's
-refused-by : (c : tie.After-refusal) → c.refusal.result ≡ fields_refusal (fields_of (start (fields c).before).args.order)
-refused-by c = c.refusal.ensures ∙ ap fields_refusal (fields c).fields-of.ensures
+refused-by : (c : tie.After-refusal-number) → c.refusal-number.result ≡ fields_refusal (fields_of (start (fields c).before).args.order)
+refused-by c = c.refusal-number.ensures ∙ ap fields_refusal (fields c).fields_of-fields.ensures
 
-returns : tie.Need-returns
+returns : tie.Need-returns-then-area-lt40
 unfolding written_of area_written write_refusal
-returns c = as_written (simp (lt-ltb _ _ c.if1.true) (refl, refl))
+returns c = as_written (simp (lt-ltb _ _ c.if-area-lt40.true) (refl, refl))
 
-pack-bits-requires : tie.Need-pack-bits-requires
+pack-bits-requires : tie.Need-pack_bits-requires
 unfolding widths
 pack-bits-requires c κs =
     let p = passed c in (
       search rules,
       search rules,
       omega arith,
-      rw (fields p.before).fields-of.ensures (write_fits _ (sym (refused-by p.before) ∙ p.if2.taken)),
+      rw (fields p.before).fields_of-fields.ensures (write_fits _ (sym (refused-by p.before) ∙ p.if-number-eq0.taken)),
     )
 
-returns-2 : tie.Need-returns-2
+returns-2 : tie.Need-returns-then-number-eq0
 unfolding record_of widths
 returns-2 c =
     let packs = c.before.before in
@@ -56,19 +56,16 @@ returns-2 c =
     let fs = fields p.before in
     let order : Order = (start fs.before).args.order in
     let area : List ℕ = (start fs.before).args.area.now in
-    let done = write_record order area _ fs.before.if1.left (refused-by p.before) p.if2.taken in
-    let packed : put area 0 320 (pack 0 widths fs.fields-of.result) ≡ record_of order ++ drop 40 area =
-    ap (λ (values : List ℕ). put area 0 320 (pack 0 widths values)) fs.fields-of.ensures
-    ∙ put_front area 40 (pack 0 widths (fields_of order)) (λ i. (fs.before.before.slice-known.given i).fits) in
-    as_written (done.0, packs.pack-bits.ensures ∙ packed ∙ done.1)
+    let done = write_record order area _ fs.before.if-area-lt40.left (refused-by p.before) p.if-number-eq0.taken in
+    let packed : put area 0 320 (pack 0 widths fs.fields_of-fields.result) ≡ record_of order ++ drop 40 area =
+    ap (λ (values : List ℕ). put area 0 320 (pack 0 widths values)) fs.fields_of-fields.ensures
+    ∙ put_front area 40 (pack 0 widths (fields_of order)) (λ i. (fs.before.before.slice_known-1.given i).fits) in
+    as_written (done.0, packs.pack_bits.ensures ∙ packed ∙ done.1)
 
-returns-3 : tie.Need-returns-3
-returns-3 c = as_written (write_refused _ _ _ (fields c.before).before.if1.false (refused-by c.before) c.if2.false)
+returns-3 : tie.Need-returns
+returns-3 c = as_written (write_refused _ _ _ (fields c.before).before.if-area-lt40.false (refused-by c.before) c.if-number-eq0.false)
 
 pub write_spec : {M : Type 1} → statement M
 write_spec =
     tie.close
-    (tie.spec
-    returns (λ c κs. search rules) (λ c κs. search rules)
-    (λ c. search rules) (λ c. search rules) pack-bits-requires (λ c. search rules) returns-2
-    returns-3)
+    (tie.spec returns (λ c κs. search rules) (λ c κs. search rules) (λ c. search rules) pack-bits-requires (λ c. search rules) returns-2 returns-3)

@@ -21,17 +21,17 @@ returns c =
     let s = key.before.before in
     let a = s.args in
     let words = a.requests.now in
-    let row : with_row ((1, key.key_of.result) ∷ (SHARES, shares.shares-word.result) ∷ (QUANTITIES, quantity.quantity-word.result) ∷ []) words
+    let row : with_row ((1, key.key_of-key.result) ∷ (SHARES, shares.shares_word-shares.result) ∷ (QUANTITIES, quantity.quantity_word-quantity.result) ∷ []) words
     ≡ opened words (key_of a.member a.reference) a.request =
-    λ i. with_row ((1, key.key_of.ensures i) ∷ (SHARES, shares.shares-word.ensures i) ∷ (QUANTITIES, quantity.quantity-word.ensures i) ∷ []) words
+    λ i. with_row ((1, key.key_of-key.ensures i) ∷ (SHARES, shares.shares_word-shares.ensures i) ∷ (QUANTITIES, quantity.quantity_word-quantity.ensures i) ∷ []) words
     in
     subst (λ (r : List ℕ). Kept r × (requests_of r ≡ put_request a.member a.reference a.request (requests_of words))) (sym row) (
       opened-kept words s.requires.0 a.member a.reference s.requires.1 a.request s.requires.2 s.requires.3 s.requires.4,
       opened-means words s.requires.0 a.member a.reference s.requires.1 a.request s.requires.2 s.requires.3 s.requires.4,
     )
 
-pub open-request-spec : {M : Type 1} → statement M
-open-request-spec =
+pub open_request_spec : {M : Type 1} → statement M
+open_request_spec =
     tie.close
     (tie.spec (λ c κs. search rules) (λ c κs. search rules) (λ c κs. search rules) (λ c. search rules)
     (λ c. search rules) (λ c. search rules) (λ c. search rules)

@@ -5,8 +5,8 @@ use lib.ListN.{length-set}
 use Rattle.requests.proofs.remove_request.Statement.{statement}
 use Rattle.requests.proofs.remove_request.Tie as tie
 
-pub remove-request-spec : {M : Type 1} → statement M
-remove-request-spec =
+pub remove_request_spec : {M : Type 1} → statement M
+remove_request_spec =
     tie.close
     (tie.spec
     (λ c. search rules) (λ c. search rules) (λ c. search rules) (λ c. search rules) (λ c. search rules) (λ c. search rules)

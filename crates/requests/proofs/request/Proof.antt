@@ -11,38 +11,38 @@ use Rattle.requests.proofs.Map.{asked-of, request_at, request_none}
 use Rattle.requests.proofs.request.Statement.{statement}
 use Rattle.requests.proofs.request.Tie as tie
 
-abbrev start : tie.After-found → tie.Start
-start c = c.before.before.before.before
+abbrev start : tie.In-At → tie.Start
+start c = c.before.before.before
 
-spot : (c : tie.After-found) → place_of (key_of (start c).args.member (start c).args.reference) (start c).args.requests.now ≡ At c.found.given.0.0
-spot c = sym c.before.before.find.ensures ∙ c.found.given.1
+spot : (c : tie.In-At) → place_of (key_of (start c).args.member (start c).args.reference) (start c).args.requests.now ≡ At c.in-At.i
+spot c = sym c.find-found.ensures ∙ c.in-At.is
 
-low : (c : tie.After-found) → c.found.given.0.0 < rows (start c).args.requests.now
+low : (c : tie.In-At) → c.in-At.i < rows (start c).args.requests.now
 low c = (place_at (start c).args.requests.now _ _ (spot c)).0
 
-returns : tie.Need-returns
+returns : tie.Need-returns-in-At
 returns c =
-    let f = c.before.before.before.before in
+    let f = c.before.before.before in
     let s = start f in
     let a = s.args in
-    c.request-in.ensures
-    ∙ sym (request_at a.requests.now s.pre.0 (key_of a.member a.reference) f.found.given.0.0 (spot f))
-    ∙ sym (asked-of a.requests.now a.member a.reference s.pre.1)
-
-returns-2 : tie.Need-returns-2
-returns-2 c =
-    let told = c.before in
-    let s = told.before.before.before.before in
-    let a = s.args in
-    c.request-in2.ensures
-    ∙ sym
-    (request_none a.requests.now s.requires.0 (key_of a.member a.reference) (sym told.before.before.find.ensures ∙ told.enum_told.given.1))
+    c.request_in.ensures
+    ∙ sym (request_at a.requests.now s.requires.0 (key_of a.member a.reference) f.in-At.i (spot f))
     ∙ sym (asked-of a.requests.now a.member a.reference s.requires.1)
 
-pub request-spec : {M : Type 1} → statement M
-request-spec =
+returns-2 : tie.Need-returns-in-Nothing
+returns-2 c =
+    let told = c.before in
+    let s = told in
+    let a = s.args in
+    c.request_in-in-Nothing.ensures
+    ∙ sym
+    (request_none a.requests.now s.requires.0 (key_of a.member a.reference) (sym told.find-found.ensures ∙ told.in-Nothing.is))
+    ∙ sym (asked-of a.requests.now a.member a.reference s.requires.1)
+
+pub request_spec : {M : Type 1} → statement M
+request_spec =
     tie.close
     (tie.spec (λ c κs. search rules) (λ c. search rules)
+    (λ c. omega (arith, low c)) (λ c. omega (arith, low c)) (λ c. omega (arith, low c.before))
     (λ c. omega (arith, low c.before)) (λ c. omega (arith, low c.before)) (λ c. omega (arith, low c.before.before))
-    (λ c. omega (arith, low c.before.before)) (λ c. omega (arith, low c.before.before)) (λ c. omega (arith, low c.before.before.before))
     (λ c κs. search rules) (λ c. search rules) (λ c κs. search rules) returns returns-2)

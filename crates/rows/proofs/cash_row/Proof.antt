@@ -4,6 +4,6 @@ use Rattle.rulebook.specs.Rows.{posting_of}
 use Rattle.rows.proofs.cash_row.Statement.{statement}
 use Rattle.rows.proofs.cash_row.Tie as tie
 
-pub cash-row-spec : {M : Type 1} → statement M
+pub cash_row_spec : {M : Type 1} → statement M
 unfolding posting_of
-cash-row-spec = tie.close (tie.spec (λ c. search rules))
+cash_row_spec = tie.close (tie.spec (λ c. search rules))

@@ -4,9 +4,9 @@ use Rattle.rulebook.specs.Rows.{deliver_reference}
 use Rattle.rows.proofs.deliver_reference.Statement.{statement}
 use Rattle.rows.proofs.deliver_reference.Tie as tie
 
-pub deliver-reference-spec : {M : Type 1} → statement M
+pub deliver_reference_spec : {M : Type 1} → statement M
 unfolding deliver_reference
-deliver-reference-spec =
+deliver_reference_spec =
     tie.close
-    (tie.spec (λ c. search rules) (λ c. search rules) (λ c. search rules) (λ c. rw (c.before.before.state.given.1, c.if1.true))
-    (λ c. rw (c.before.before.state.given.1, c.if1.false)) (λ c. rw c.before.state2.given.1) (λ c. rw c.before.state3.given.1))
+    (tie.spec (λ c. search rules) (λ c. search rules) (λ c. search rules) (λ c. rw (c.in-Single.is, c.if-delivers.true))
+    (λ c. rw (c.in-Single.is, c.if-delivers.false)) (λ c. rw c.in-Pair.is) (λ c. rw c.in-Trade.is))

@@ -4,5 +4,5 @@ use Rattle.rulebook.specs.Forms.{counts}
 use Rattle.rows.proofs.no_counts.Statement.{statement}
 use Rattle.rows.proofs.no_counts.Tie as tie
 
-pub no-counts-spec : {M : Type 1} → statement M
-no-counts-spec = tie.close (tie.spec (λ c. unfold counts in refl))
+pub no_counts_spec : {M : Type 1} → statement M
+no_counts_spec = tie.close (tie.spec (λ c. unfold counts in refl))

@@ -4,8 +4,8 @@ use Rattle.rulebook.specs.Rows.{notice_of}
 use Rattle.rows.proofs.notice_of.Statement.{statement}
 use Rattle.rows.proofs.notice_of.Tie as tie
 
-pub notice-of-spec : {M : Type 1} → statement M
+pub notice_of_spec : {M : Type 1} → statement M
 unfolding notice_of
-notice-of-spec =
+notice_of_spec =
     tie.close
-    (tie.spec (λ c κs. search rules) (λ c κs. search rules) (λ c. rw (c.before.deliver-reference.ensures, c.receive-reference.ensures)))
+    (tie.spec (λ c κs. search rules) (λ c κs. search rules) (λ c. rw (c.before.deliver_reference.ensures, c.receive_reference.ensures)))

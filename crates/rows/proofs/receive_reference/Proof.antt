@@ -4,9 +4,9 @@ use Rattle.rulebook.specs.Rows.{receive_reference}
 use Rattle.rows.proofs.receive_reference.Statement.{statement}
 use Rattle.rows.proofs.receive_reference.Tie as tie
 
-pub receive-reference-spec : {M : Type 1} → statement M
+pub receive_reference_spec : {M : Type 1} → statement M
 unfolding receive_reference
-receive-reference-spec =
+receive_reference_spec =
     tie.close
-    (tie.spec (λ c. search rules) (λ c. search rules) (λ c. search rules) (λ c. rw (c.before.before.state.given.1, c.if1.true))
-    (λ c. rw (c.before.before.state.given.1, c.if1.false)) (λ c. rw c.before.state2.given.1) (λ c. rw c.before.state3.given.1))
+    (tie.spec (λ c. search rules) (λ c. search rules) (λ c. search rules) (λ c. rw (c.in-Single.is, c.if-delivers.true))
+    (λ c. rw (c.in-Single.is, c.if-delivers.false)) (λ c. rw c.in-Pair.is) (λ c. rw c.in-Trade.is))

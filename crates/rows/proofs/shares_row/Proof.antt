@@ -4,6 +4,6 @@ use Rattle.rulebook.specs.Rows.{posting_of}
 use Rattle.rows.proofs.shares_row.Statement.{statement}
 use Rattle.rows.proofs.shares_row.Tie as tie
 
-pub shares-row-spec : {M : Type 1} → statement M
+pub shares_row_spec : {M : Type 1} → statement M
 unfolding posting_of
-shares-row-spec = tie.close (tie.spec (λ c. search rules))
+shares_row_spec = tie.close (tie.spec (λ c. search rules))

@@ -4,5 +4,5 @@ use Rattle.rulebook.specs.Forms.{counts}
 use Rattle.rows.proofs.two_rows.Statement.{statement}
 use Rattle.rows.proofs.two_rows.Tie as tie
 
-pub two-rows-spec : {M : Type 1} → statement M
-two-rows-spec = tie.close (tie.spec (λ c κs. search rules) (λ c. unfold counts in rw c.no-counts.ensures))
+pub two_rows_spec : {M : Type 1} → statement M
+two_rows_spec = tie.close (tie.spec (λ c κs. search rules) (λ c. unfold counts in rw c.no_counts-counts.ensures))

@@ -11,11 +11,11 @@ returns c =
     let packed = c.before.before.before.before in
     let s = packed.before.before.before.before.before in
     behind s.args.area.now _ _ (posting_bytes s.args.debit) (posting_bytes s.args.credit) 16 16
-    c.before.before.before.before.before.before.write-posting.ensures (posting_length s.args.debit) (posting_length s.args.credit)
+    c.before.before.before.before.before.before.write_posting.ensures (posting_length s.args.debit) (posting_length s.args.credit)
     (omega arith)
-    c.before.before.write-posting2.ensures
+    c.before.before.write_posting-2.ensures
 
-pub write-movement-spec : {M : Type 1} → statement M
-write-movement-spec =
+pub write_movement_spec : {M : Type 1} → statement M
+write_movement_spec =
     tie.close
     (tie.spec (λ c κs. search rules) (λ c. search rules) (λ c. search rules) (λ c. search rules) (λ c κs. search rules) (λ c. search rules) returns)

@@ -8,11 +8,11 @@ use Rattle.rows.proofs.Area.{notice-written}
 use Rattle.rows.proofs.write_notice.Statement.{statement}
 use Rattle.rows.proofs.write_notice.Tie as tie
 
-pack-bits-requires : tie.Need-pack-bits-requires
+pack-bits-requires : tie.Need-pack_bits-requires
 unfolding notice_widths
 pack-bits-requires c κs =
     let s = c.before.before.before.before.before in
-    let f = subst NoticeFits (sym c.before.before.before.notice-of.ensures) s.requires.1 in
+    let f = subst NoticeFits (sym c.before.before.before.notice_of-n.ensures) s.requires.1 in
     search rules
 
 returns : tie.Need-returns
@@ -21,8 +21,8 @@ returns c =
     let packed = c.before.before in
     let notice = packed.before.before.before.before in
     let s = notice.before.before in
-    notice-written _ _ s.args.area.now _ notice.notice-of.ensures
-    (packed.pack-bits.ensures ∙ put_front _ 16 _ (λ i. (notice.before.slice-known.given i).fits))
+    notice-written _ _ s.args.area.now _ notice.notice_of-n.ensures
+    (packed.pack_bits.ensures ∙ put_front _ 16 _ (λ i. (notice.before.slice_known-1.given i).fits))
 
-pub write-notice-spec : {M : Type 1} → statement M
-write-notice-spec = tie.close (tie.spec (λ c κs. search rules) (λ c. search rules) (λ c. search rules) pack-bits-requires (λ c. search rules) returns)
+pub write_notice_spec : {M : Type 1} → statement M
+write_notice_spec = tie.close (tie.spec (λ c κs. search rules) (λ c. search rules) pack-bits-requires (λ c. search rules) returns)

@@ -6,13 +6,13 @@ use Rattle.rulebook.specs.Rows.{posting_widths, posting_bytes}
 use Rattle.rows.proofs.write_posting.Statement.{statement}
 use Rattle.rows.proofs.write_posting.Tie as tie
 
-pack-bits-requires : tie.Need-pack-bits-requires
+pack-bits-requires : tie.Need-pack_bits-requires
 unfolding posting_widths
 pack-bits-requires c κs = search rules
 
 returns : tie.Need-returns
 unfolding posting_widths posting_bytes
-returns c = c.before.before.pack-bits.ensures ∙ put_front _ 16 _ (λ i. (c.before.before.before.before.before.before.slice-known.given i).fits)
+returns c = c.before.before.pack_bits.ensures ∙ put_front _ 16 _ (λ i. (c.before.before.before.before.before.before.slice_known-1.given i).fits)
 
-pub write-posting-spec : {M : Type 1} → statement M
-write-posting-spec = tie.close (tie.spec (λ c. search rules) (λ c. search rules) pack-bits-requires (λ c. search rules) returns)
+pub write_posting_spec : {M : Type 1} → statement M
+write_posting_spec = tie.close (tie.spec (λ c. search rules) pack-bits-requires (λ c. search rules) returns)

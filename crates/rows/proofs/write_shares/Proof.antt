@@ -8,12 +8,12 @@ use Rattle.rows.proofs.Area.{account_fits, movement_written}
 use Rattle.rows.proofs.write_shares.Statement.{statement}
 use Rattle.rows.proofs.write_shares.Tie as tie
 
-write-movement-requires : tie.Need-write-movement-requires
+write-movement-requires : tie.Need-write_movement-requires
 write-movement-requires c κs =
     let s = c.before.before.before.before in (
       search rules,
-      subst PostingFits (sym c.before.shares-row.ensures) (account_fits 0 _ _ (omega arith) s.requires.1 (search rules)),
-      subst PostingFits (sym c.shares-row2.ensures) (account_fits 1 _ _ (omega arith) s.requires.2 (search rules)),
+      subst PostingFits (sym c.before.shares_row.ensures) (account_fits 0 _ _ (omega arith) s.requires.1 (search rules)),
+      subst PostingFits (sym c.shares_row-2.ensures) (account_fits 1 _ _ (omega arith) s.requires.2 (search rules)),
     )
 
 returns : tie.Need-returns
@@ -21,8 +21,8 @@ returns c =
     let packed = c.before.before in
     let s = packed.before.before.before.before.before in
     movement_written (move (account s.args.from) (account s.args.to) s.args.quantity.0) s.args.area.now _ _ _
-    c.before.before.before.before.shares-row.ensures c.before.before.before.shares-row2.ensures
-    c.before.before.write-movement.ensures
+    c.before.before.before.before.shares_row.ensures c.before.before.before.shares_row-2.ensures
+    c.before.before.write_movement.ensures
 
-pub write-shares-spec : {M : Type 1} → statement M
-write-shares-spec = tie.close (tie.spec (λ c κs. search rules) (λ c κs. search rules) write-movement-requires (λ c. search rules) returns)
+pub write_shares_spec : {M : Type 1} → statement M
+write_shares_spec = tie.close (tie.spec (λ c κs. search rules) (λ c κs. search rules) write-movement-requires (λ c. search rules) returns)

@@ -17,24 +17,24 @@ use Rattle.rows.proofs.write_trade.Statement.{statement}
 use Rattle.rows.proofs.write_trade.Tie as tie
 
 -- where both accounts are named
-abbrev named : tie.After-write-shares → tie.After-buyer-of
-named c = c.before.before
+abbrev named : tie.After-write_shares → tie.After-buyer_of-buyer
+named c = c.before.before.before
 
-write-shares-requires : tie.Need-write-shares-requires
+write-shares-requires : tie.Need-write_shares-requires
 write-shares-requires c κs =
     let s = c.before.before.before.before in (
       search rules,
-      subst AccountInRange (sym c.before.before.seller-of.ensures) s.requires.1.debited,
-      subst AccountInRange (sym c.before.buyer-of.ensures) s.requires.1.credited,
+      subst AccountInRange (sym c.before.before.seller_of-seller.ensures) s.requires.1.debited,
+      subst AccountInRange (sym c.before.buyer_of-buyer.ensures) s.requires.1.credited,
     )
 
-write-cash-requires : tie.Need-write-cash-requires
+write-cash-requires : tie.Need-write_cash-requires
 unfolding seller buyer account_of
 write-cash-requires c κs = search rules
 
 returns : tie.Need-returns
 returns c =
-    let wrote = c.before.before.before.before.before.before in
+    let wrote = c.before.before.before.before.before.before.before in
     let s = (named wrote).before.before.before in
     let t : Item = s.args.trade in
     let shares : Movement = move (account (seller t)) (account (buyer t)) t.quantity.0 in
@@ -42,15 +42,15 @@ returns c =
     λ from to. rows_bytes (posting_rows (move (account from) (account to) t.quantity.0 ∷ [])) ++ drop 32 s.args.area.now in
     let cash : Movement = move (cash_of t.credited.member t.currency) (cash_of t.debited.member t.currency) t.amount.0 in
     behind s.args.area.now _ _ (rows_bytes (posting_rows (shares ∷ []))) (rows_bytes (posting_rows (cash ∷ []))) 32 32
-    (wrote.write-shares.ensures ∙ ap₂ rows_of (named wrote).before.seller-of.ensures (named wrote).buyer-of.ensures)
+    (wrote.write_shares.ensures ∙ ap₂ rows_of (named wrote).before.seller_of-seller.ensures (named wrote).buyer_of-buyer.ensures)
     (movement_rows shares)
     (movement_rows cash)
     (omega arith)
-    c.before.before.write-cash.ensures
+    c.before.before.write_cash.ensures
     ∙ ap (λ (x : List ℕ). x ++ drop 64 s.args.area.now) (trade-rows t)
 
-pub write-trade-spec : {M : Type 1} → statement M
-write-trade-spec =
+pub write_trade_spec : {M : Type 1} → statement M
+write_trade_spec =
     tie.close
     (tie.spec (λ c κs. search rules) (λ c κs. search rules) write-shares-requires (λ c. search rules) (λ c. search rules) (λ c. search rules)
     write-cash-requires (λ c. search rules) returns)

@@ -15,72 +15,72 @@ use Rattle.securities.proofs.enter_custody.Statement.{statement}
 use Rattle.securities.proofs.enter_custody.Tie as tie
 
 -- where the search has found the code
-abbrev start : tie.After-found → tie.Start
-start c = c.before.before.before.before.before
+abbrev start : tie.In-At → tie.Start
+start c = c.before.before.before
 
-abbrev place : tie.After-found → ℕ
-place c = c.found.given.0.0
+abbrev place : tie.In-At → ℕ
+place c = c.in-At.i
 
-spot : (c : tie.After-found) → place_of (start c).args.code (start c).args.securities.now ≡ At (place c)
-spot c = sym c.before.before.find.ensures ∙ c.found.given.1
+spot : (c : tie.In-At) → place_of (start c).args.code (start c).args.securities.now ≡ At (place c)
+spot c = sym c.find-found.ensures ∙ c.in-At.is
 
-there : (c : tie.After-found) → (place c < rows (start c).args.securities.now) × (key_at (start c).args.securities.now (place c) ≡ (start c).args.code)
+there : (c : tie.In-At) → (place c < rows (start c).args.securities.now) × (key_at (start c).args.securities.now (place c) ≡ (start c).args.code)
 there c = place_at (start c).args.securities.now (start c).args.code (place c) (spot c)
 
-low : (c : tie.After-found) → place c < rows (start c).args.securities.now
+low : (c : tie.In-At) → place c < rows (start c).args.securities.now
 low c = (there c).0
 
 -- what becomes of the two counts
-abbrev outside : tie.After-found → ℕ → ℕ
+abbrev outside : tie.In-At → ℕ → ℕ
 outside c n = n - (start c).args.quantity.0
 
-abbrev held : tie.After-found → ℕ → ℕ
+abbrev held : tie.In-At → ℕ → ℕ
 held c n = n + (start c).args.quantity.0
 
 -- the counts that stand there, as the contract names them
-sub-securities : tie.Need-overflow-sub-securities
+sub-securities : tie.Need-overflow_sub-securities
 sub-securities c =
-    let f = c.before.before.before in
+    let f = c.before.before in
     let s = start f in
     omega (
       arith,
-      s.pre.1 fresh.holdings,
-      outside-here s.args.securities.now s.args.code s.pre.0 (place f) (there f).0 (there f).1 fresh.holdings,
+      s.requires.1 fresh.holdings,
+      outside-here s.args.securities.now s.args.code s.requires.0 (place f) (there f).0 (there f).1 fresh.holdings,
     )
 
-add-securities-2 : tie.Need-overflow-add-securities-2
+add-securities-2 : tie.Need-overflow_add-securities-in-At
 add-securities-2 c =
-    let f = c.before.before.before.before.before in
+    let f = c.before.before.before.before in
     let s = start f in
     omega (
       arith,
-      s.pre.2 fresh.holdings,
-      held-as s.args.securities.now s.pre.0 s.args.code (place f) (spot f) (outside f) (held f) fresh.holdings,
+      s.requires.2 fresh.holdings,
+      held-as s.args.securities.now s.requires.0 s.args.code (place f) (spot f) (outside f) (held f) fresh.holdings,
     )
 
-returns : tie.Need-returns
+returns : tie.Need-returns-in-At
 unfolding debit
 returns c =
-    let f = c.before.before.before.before.before in
+    let f = c.before.before.before.before in
     let s = start f in
-    both_stored s.args.securities.now s.pre.0 s.args.code (place f) (spot f) (outside f) (held f)
+    both_stored s.args.securities.now s.requires.0 s.args.code (place f) (spot f) (outside f) (held f)
 
-returns-2 : tie.Need-returns-2
+returns-2 : tie.Need-returns-in-Nothing
 unfolding debit
 returns-2 c =
-    let s = c.before.before.before.before.before in (
+    let s = c in (
       s.requires.0,
-      both_nowhere s.args.securities.now s.requires.0 s.args.code (sym c.before.before.find.ensures ∙ c.enum_told.given.1)
+      both_nowhere s.args.securities.now s.requires.0 s.args.code (sym c.find-found.ensures ∙ c.in-Nothing.is)
           (λ n. n - s.args.quantity.0) (λ n. n + s.args.quantity.0),
     )
 
-pub enter-custody-spec : {M : Type 1} → statement M
-enter-custody-spec = tie.close (tie.spec (λ c κs. search rules) (λ c. search rules)
-    (λ c. omega (arith, low c.before)) (λ c. omega (arith, low c.before)) (λ c. omega (arith, low c.before.before))
-    sub-securities (λ c. omega (arith, low c.before.before.before)) (λ c. omega (arith, low c.before.before.before))
-    (λ c. omega (arith, low c.before.before.before)) (λ c. omega (arith, low c.before.before.before))
-    (λ c. omega (arith, low c.before.before.before))
+pub enter_custody_spec : {M : Type 1} → statement M
+enter_custody_spec = tie.close (tie.spec (λ c κs. search rules) (λ c. search rules)
+    (λ c. omega (arith, low c)) (λ c. omega (arith, low c)) (λ c. omega (arith, low c.before))
+    sub-securities (λ c. omega (arith, low c.before.before)) (λ c. omega (arith, low c.before.before))
+    (λ c. omega (arith, low c.before.before)) (λ c. omega (arith, low c.before.before))
+    (λ c. omega (arith, low c.before.before))
+    (λ c. simp length-set (omega (arith, low c.before.before.before)))
+    add-securities-2 (λ c. omega (arith, low c.before.before.before.before)) (λ c. omega (arith, low c.before.before.before.before))
     (λ c. simp length-set (omega (arith, low c.before.before.before.before)))
-    add-securities-2 (λ c. omega (arith, low c.before.before.before.before.before)) (λ c. omega (arith, low c.before.before.before.before.before))
-    (λ c. simp length-set (omega (arith, low c.before.before.before.before.before)))
     (λ c. search rules) (λ c. search rules) returns (λ c. search rules) returns-2)

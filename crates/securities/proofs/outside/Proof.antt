@@ -8,5 +8,5 @@ use Rattle.securities.proofs.outside.Tie as tie
 returns : tie.Need-returns
 returns c = let a = c.before.before.args in λ h. c.value.ensures ∙ outside-value a.securities.now a.code h
 
-pub outside-spec : {M : Type 1} → statement M
-outside-spec = tie.close (tie.spec (λ c κs. search rules) returns)
+pub outside_spec : {M : Type 1} → statement M
+outside_spec = tie.close (tie.spec (λ c κs. search rules) returns)

@@ -20,23 +20,23 @@ physicals true true g false e = refl
 physicals true false g q e = absurd (true≢false e)
 physicals false p g q e = refl
 
-returns : tie.Need-returns
+returns : tie.Need-returns-then-is_book_entry
 unfolding alike
 returns c =
     let first = c.before.before in
     let a = first.before.args.a in
     let b = first.before.args.b in
-    c.is-book-entry2.ensures
-    ∙ entries (is_free a) (type_row a).physical (is_free b) (type_row b).physical (sym first.is-book-entry.ensures ∙ c.before.if1.true)
+    c.is_book_entry-then-is_book_entry.ensures
+    ∙ entries (is_free a) (type_row a).physical (is_free b) (type_row b).physical (sym first.is_book_entry.ensures ∙ c.before.if-is_book_entry.true)
 
-returns-2 : tie.Need-returns-2
+returns-2 : tie.Need-returns
 unfolding alike
 returns-2 c =
     let first = c.before.before.before in
     let a = first.before.args.a in
     let b = first.before.args.b in
-    rw (c.before.is-physical.ensures, c.is-physical2.ensures)
-    (physicals (is_free a) (type_row a).physical (is_free b) (type_row b).physical (sym first.is-book-entry.ensures ∙ c.before.before.if1.false))
+    rw (c.before.is_physical.ensures, c.is_physical-2.ensures)
+    (physicals (is_free a) (type_row a).physical (is_free b) (type_row b).physical (sym first.is_book_entry.ensures ∙ c.before.before.if-is_book_entry.false))
 
-pub are-alike-spec : {M : Type 1} → statement M
-are-alike-spec = tie.close (tie.spec (λ c κs. search rules) (λ c κs. search rules) returns (λ c κs. search rules) (λ c κs. search rules) returns-2)
+pub are_alike_spec : {M : Type 1} → statement M
+are_alike_spec = tie.close (tie.spec (λ c κs. search rules) (λ c κs. search rules) returns (λ c κs. search rules) (λ c κs. search rules) returns-2)

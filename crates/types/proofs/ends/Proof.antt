@@ -9,7 +9,7 @@ returns : tie.Need-returns
 unfolding ends
 returns c =
     let asked = c.before.before.before.args in
-    rw (c.before.before.is-outside.ensures, c.names.ensures, c.before.row.ensures, paper_at_lem asked.came asked.credited)
+    rw (c.before.before.is_outside.ensures, c.names.ensures, c.before.row.ensures, paper_at_lem asked.came asked.credited)
 
-pub ends-spec : {M : Type 1} → statement M
-ends-spec = tie.close (tie.spec (λ c κs. search rules) (λ c κs. search rules) (λ c κs. search rules) returns)
+pub ends_spec : {M : Type 1} → statement M
+ends_spec = tie.close (tie.spec (λ c κs. search rules) (λ c κs. search rules) (λ c κs. search rules) returns)

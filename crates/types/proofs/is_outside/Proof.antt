@@ -5,9 +5,9 @@ use Rattle.types.proofs.Rows.{word_state}
 use Rattle.types.proofs.is_outside.Statement.{statement}
 use Rattle.types.proofs.is_outside.Tie as tie
 
-pub is-outside-spec : {M : Type 1} → statement M
+pub is_outside_spec : {M : Type 1} → statement M
 unfolding is_outside
-is-outside-spec =
+is_outside_spec =
     tie.close
     (tie.spec (λ c κs. search rules) (λ c κs. search rules)
     (λ c. rw (c.state.ensures, c.before.row.ensures, word_state c.before.before.args.typ)))

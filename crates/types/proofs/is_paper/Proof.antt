@@ -4,5 +4,5 @@ use Rattle.types.proofs.Rows.{word_paper}
 use Rattle.types.proofs.is_paper.Statement.{statement}
 use Rattle.types.proofs.is_paper.Tie as tie
 
-pub is-paper-spec : {M : Type 1} → statement M
-is-paper-spec = tie.close (tie.spec (λ c κs. search rules) (λ c. rw c.row.ensures (word_paper c.before.args.typ)))
+pub is_paper_spec : {M : Type 1} → statement M
+is_paper_spec = tie.close (tie.spec (λ c κs. search rules) (λ c. rw c.row.ensures (word_paper c.before.args.typ)))

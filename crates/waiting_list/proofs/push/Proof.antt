@@ -14,7 +14,7 @@ returns : tie.Need-returns
 returns c =
     let a = c.before.before.before.before.before.before.args in
     let p = c.before.before.before.before.before.before.requires in
-    let l : List ℕ = a.items-1.now in
+    let l : List ℕ = a.items.now in
     subst (λ (w : List ℕ). Sized (set w 0 (rows l + 1)) × (items_of (set w 0 (rows l + 1)) ≡ items_of l ++ (a.item ∷ [])))
     (sym c.before.before.write_row.ensures) (pushed l a.item p.0 p.1)
 

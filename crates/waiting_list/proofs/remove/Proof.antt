@@ -15,7 +15,7 @@ returns : tie.Need-returns
 returns c =
     let a = c.before.before.before.before.before.before.args in
     let p = c.before.before.before.before.before.before.requires in
-    let l : List ℕ = a.items-1.now in
+    let l : List ℕ = a.items.now in
     subst (λ (w : List ℕ). Sized (set w 0 (rows l - 1)) × (items_of (set w 0 (rows l - 1)) ≡ remove_at a.i (items_of l)))
     (sym c.before.before.shift_down.ensures) (removed l p.0 a.i p.1)
 

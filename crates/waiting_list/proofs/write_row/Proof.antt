@@ -19,8 +19,8 @@ returns c =
     let state = flag.before in
     let a = state.before.before.args in
     written.write.ensures
-    ∙ ap (λ (sent : ℕ). put_row a.items-1.now a.i (row_with a.item state.state_words-s.result sent)) flag.bit_of.ensures.0
-    ∙ ap (λ (s : StateWords). put_row a.items-1.now a.i (row_of a.item s)) state.state_words-s.ensures
+    ∙ ap (λ (sent : ℕ). put_row a.items.now a.i (row_with a.item state.state_words-s.result sent)) flag.bit_of.ensures.0
+    ∙ ap (λ (s : StateWords). put_row a.items.now a.i (row_of a.item s)) state.state_words-s.ensures
 
 pub write_row_spec : {M : Type 1} → statement M
 write_row_spec =

@@ -4,11 +4,11 @@ use Rattle.wording.specs.Fill.{is_sign}
 use Rattle.wording.proofs.is_sign.Statement.{statement}
 use Rattle.wording.proofs.is_sign.Tie as tie
 
-others : tie.Need-returns-7
+others : tie.Need-returns-in_default
 unfolding is_sign
 others c =
-    let b = c.before.args.b in
-    let rest = c.match.rest in
+    let b = c.args.b in
+    let rest = c.in_default.in_default-own.rest in
     rw (
       ne_eqb b 35 rest.0.0.0.0.0.1,
       ne_eqb b 36 rest.0.0.0.0.1,
@@ -18,15 +18,15 @@ others c =
       ne_eqb b 94 rest.1,
     )
 
-pub is-sign-spec : {M : Type 1} → statement M
+pub is_sign_spec : {M : Type 1} → statement M
 unfolding is_sign
-is-sign-spec =
+is_sign_spec =
     tie.close
     (tie.spec
-    (λ c. rw c.match.keys1)
-    (λ c. rw c.match.keys2)
-    (λ c. rw c.match.keys3)
-    (λ c. rw c.match.keys4)
-    (λ c. rw c.match.keys5)
-    (λ c. rw c.match.keys6)
+    (λ c. rw c.in-35.is)
+    (λ c. rw c.in-36.is)
+    (λ c. rw c.in-37.is)
+    (λ c. rw c.in-42.is)
+    (λ c. rw c.in-33.is)
+    (λ c. rw c.in-94.is)
     others)

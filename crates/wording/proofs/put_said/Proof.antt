@@ -5,32 +5,32 @@ use Rattle.wording.specs.Fill.{said}
 use Rattle.wording.proofs.put_said.Statement.{statement}
 use Rattle.wording.proofs.put_said.Tie as tie
 
-number : tie.Need-returns
+number : tie.Need-returns-in-35
 unfolding said
-number c = (rw c.before.before.before.before.match.keys1 c.before.before.put-number.ensures.0, search rules)
+number c = (rw c.in-35.is c.put_number.ensures.0, search rules)
 
-currency : tie.Need-returns-2
+currency : tie.Need-returns-in-36
 unfolding said
-currency c = (rw c.before.before.before.before.match.keys2 c.before.before.put-currency.ensures.0, search rules)
+currency c = (rw c.in-36.is c.put_currency.ensures.0, search rules)
 
-account-type : tie.Need-returns-3
+account-type : tie.Need-returns-in-37
 unfolding said
-account-type c = (rw c.before.before.before.before.match.keys3 c.before.before.put-type.ensures.0, search rules)
+account-type c = (rw c.in-37.is c.put_type.ensures.0, search rules)
 
-notice : tie.Need-returns-4
+notice : tie.Need-returns-in-42
 unfolding said
-notice c = (rw c.before.before.before.before.match.keys4 c.before.before.put-notice.ensures.0, search rules)
+notice c = (rw c.in-42.is c.put_notice.ensures.0, search rules)
 
-refusal : tie.Need-returns-5
+refusal : tie.Need-returns-in-33
 unfolding said
-refusal c = (rw c.before.before.before.before.match.keys5 c.before.before.put-refusal.ensures.0, search rules)
+refusal c = (rw c.in-33.is c.put_refusal.ensures.0, search rules)
 
-form : tie.Need-returns-6
+form : tie.Need-returns-in_default
 unfolding said
 form c =
-    let sign = c.before.before.before.before.before.before.args.sign in
-    let rest = c.before.before.before.before.match.rest in
-    let put = c.before.before.put-form.ensures in (
+    let sign = c.args.sign in
+    let rest = c.in_default.in_default-own.rest in
+    let put = c.put_form.ensures in (
       rw (
         ne_eqb sign 35 rest.0.0.0.0.1,
         ne_eqb sign 36 rest.0.0.0.1,
@@ -41,8 +41,8 @@ form c =
       put.1,
     )
 
-pub put-said-spec : {M : Type 1} → statement M
-put-said-spec =
+pub put_said_spec : {M : Type 1} → statement M
+put_said_spec =
     tie.close
     (tie.spec
     (λ c κs. search rules)

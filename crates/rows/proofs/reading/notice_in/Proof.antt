@@ -7,14 +7,14 @@ use Rattle.rows.proofs.reading.notice_in.Tie as tie
 returns : tie.Need-returns
 unfolding notice_in notice_widths
 returns c = λ i. record {
-  kind = c.before.before.before.before.get-bits.ensures i;
-  deliverer = c.before.before.before.get-bits2.ensures i;
-  receiver = c.before.before.get-bits3.ensures i;
-  deliver_reference = c.before.get-bits4.ensures i;
-  receive_reference = c.get-bits5.ensures i;
+  kind = c.before.before.before.before.get_bits.ensures i;
+  deliverer = c.before.before.before.get_bits-2.ensures i;
+  receiver = c.before.before.get_bits-3.ensures i;
+  deliver_reference = c.before.get_bits-4.ensures i;
+  receive_reference = c.get_bits-5.ensures i;
 }
 
-pub notice-in-spec : {M : Type 1} → statement M
-notice-in-spec =
+pub notice_in_spec : {M : Type 1} → statement M
+notice_in_spec =
     tie.close
     (tie.spec (λ c κs. search rules) (λ c κs. search rules) (λ c κs. search rules) (λ c κs. search rules) (λ c κs. search rules) returns)

@@ -7,17 +7,17 @@ use Rattle.rows.proofs.reading.posting_in.Tie as tie
 returns : tie.Need-returns
 unfolding posting_in posting_widths
 returns c = λ i. record {
-  credit = c.before.before.before.before.before.before.get-bits.ensures i;
-  cash = c.before.before.before.before.before.get-bits2.ensures i;
-  what = c.before.before.before.before.get-bits3.ensures i;
-  member = c.before.before.before.get-bits4.ensures i;
-  typ = c.before.before.get-bits5.ensures i;
-  shareholder = c.before.get-bits6.ensures i;
-  number = c.get-bits7.ensures i;
+  credit = c.before.before.before.before.before.before.get_bits.ensures i;
+  cash = c.before.before.before.before.before.get_bits-2.ensures i;
+  what = c.before.before.before.before.get_bits-3.ensures i;
+  member = c.before.before.before.get_bits-4.ensures i;
+  typ = c.before.before.get_bits-5.ensures i;
+  shareholder = c.before.get_bits-6.ensures i;
+  number = c.get_bits-7.ensures i;
 }
 
-pub posting-in-spec : {M : Type 1} → statement M
-posting-in-spec =
+pub posting_in_spec : {M : Type 1} → statement M
+posting_in_spec =
     tie.close
     (tie.spec
     (λ c κs. search rules) (λ c κs. search rules) (λ c κs. search rules) (λ c κs. search rules)

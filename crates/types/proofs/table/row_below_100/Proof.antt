@@ -9,19 +9,19 @@ use Rattle.types.proofs.Rows.{no_word_on}
 use Rattle.types.proofs.table.row_below_100.Statement.{statement}
 use Rattle.types.proofs.table.row_below_100.Tie as tie
 
-others : tie.Need-returns-3
+others : tie.Need-returns-in_default
 unfolding type_table
 others c =
-    let t = c.before.args.typ in
-    let rest = c.match.rest in
-    no_word_on (λ n. 50 at_most n && n below 100) t (rw (le-leb 50 t c.before.requires.0, lt-ltb t 100 c.before.requires.1))
+    let t = c.args.typ in
+    let rest = c.in_default.in_default-own.rest in
+    no_word_on (λ n. 50 at_most n && n below 100) t (rw (le-leb 50 t c.requires.0, lt-ltb t 100 c.requires.1))
     (rw (ne_eqb t requested rest.0.1, ne_eqb t 91 rest.1))
 
-pub row-below-100-spec : {M : Type 1} → statement M
+pub row_below_100_spec : {M : Type 1} → statement M
 unfolding word_of is_paper listed type_row type_table
-row-below-100-spec =
+row_below_100_spec =
     tie.close
     (tie.spec
-    (λ c. rw c.match.keys1)
-    (λ c. rw c.match.keys2)
+    (λ c. rw c.in-50.is)
+    (λ c. rw c.in-91.is)
     others)

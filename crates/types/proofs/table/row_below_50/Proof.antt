@@ -8,12 +8,12 @@ use Rattle.types.proofs.Rows.{no_word_on}
 use Rattle.types.proofs.table.row_below_50.Statement.{statement}
 use Rattle.types.proofs.table.row_below_50.Tie as tie
 
-others : tie.Need-returns-7
+others : tie.Need-returns-in_default
 unfolding type_table
 others c =
-    let t = c.before.args.typ in
-    let rest = c.match.rest in
-    no_word_on (λ n. n below 50) t (lt-ltb t 50 c.before.requires)
+    let t = c.args.typ in
+    let rest = c.in_default.in_default-own.rest in
+    no_word_on (λ n. n below 50) t (lt-ltb t 50 c.requires)
     (rw (
       ne_eqb t 10 rest.0.0.0.0.0.1,
       ne_eqb t 11 rest.0.0.0.0.1,
@@ -23,15 +23,15 @@ others c =
       ne_eqb t 22 rest.1,
     ))
 
-pub row-below-50-spec : {M : Type 1} → statement M
+pub row_below_50_spec : {M : Type 1} → statement M
 unfolding word_of is_paper listed type_row type_table
-row-below-50-spec =
+row_below_50_spec =
     tie.close
     (tie.spec
-    (λ c. rw c.match.keys1)
-    (λ c. rw c.match.keys2)
-    (λ c. rw c.match.keys3)
-    (λ c. rw c.match.keys4)
-    (λ c. rw c.match.keys5)
-    (λ c. rw c.match.keys6)
+    (λ c. rw c.in-10.is)
+    (λ c. rw c.in-11.is)
+    (λ c. rw c.in-12.is)
+    (λ c. rw c.in-20.is)
+    (λ c. rw c.in-21.is)
+    (λ c. rw c.in-22.is)
     others)

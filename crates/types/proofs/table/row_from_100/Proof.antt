@@ -8,12 +8,12 @@ use Rattle.types.proofs.Rows.{no_word_on}
 use Rattle.types.proofs.table.row_from_100.Statement.{statement}
 use Rattle.types.proofs.table.row_from_100.Tie as tie
 
-others : tie.Need-returns-6
+others : tie.Need-returns-in_default
 unfolding type_table
 others c =
-    let t = c.before.args.typ in
-    let rest = c.match.rest in
-    no_word_on (λ n. 100 at_most n) t (le-leb 100 t c.before.requires)
+    let t = c.args.typ in
+    let rest = c.in_default.in_default-own.rest in
+    no_word_on (λ n. 100 at_most n) t (le-leb 100 t c.requires)
     (rw (
       ne_eqb t 110 rest.0.0.0.0.1,
       ne_eqb t 112 rest.0.0.0.1,
@@ -22,14 +22,14 @@ others c =
       ne_eqb t 122 rest.1,
     ))
 
-pub row-from-100-spec : {M : Type 1} → statement M
+pub row_from_100_spec : {M : Type 1} → statement M
 unfolding word_of is_paper listed type_row type_table
-row-from-100-spec =
+row_from_100_spec =
     tie.close
     (tie.spec
-    (λ c. rw c.match.keys1)
-    (λ c. rw c.match.keys2)
-    (λ c. rw c.match.keys3)
-    (λ c. rw c.match.keys4)
-    (λ c. rw c.match.keys5)
+    (λ c. rw c.in-110.is)
+    (λ c. rw c.in-112.is)
+    (λ c. rw c.in-120.is)
+    (λ c. rw c.in-121.is)
+    (λ c. rw c.in-122.is)
     others)
