@@ -3,9 +3,9 @@
 
     python3 tools/respell.py [--list] [ROOT]
 
-A word of specs/ or proofs/ that is spelled as `accountOf` becomes `account_of`, and a lemma that is spelled as `accounts-complete` becomes
-`accounts_complete`. A dash stays behind the name of a definition, of a type or of a fact, where it joins two names: `IsPlace-in`, `missing-none`. A lemma
-that would have the name of a definition or of a function gets `_lem`.
+A word of specs/ or proofs/ that is spelled as `accountOf` or `trade-day` becomes `account_of` or `trade_day`, and a lemma that is spelled as
+`accounts-complete` becomes `accounts_complete`. A dash stays in a lemma's name behind the name of a definition, of a type or of a fact, where it joins two
+names: `IsPlace-in`, `missing-none`. A lemma that would have the name of a definition or of a function gets `_lem`.
 Functions of src/, strings and comments of src/ and names of the kit stay as they are, the kit's lemmas by RATTLE_KIT, its folder. --list prints the table of names and changes nothing.
 """
 import collections
@@ -16,9 +16,10 @@ import sys
 NAME = r"[A-Za-z_][A-Za-z0-9_']*(?:-[A-Za-z0-9_']+)*"
 TOKEN = re.compile(NAME)
 CAMEL = re.compile(r"[a-z][a-z0-9]*(?:[A-Z][a-z0-9]*)+")
-HEX = re.compile(r"x[0-9A-F]{2}")
+HEX = re.compile(r"x[0-9A-F]+[0-9]*")
 DECLARED = re.compile(
     rf"^\s*(?:(?:abbrev|unfoldable|opaque|pub|def|record|data|inductive|pattern)\s+)*({NAME})(?:\s+[({{].*)?\s*:(?!:)", re.M)
+RECORD = re.compile(r"^( *)(?:pub )?record [^\n]*where\n((?:\1  [^\n]*\n)+)", re.M)
 DEFINED = re.compile(rf"^\s*(?:abbrev|unfoldable)\s+(?:pub\s+)?({NAME})", re.M)
 # strings, and in src/ comments too
 STRING = r'b?"(?:[^"\\]|\\.)*"'
@@ -69,13 +70,16 @@ def kit_words(folder):
 
 def table(root, kit):
     texts = {path: open(path, encoding="utf-8").read() for path in files(root)}
-    definitions, dashed, camel = set(), set(), set()
+    definitions, words, dashed, camel = set(), set(), set(), set()
     for path, text in texts.items():
         if not path.endswith(".antt"):
             continue
         plain = re.sub(r"(^|\s)--.*", "", text)
         if "/specs/" in path:
             definitions.update(DEFINED.findall(plain))
+            words.update(n for n in DECLARED.findall(plain) if "-" in n)
+        for _, fields in RECORD.findall(plain):
+            words.update(n for n in DECLARED.findall(fields) if "-" in n)
         parts = path.split("/")
         under = parts[parts.index("proofs") + 1:] if "proofs" in parts else []
         if "/specs/" in path or (under and under[-1] != "Proof.antt"):
@@ -87,7 +91,9 @@ def table(root, kit):
                     camel.update(p for p in word.split("-") if CAMEL.fullmatch(p) and not HEX.fullmatch(p))
     names = {c: snake(c) for c in camel}
     taken = {word for text in texts.values() for word in TOKEN.findall(text)} | set(names.values())
-    for lemma in sorted(dashed - kit):
+    for word in words:
+        names[word] = "_".join(names.get(p, p) for p in word.split("-"))
+    for lemma in sorted(dashed - words - kit):
         first, rest = lemma.split("-", 1)
         joined = "-" if first in definitions or re.search("[A-Z]", first) else "_"
         name = names.get(first, first) + joined + "_".join(names.get(p, p) for p in rest.split("-"))

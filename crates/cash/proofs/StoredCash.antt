@@ -17,7 +17,7 @@ use Rattle.cash.specs.Amounts.{place, kept, amount_of, total_in, with_cash}
 
 pub kept-fits : (member currency : ℕ) → CashFits member currency → kept member currency ≡ true
 unfolding kept
-kept-fits m c f = rw (le-leb 1 m f.member_least, le-leb m 64 f.member_most, le-leb 1 c f.currency-least, le-leb c 2 f.currency-most)
+kept-fits m c f = rw (le-leb 1 m f.member_least, le-leb m 64 f.member_most, le-leb 1 c f.currency_least, le-leb c 2 f.currency_most)
 
 pub fits_kept : (member currency : ℕ) → kept member currency ≡ true → CashFits member currency
 unfolding kept
@@ -25,7 +25,7 @@ fits_kept m c e =
     let k = both (within 1 64 m) (within 1 2 c) e in
     let p = both (1 at_most m) (m at_most 64) k.0 in
     let q = both (1 at_most c) (c at_most 2) k.1 in
-    record { member_least = leb-true 1 m p.0; member_most = leb-true m 64 p.1; currency-least = leb-true 1 c q.0; currency-most = leb-true c 2 q.1 }
+    record { member_least = leb-true 1 m p.0; member_most = leb-true m 64 p.1; currency_least = leb-true 1 c q.0; currency_most = leb-true c 2 q.1 }
 
 module _ (cash : List ℕ) (long : length cash ≡ 128) (member currency : ℕ) (fits : CashFits member currency) where
   pub amount-here : amount_of cash member currency ≡ get_or cash (place member currency) 0
@@ -40,7 +40,7 @@ module _ (cash : List ℕ) (long : length cash ≡ 128) (member currency : ℕ) 
       r = set cash (place member currency) v
 
       there : place member currency < length cash
-      there = omega (arith, long, fits.member_least, fits.member_most, fits.currency-least, fits.currency-most)
+      there = omega (arith, long, fits.member_least, fits.member_most, fits.currency_least, fits.currency_most)
 
       -- another member or another currency has another place
       apart : kept m c ≡ true → (member ≡ m → currency ≡ c → ⊥) → get_or r (place m c) 0 ≡ get_or cash (place m c) 0
@@ -94,7 +94,7 @@ module _ (cash : List ℕ) (long : length cash ≡ 128) (currency : ℕ) (least 
   -- the next amount
   next : get_or cash (2 * i + (currency - 1)) 0 ≡ amount_of cash (i + 1) currency
   next =
-      amount-at cash long (i + 1) currency (record { member_least = omega arith; member_most = omega arith; currency-least = least; currency-most = most })
+      amount-at cash long (i + 1) currency (record { member_least = omega arith; member_most = omega arith; currency_least = least; currency_most = most })
       (2 * i + (currency - 1)) (omega arith)
 
   pub total-more :

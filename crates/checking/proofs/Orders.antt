@@ -54,7 +54,7 @@ module _ (o : Order) (w : WasRead o) where
   payer e =
       let m = ranges.debited (needed 11 Field.debited_member o e refl) in
       let c = ranges.currency (needed 11 Field.currency o e refl) in
-      record { member_least = m.0; member_most = m.1; currency-least = c.0; currency-most = c.1 }
+      record { member_least = m.0; member_most = m.1; currency_least = c.0; currency_most = c.1 }
 
   pub some-quantity : 3 ≤ o.form → o.form ≤ 9 → 1 ≤ o.quantity.0
   some-quantity l u = (ranges.quantity (quantity-needed o.form ranges.form l u)).0
@@ -70,4 +70,4 @@ module _ (o : Order) (w : WasRead o) where
       record { security = fits.security; member = fits.debited.member; typ = omega arith; shareholder = fits.debited.shareholder }
 
   pub reference-named : ReferenceInRange o.debited.member o.reference
-  reference-named = record { member_most = fits.debited.member; reference-most = fits.reference }
+  reference-named = record { member_most = fits.debited.member; reference_most = fits.reference }

@@ -117,7 +117,7 @@ pub record Desk : Type 0 where
   pub behind_it :
       shown (full_selection (seller10 ((7, 500) ∷ (8, 500) ∷ (9, 10) ∷ [])) (together (original ∷ pair 77 10 9 60 10 ∷ operation 50 ∷ [])))
       ≡ (77 ∷ [], (2, 60, 0) ∷ (1, 0, 0) ∷ [])
-  pub before-it :
+  pub before_it :
       shown (full_selection (seller10 ((7, 500) ∷ (8, 500) ∷ (9, 10) ∷ [])) (together (original ∷ operation 50 ∷ pair 77 10 9 60 10 ∷ [])))
       ≡ (2 ∷ 1 ∷ [], (77, 60, 0) ∷ [])
   -- masks: the 50 and the 30, none; not all three, not the instruction, not a place behind the list

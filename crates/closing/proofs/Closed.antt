@@ -125,7 +125,7 @@ module _ (day : ℕ) (start free : List ℕ) where
       next_fits = subst (ItemFits b.day.number (today b.day) b.holdings) (sym here) (item-at b (start-kept.premise) i x more)
 
       pub settles-soon : x.settlement_day < 2 ^ 63
-      settles-soon = omega (arith, next_fits.days.settles-most, start-kept.premise.day.number)
+      settles-soon = omega (arith, next_fits.days.settles_most, start-kept.premise.day.number)
 
       -- what lies ahead of it is as it was
       further : drop (i + 1) w.now ≡ drop (i + 1) b.waiting

@@ -48,12 +48,12 @@ module _ (b : Ledger) (due marks : ℕ) (chosen : Selected b due marks) where
   left = count_on (is_on due) (length b.waiting) - count_on (is_on marks) (length b.waiting)
 
   left_out : left ≡ left_by b
-  left_out = omega (arith, counted b due marks chosen.due-marked chosen.fixed-marked)
+  left_out = omega (arith, counted b due marks chosen.due_marked chosen.fixed_marked)
 
   -- the marks on the items
   marks_fixed : bearing (marked_of marks b.waiting) ≡ fixing (selection b)
   unfolding bearing fixing
-  marks_fixed = ap bearing chosen.fixed-marked ∙ go (selection b)
+  marks_fixed = ap bearing chosen.fixed_marked ∙ go (selection b)
     where
       go : (es : List Entry) → bearing (map mark_of es) ≡ map (λ e. with_sent (is_sent (selection b) e) e.item) es
       go [] = refl

@@ -21,14 +21,14 @@ sum-next j on f b e = sum-last j (λ k. if on k then f k else 0) ∙ ap (λ (x :
 module _ (n : ℕ) (on : ℕ → Bool) (legs before : List ℕ) where
   pub added_none : length before ≡ 128 → Added n on legs before 0 before
   unfolding sum_below
-  added_none l = record { long = l; has-as = λ k h. omega arith; owes_as = λ k h. omega arith }
+  added_none l = record { long = l; has_as = λ k h. omega arith; owes_as = λ k h. omega arith }
 
   module _ (j : ℕ) (low : j < n) (now : List ℕ) (d : Added n on legs before j now) where
     pub added_room : on j ≡ true → RoomAll n on legs before → Room n legs j now
     added_room e r = record {
       has = λ k h.
           let more = sum-grows (j + 1) n (λ i. if on i then brings legs i k else 0) (omega arith) in
-          omega (arith, d.has-as k h, r.has k h, sum-next j on (λ i. brings legs i k) true e, more);
+          omega (arith, d.has_as k h, r.has k h, sum-next j on (λ i. brings legs i k) true e, more);
       owes = λ k h.
           let more = sum-grows (j + 1) n (λ i. if on i then takes legs i k else 0) (omega arith) in
           omega (arith, d.owes_as k h, r.owes k h, sum-next j on (λ i. takes legs i k) true e, more);
@@ -39,13 +39,13 @@ module _ (n : ℕ) (on : ℕ → Bool) (legs before : List ℕ) where
         → Added n on legs before (j + 1) after
     added_on e after f = record {
       long = f.long;
-      has-as = λ k h. omega (arith, d.has-as k h, f.has-as k h, sum-next j on (λ i. brings legs i k) true e);
+      has_as = λ k h. omega (arith, d.has_as k h, f.has_as k h, sum-next j on (λ i. brings legs i k) true e);
       owes_as = λ k h. omega (arith, d.owes_as k h, f.owes_as k h, sum-next j on (λ i. takes legs i k) true e);
     }
 
     pub added_off : on j ≡ false → Added n on legs before (j + 1) now
     added_off e = record {
       long = d.long;
-      has-as = λ k h. omega (arith, d.has-as k h, sum-next j on (λ i. brings legs i k) false e);
+      has_as = λ k h. omega (arith, d.has_as k h, sum-next j on (λ i. brings legs i k) false e);
       owes_as = λ k h. omega (arith, d.owes_as k h, sum-next j on (λ i. takes legs i k) false e);
     }

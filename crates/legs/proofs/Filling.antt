@@ -16,7 +16,7 @@ legs-none from to number legs l = record {
   long = l;
   from_as = λ k h. absurd (omega arith);
   to_as = λ k h. absurd (omega arith);
-  number-as = λ k h. absurd (omega arith);
+  number_as = λ k h. absurd (omega arith);
 }
 
 abbrev put_leg : List ℕ → (i f t m : ℕ) → List ℕ
@@ -65,8 +65,8 @@ legs-more from to number legs i low d f t m ef et em = record {
   to_as =
       below_more _ _ (λ k h. other (k + TO) (λ e. omega (arith, e)) (λ e. omega (arith, e)) (λ e. omega (arith, e)) ∙ d.to_as k h)
       (leg_to legs i low d.long f t m ∙ et);
-  number-as =
-      below_more _ _ (λ k h. other (k + NUMBER) (λ e. omega (arith, e)) (λ e. omega (arith, e)) (λ e. omega (arith, e)) ∙ d.number-as k h)
+  number_as =
+      below_more _ _ (λ k h. other (k + NUMBER) (λ e. omega (arith, e)) (λ e. omega (arith, e)) (λ e. omega (arith, e)) ∙ d.number_as k h)
       (leg_number legs i low d.long f t m ∙ em);
 }
   where
@@ -79,7 +79,7 @@ legs-done from to number legs n i h d =
       long = d.long;
       from_as = λ k m. d.from_as k (omega arith);
       to_as = λ k m. d.to_as k (omega arith);
-      number-as = λ k m. d.number-as k (omega arith);
+      number_as = λ k m. d.number_as k (omega arith);
     }
 
 -- ---- figures
@@ -106,15 +106,15 @@ module _ (figures : List ℕ) (i : ℕ) (low : i < 64) (long : length figures �
   put-long = length-set (set figures i v) (i + OWES) w ∙ length-set figures i v ∙ long
 
 pub figures_none : (has owes : ℕ → ℕ) (figures : List ℕ) → length figures ≡ 128 → Figures 0 has owes figures
-figures_none has owes figures l = record { long = l; has-as = λ k h. absurd (omega arith); owes_as = λ k h. absurd (omega arith) }
+figures_none has owes figures l = record { long = l; has_as = λ k h. absurd (omega arith); owes_as = λ k h. absurd (omega arith) }
 
 pub figures_more :
     (has owes : ℕ → ℕ) (figures : List ℕ) (i : ℕ) → i < 64 → Figures i has owes figures → (v w : ℕ) → v ≡ has i → w ≡ owes i
     → Figures (i + 1) has owes (put_figures figures i v w)
 figures_more has owes figures i low d v w e f = record {
   long = put-long figures i low d.long v w;
-  has-as =
-      below_more _ _ (λ k h. has_other figures i low d.long v w k (omega arith) (λ s. omega (arith, s)) ∙ d.has-as k h)
+  has_as =
+      below_more _ _ (λ k h. has_other figures i low d.long v w k (omega arith) (λ s. omega (arith, s)) ∙ d.has_as k h)
       (has_here figures i low d.long v w ∙ e);
   owes_as =
       below_more _ _ (λ k h. owes_other figures i low d.long v w k (omega arith) (λ s. omega (arith, s)) ∙ d.owes_as k h)
@@ -122,29 +122,29 @@ figures_more has owes figures i low d v w e f = record {
 }
 
 pub figures_done : (has owes : ℕ → ℕ) (figures : List ℕ) (n i : ℕ) → n ≤ i → Figures i has owes figures → Figures n has owes figures
-figures_done has owes figures n i h d = record { long = d.long; has-as = λ k m. d.has-as k (omega arith); owes_as = λ k m. d.owes_as k (omega arith) }
+figures_done has owes figures n i h d = record { long = d.long; has_as = λ k m. d.has_as k (omega arith); owes_as = λ k m. d.owes_as k (omega arith) }
 
 -- ---- legs, and the figures before any of them is added
 
 pub record Filled (i : ℕ) (from to number has : ℕ → ℕ) (legs figures : List ℕ) : Type 0 where
-  pub legs-as : Legs i from to number legs
+  pub legs_as : Legs i from to number legs
   pub start_as : Figures i has (λ k. 0) figures
 
 module _ (from to number has : ℕ → ℕ) (legs figures : List ℕ) where
   pub filled_none : length legs ≡ 192 → length figures ≡ 128 → Filled 0 from to number has legs figures
-  filled_none l f = record { legs-as = legs-none from to number legs l; start_as = figures_none has (λ k. 0) figures f }
+  filled_none l f = record { legs_as = legs-none from to number legs l; start_as = figures_none has (λ k. 0) figures f }
 
   pub filled_more :
       (i : ℕ) → i < 64 → Filled i from to number has legs figures → (f t m v : ℕ) → f ≡ from i → t ≡ to i → m ≡ number i → v ≡ has i
       → (legs-now figures-now : List ℕ) → legs-now ≡ put_leg legs i f t m → figures-now ≡ put_figures figures i v 0
       → Filled (i + 1) from to number has legs-now figures-now
   filled_more i low d f t m v ef et em ev legs-now figures-now el es = record {
-    legs-as = rw el (legs-more from to number legs i low d.legs-as f t m ef et em);
+    legs_as = rw el (legs-more from to number legs i low d.legs_as f t m ef et em);
     start_as = rw es (figures_more has (λ k. 0) figures i low d.start_as v 0 ev refl);
   }
 
   pub filled-done : (n i : ℕ) → n ≤ i → Filled i from to number has legs figures → Filled n from to number has legs figures
   filled-done n i h d = record {
-    legs-as = legs-done from to number legs n i h d.legs-as;
+    legs_as = legs-done from to number legs n i h d.legs_as;
     start_as = figures_done has (λ k. 0) figures n i h d.start_as;
   }

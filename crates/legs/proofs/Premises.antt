@@ -22,23 +22,23 @@ unfolding seller buyer
 fits-bookable b t f =
     let p = item-posts b.day.number (today b.day) b.holdings t f in
     record {
-      sells = named t.security t.debited f.terms.security-most p.debited;
-      buys = named t.security t.credited f.terms.security-most p.credited;
-      some = omega (arith, f.terms.quantity-least);
-      quantity = f.terms.quantity-most;
+      sells = named t.security t.debited f.terms.security_most p.debited;
+      buys = named t.security t.credited f.terms.security_most p.credited;
+      some = omega (arith, f.terms.quantity_least);
+      quantity = f.terms.quantity_most;
       pays = record {
         member_least = f.terms.credited_named.member_least;
         member_most = f.terms.credited_named.member_most;
-        currency-least = f.terms.currency-least;
-        currency-most = f.terms.currency-most;
+        currency_least = f.terms.currency_least;
+        currency_most = f.terms.currency_most;
       };
       paid = record {
         member_least = f.terms.debited_named.member_least;
         member_most = f.terms.debited_named.member_most;
-        currency-least = f.terms.currency-least;
-        currency-most = f.terms.currency-most;
+        currency_least = f.terms.currency_least;
+        currency_most = f.terms.currency_most;
       };
-      amount = f.terms.amount-most;
+      amount = f.terms.amount_most;
     }
 
 pub premise_ready : (b : Ledger) → Premise b → Ready b

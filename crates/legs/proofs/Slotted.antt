@@ -109,7 +109,7 @@ stored figures v column a b once l = go (ℕ_discrete a b)
 
 module _ (n : ℕ) (legs slots figures : List ℕ) (size : n ≤ 64) (long : length figures ≡ 128) (s : Slots n legs slots) where
   pub slots_low : Low n slots
-  slots_low = record { long = s.long; low = λ k h. rw (s.has-as k h) (slot_own legs n size k h) }
+  slots_low = record { long = s.long; low = λ k h. rw (s.has_as k h) (slot_own legs n size k h) }
 
   module _ (key v : ℕ) (low : slot_of legs n key < 64) where
     abbrev brought : List ℕ
@@ -120,7 +120,7 @@ module _ (n : ℕ) (legs slots figures : List ℕ) (size : n ≤ 64) (long : len
 
     pub has-stored : (k : ℕ) → k < n → has_at (viewed slots brought) k ≡ (if key is from_at legs k then v else has_at (viewed slots figures) k)
     has-stored k h =
-        rw (has-viewed slots brought k (omega arith), has-viewed slots figures k (omega arith), s.has-as k h, ← slot_test legs n size key k h)
+        rw (has-viewed slots brought k (omega arith), has-viewed slots figures k (omega arith), s.has_as k h, ← slot_test legs n size key k h)
         (stored figures v (λ x. x) (slot_of legs n key) (slot_of legs n (from_at legs k)) (λ e. e) (omega arith))
 
     pub owes_kept : (k : ℕ) → k < n → owes_at (viewed slots brought) k ≡ owes_at (viewed slots figures) k
@@ -130,7 +130,7 @@ module _ (n : ℕ) (legs slots figures : List ℕ) (size : n ≤ 64) (long : len
 
     pub owes_stored : (k : ℕ) → k < n → owes_at (viewed slots taken) k ≡ (if key is from_at legs k then v else owes_at (viewed slots figures) k)
     owes_stored k h =
-        rw (owes_viewed slots taken k (omega arith), owes_viewed slots figures k (omega arith), s.has-as k h, ← slot_test legs n size key k h)
+        rw (owes_viewed slots taken k (omega arith), owes_viewed slots figures k (omega arith), s.has_as k h, ← slot_test legs n size key k h)
         (stored figures v (λ x. x + OWES) (slot_of legs n key) (slot_of legs n (from_at legs k)) (λ e. omega (arith, e)) (omega arith))
 
     pub has_kept : (k : ℕ) → k < n → has_at (viewed slots taken) k ≡ has_at (viewed slots figures) k
@@ -171,17 +171,17 @@ module _ (n : ℕ) (legs slots figures : List ℕ) (size : n ≤ 64) (long : len
   pub owes_there : (k : ℕ) → k < n → (from_at legs j is from_at legs k) ≡ true → owes_at view k ≡ owes_at figures from
   owes_there k h e =
       let q : from_at legs j ≡ from_at legs k = eqb-true (from_at legs j) (from_at legs k) e in
-      owes_viewed slots figures k (omega arith) ∙ ap (owes_at figures) (s.has-as k h ∙ ap (slot_of legs n) (sym q) ∙ sym (s.has-as j low))
+      owes_viewed slots figures k (omega arith) ∙ ap (owes_at figures) (s.has_as k h ∙ ap (slot_of legs n) (sym q) ∙ sym (s.has_as j low))
 
   pub has_there : (k : ℕ) → k < n → (to_at legs j is from_at legs k) ≡ true → has_at view k ≡ has_at figures to
   has_there k h e =
       let q : to_at legs j ≡ from_at legs k = eqb-true (to_at legs j) (from_at legs k) e in
-      has-viewed slots figures k (omega arith) ∙ ap (has_at figures) (s.has-as k h ∙ ap (slot_of legs n) (sym q) ∙ sym (s.owes_as j low))
+      has-viewed slots figures k (omega arith) ∙ ap (has_at figures) (s.has_as k h ∙ ap (slot_of legs n) (sym q) ∙ sym (s.owes_as j low))
 
   pub short_there : (k : ℕ) → k < n → (to_at legs j is from_at legs k) ≡ true → short_at view k ≡ (has_at figures to below owes_at figures to)
   short_there k h e =
       let q : to_at legs j ≡ from_at legs k = eqb-true (to_at legs j) (from_at legs k) e in
-      let same : has_at slots k ≡ to = s.has-as k h ∙ ap (slot_of legs n) (sym q) ∙ sym (s.owes_as j low) in
+      let same : has_at slots k ≡ to = s.has_as k h ∙ ap (slot_of legs n) (sym q) ∙ sym (s.owes_as j low) in
       rw (has_there k h e, owes_viewed slots figures k (omega arith), same)
 
   -- the leg that has the figures of what j credits
@@ -198,7 +198,7 @@ module _ (n : ℕ) (legs slots figures : List ℕ) (size : n ≤ 64) (long : len
   less_long o = length-set figures (from + OWES) o ∙ long
 
   less_is : (o : ℕ) → less o ≡ set figures (slot_of legs n (from_at legs j) + OWES) o
-  less_is o = ap (λ (x : ℕ). set figures (x + OWES) o) (s.has-as j low)
+  less_is o = ap (λ (x : ℕ). set figures (x + OWES) o) (s.has_as j low)
 
   own : slot_of legs n (from_at legs j) < 64
   own = slot_own legs n size j low
@@ -218,7 +218,7 @@ module _ (n : ℕ) (legs slots figures : List ℕ) (size : n ≤ 64) (long : len
   pub changed-none : to ≡ 64 → (o : ℕ) → Stored 0 o (less o)
   changed-none e o = record {
     long = viewed-long slots (less o);
-    has-as = λ k h. rw (brings-none n legs slots figures size long s (to_at legs j) (sym (s.owes_as j low) ∙ e) k h) (kept_less o k h);
+    has_as = λ k h. rw (brings-none n legs slots figures size long s (to_at legs j) (sym (s.owes_as j low) ∙ e) k h) (kept_less o k h);
     owes_as = owes_less o;
   }
 
@@ -227,7 +227,7 @@ module _ (n : ℕ) (legs slots figures : List ℕ) (size : n ≤ 64) (long : len
       let lo : slot_of legs n (to_at legs j) < 64 = rw (s.owes_as j low) at l in
       record {
         long = viewed-long slots (set (less o) to v);
-        has-as = λ k h.
+        has_as = λ k h.
             rw (s.owes_as j low)
             (has-stored n legs slots (less o) size (less_long o) s (to_at legs j) v lo k h
             ∙ ap (λ (x : ℕ). if to_at legs j is from_at legs k then v else x) (kept_less o k h));
@@ -244,4 +244,4 @@ module _ (n : ℕ) (legs slots figures : List ℕ) (size : n ≤ 64) (long : len
 pub figures_as :
     (n : ℕ) (a b c d : ℕ → ℕ) (figures : List ℕ) → Figures n a b figures → ((k : ℕ) → k < n → a k ≡ c k) → ((k : ℕ) → k < n → b k ≡ d k)
     → Figures n c d figures
-figures_as n a b c d figures f e g = record { long = f.long; has-as = λ k h. f.has-as k h ∙ e k h; owes_as = λ k h. f.owes_as k h ∙ g k h }
+figures_as n a b c d figures f e g = record { long = f.long; has_as = λ k h. f.has_as k h ∙ e k h; owes_as = λ k h. f.owes_as k h ∙ g k h }

@@ -29,7 +29,7 @@ pub record Legs (n : ℕ) (from to number : ℕ → ℕ) (legs : List ℕ) : Typ
   pub long : length legs ≡ 192
   pub from_as : (k : ℕ) → k < n → from_at legs k ≡ from k
   pub to_as : (k : ℕ) → k < n → to_at legs k ≡ to k
-  pub number-as : (k : ℕ) → k < n → number_at legs k ≡ number k
+  pub number_as : (k : ℕ) → k < n → number_at legs k ≡ number k
 
 -- a member's cash in a currency as one number
 abbrev pub cash_key : (member currency : ℕ) → ℕ
@@ -60,7 +60,7 @@ owes_at figures k = get_or figures (k + OWES) 0
 -- the first n figures
 pub record Figures (n : ℕ) (has owes : ℕ → ℕ) (figures : List ℕ) : Type 0 where
   pub long : length figures ≡ 128
-  pub has-as : (k : ℕ) → k < n → has_at figures k ≡ has k
+  pub has_as : (k : ℕ) → k < n → has_at figures k ≡ has k
   pub owes_as : (k : ℕ) → k < n → owes_at figures k ≡ owes k
 
 -- what leg k debits is short
@@ -75,7 +75,7 @@ short_with legs figures j = (has_at figures j + brings legs j j) below (owes_at 
 
 pub record Lent (figures legs : List ℕ) (n : ℕ) : Type 0 where
   pub figures_long : length figures ≡ 128
-  pub legs-long : length legs ≡ 192
+  pub legs_long : length legs ≡ 192
   pub size : n ≤ 64
 
 -- leg j can be added to n figures, and be taken away

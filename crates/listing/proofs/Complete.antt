@@ -110,7 +110,7 @@ pub cash_complete : (h : Holdings) → CashListed h
 cash_complete h = rw (cash_listed_lem h) (complete cash_of cash_number (λ k. omega arith) (has_cash h) (λ who. CashFits who.0 who.1) cash_limit names named)
   where
     names : (k : ℕ) → k < cash_limit → CashFits (cash_of k).0 (cash_of k).1
-    names k l = record { member_least = omega arith; member_most = omega arith; currency-least = omega arith; currency-most = omega arith }
+    names k l = record { member_least = omega arith; member_most = omega arith; currency_least = omega arith; currency_most = omega arith }
 
     named : (who : ℕ × ℕ) → CashFits who.0 who.1 → (cash_number who < cash_limit) × (cash_of (cash_number who) ≡ who)
     named (m, c) fits =
@@ -124,7 +124,7 @@ requests_complete r =
     (complete request_of request_number (λ k. omega arith) (has_open r) (λ who. ReferenceInRange who.0 who.1) request_limit names named)
   where
     names : (k : ℕ) → k < request_limit → ReferenceInRange (request_of k).0 (request_of k).1
-    names k l = record { member_most = omega arith; reference-most = omega arith }
+    names k l = record { member_most = omega arith; reference_most = omega arith }
 
     named : (who : ℕ × ℕ) → ReferenceInRange who.0 who.1 → (request_number who < request_limit) × (request_of (request_number who) ≡ who)
     named (m, n) range =

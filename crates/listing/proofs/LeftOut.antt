@@ -39,7 +39,7 @@ module _ (b : Ledger) (p : Premise b) where
   request_named : (who : ℕ × ℕ) → has_open b.requests who ≡ true → ReferenceInRange who.0 who.1
   request_named who so =
       let fits = p.requests who.0 who.1 (not_none _ so) in
-      record { member_most = omega (arith, fits.named.member_most); reference-most = fits.referenced.most }
+      record { member_most = omega (arith, fits.named.member_most); reference_most = fits.referenced.most }
 
   pub nothing_left_out : NothingLeftOut b
   nothing_left_out = record {

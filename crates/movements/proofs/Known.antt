@@ -28,8 +28,8 @@ use Rattle.booking.specs.Fits.{ShiftFits, LeaveFits}
 -- a member's cash as a row names it, and member 0
 pub cash_row_lem : (m c : ℕ) → CashFits m c → rows.CashInRange m c × rows.CashInRange 0 c
 cash_row_lem m c f = (
-  record { member_fits = omega (arith, f.member_most); currency-fits = omega (arith, f.currency-most) },
-  record { member_fits = omega arith; currency-fits = omega (arith, f.currency-most) },
+  record { member_fits = omega (arith, f.member_most); currency_fits = omega (arith, f.currency_most) },
+  record { member_fits = omega arith; currency_fits = omega (arith, f.currency_most) },
 )
 
 module _ (book : List ℕ) (o : Order) (g : Given book o) where
@@ -116,7 +116,7 @@ module _ (book : List ℕ) (o : Order) (g : Given book o) where
   payee e =
       let m = (ranges o g.read).credited (needed 10 Field.credited_member o e refl) in
       let c = (ranges o g.read).currency (needed 10 Field.currency o e refl) in
-      record { member_least = m.0; member_most = m.1; currency-least = c.0; currency-most = c.1 }
+      record { member_least = m.0; member_most = m.1; currency_least = c.0; currency_most = c.1 }
 
   pub pay_in_fits : b.holdings.cash o.credited.member o.currency + o.amount.0 < 2 ^ 64
   pay_in_fits = omega (arith, cash_fits b g.kept.premise o.credited.member o.currency, (fits o g.read).amount)

@@ -151,26 +151,26 @@ module _ (b : Ledger) (r : Ready b) (due before : ℕ) (s : Started b due before
           ∙ own_test b.holdings trades_in_lem own w.covered
           ∙ nor (missing b.holdings ts (delivers (item j)) is_not 0) (missing b.holdings ts (pays (item j)) is_not 0)
           ∙ ap₂ (λ (x y : Bool). not x && not y)
-          (sym (with_missing b delivers shares (share_column b r shares w.figured.share_legs_lem) marks held_in w.figured.held-figures j there))
-          (sym (with_missing b pays cents (cash_column b r cents w.figured.cash_legs_lem) marks funds_in w.figured.funds_figures j there))
+          (sym (with_missing b delivers shares (share_column b r shares w.figured.share_legs) marks held_in w.figured.held_figures j there))
+          (sym (with_missing b pays cents (cash_column b r cents w.figured.cash_legs) marks funds_in w.figured.funds_figures j there))
 
       -- what it needs: neither place is short yet, and there is room
 
       pub held-fine : short_at held_in j ≡ false
       held-fine =
-          short_missing b delivers shares (share_column b r shares w.figured.share_legs_lem) marks held_in w.figured.held-figures j there
+          short_missing b delivers shares (share_column b r shares w.figured.share_legs) marks held_in w.figured.held_figures j there
           ∙ ap (λ (x : ℕ). x is_not 0) (w.covered (delivers (item j)))
 
       pub funds_fine : short_at funds_in j ≡ false
       funds_fine =
-          short_missing b pays cents (cash_column b r cents w.figured.cash_legs_lem) marks funds_in w.figured.funds_figures j there
+          short_missing b pays cents (cash_column b r cents w.figured.cash_legs) marks funds_in w.figured.funds_figures j there
           ∙ ap (λ (x : ℕ). x is_not 0) (w.covered (pays (item j)))
 
       pub held-room : Room n shares j held_in
-      held-room = room_one b delivers shares (share_column b r shares w.figured.share_legs_lem) marks held_in w.figured.held-figures j there
+      held-room = room_one b delivers shares (share_column b r shares w.figured.share_legs) marks held_in w.figured.held_figures j there
 
       pub funds_room : Room n cents j funds_in
-      funds_room = room_one b pays cents (cash_column b r cents w.figured.cash_legs_lem) marks funds_in w.figured.funds_figures j there
+      funds_room = room_one b pays cents (cash_column b r cents w.figured.cash_legs) marks funds_in w.figured.funds_figures j there
 
       -- ---- once it was looked at
 
@@ -255,17 +255,17 @@ module _ (b : Ledger) (r : Ready b) (due before : ℕ) (s : Started b due before
             marks_as = more-as;
             pending_as = next;
             figured = record {
-              share_legs_lem = w.figured.share_legs_lem;
+              share_legs = w.figured.share_legs;
               share_slots = w.figured.share_slots;
-              held-long = p;
-              held-figures =
-                  more-figures b delivers shares (share_column b r shares w.figured.share_legs_lem) marks held_in w.figured.held-figures j there off more
+              held_long = p;
+              held_figures =
+                  more-figures b delivers shares (share_column b r shares w.figured.share_legs) marks held_in w.figured.held_figures j there off more
                   now others_in (viewed held_at held') h;
-              cash_legs_lem = w.figured.cash_legs_lem;
+              cash_legs = w.figured.cash_legs;
               cash_slots = w.figured.cash_slots;
               funds_long = q;
               funds_figures =
-                  more-figures b pays cents (cash_column b r cents w.figured.cash_legs_lem) marks funds_in w.figured.funds_figures j there off more now
+                  more-figures b pays cents (cash_column b r cents w.figured.cash_legs) marks funds_in w.figured.funds_figures j there off more now
                   others_in (viewed funds_at funds') g;
             };
             covered = still_covered;

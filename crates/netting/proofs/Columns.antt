@@ -45,12 +45,12 @@ module _ (b : Ledger) (r : Ready b) where
   unfolding trades.brings trades.takes
   share_column legs l = record {
     size = r.size;
-    brings-as = λ j k h g.
+    brings_as = λ j k h g.
         let test = key_test (buyer (item j)) (seller (item k)) (r.bookable j h).buys (r.bookable k g).sells in
-        rw (l.to_as j h, l.from_as k g, l.number-as j h, test);
-    takes-as = λ j k h g.
+        rw (l.to_as j h, l.from_as k g, l.number_as j h, test);
+    takes_as = λ j k h g.
         let test = key_test (seller (item j)) (seller (item k)) (r.bookable j h).sells (r.bookable k g).sells in
-        rw (l.from_as j h, l.from_as k g, l.number-as j h, test);
+        rw (l.from_as j h, l.from_as k g, l.number_as j h, test);
     into_small = λ j k h g. if-below (same_account (buyer (item j)) (seller (item k))) _ (r.bookable j h).quantity;
     out_small = λ j k h g. if-below (same_account (seller (item j)) (seller (item k))) _ (r.bookable j h).quantity;
     rich = λ k h. r.balances _;
@@ -66,12 +66,12 @@ module _ (b : Ledger) (r : Ready b) where
   unfolding trades.brings trades.takes
   cash_column legs l = record {
     size = r.size;
-    brings-as = λ j k h g.
+    brings_as = λ j k h g.
         let test = cash_key_test (item j).debited.member j k (r.bookable j h).paid (r.bookable k g).pays in
-        rw (l.to_as j h, l.from_as k g, l.number-as j h, test);
-    takes-as = λ j k h g.
+        rw (l.to_as j h, l.from_as k g, l.number_as j h, test);
+    takes_as = λ j k h g.
         let test = cash_key_test (item j).credited.member j k (r.bookable j h).pays (r.bookable k g).pays in
-        rw (l.from_as j h, l.from_as k g, l.number-as j h, test);
+        rw (l.from_as j h, l.from_as k g, l.number_as j h, test);
     into_small = λ j k h g. if-below ((item j).debited.member is (item k).credited.member && (item j).currency is (item k).currency) _ (r.bookable j h).amount;
     out_small = λ j k h g.
         if-below ((item j).credited.member is (item k).credited.member && (item j).currency is (item k).currency) _ (r.bookable j h).amount;
@@ -80,33 +80,33 @@ module _ (b : Ledger) (r : Ready b) where
 
   -- the figures before any leg is added, read through slots
   abbrev near : (legs slots : List ℕ) → Slots n legs slots → (k : ℕ) → k < n → (has_at slots k < n) × (from_at legs (has_at slots k) ≡ from_at legs k)
-  near legs slots s k h = let e = s.has-as k h in rw e (slot_leg legs n (from_at legs k) (slot_own legs n r.size k h))
+  near legs slots s k h = let e = s.has_as k h in rw e (slot_leg legs n (from_at legs k) (slot_own legs n r.size k h))
 
   share_viewed :
       (legs slots figures : List ℕ) → ShareLegs b.waiting legs → Slots n legs slots → ShareStart b figures → ShareStart b (viewed slots figures)
   share_viewed legs slots figures l s f = record {
     long = viewed-long slots figures;
-    has-as = λ k h.
+    has_as = λ k h.
         let i = near legs slots s k h in
         let key : key_of (seller (item (has_at slots k))) ≡ key_of (seller (item k)) = sym (l.from_as (has_at slots k) i.0) ∙ i.1 ∙ l.from_as k h in
         let same = key_once (seller (item (has_at slots k))) (seller (item k)) (r.bookable (has_at slots k) i.0).sells (r.bookable k h).sells key in
-        has-viewed slots figures k (omega (arith, r.size)) ∙ f.has-as (has_at slots k) i.0 ∙ ap b.holdings.balance same;
+        has-viewed slots figures k (omega (arith, r.size)) ∙ f.has_as (has_at slots k) i.0 ∙ ap b.holdings.balance same;
     owes_as = λ k h. owes_viewed slots figures k (omega (arith, r.size)) ∙ f.owes_as (has_at slots k) (near legs slots s k h).0;
   }
 
   cash_viewed : (legs slots figures : List ℕ) → CashLegs b.waiting legs → Slots n legs slots → CashStart b figures → CashStart b (viewed slots figures)
   cash_viewed legs slots figures l s f = record {
     long = viewed-long slots figures;
-    has-as = λ k h.
+    has_as = λ k h.
         let i = near legs slots s k h in
         let key : payer_of (item (has_at slots k)) ≡ payer_of (item k) = sym (l.from_as (has_at slots k) i.0) ∙ i.1 ∙ l.from_as k h in
         let one = (r.bookable (has_at slots k) i.0).pays in
         let two = (r.bookable k h).pays in
         let m : (item (has_at slots k)).credited.member ≡ (item k).credited.member =
-        omega (arith, key, one.currency-most, one.currency-least, two.currency-most, two.currency-least)
+        omega (arith, key, one.currency_most, one.currency_least, two.currency_most, two.currency_least)
         in
         let c : (item (has_at slots k)).currency ≡ (item k).currency = omega (arith, key, m) in
-        has-viewed slots figures k (omega (arith, r.size)) ∙ f.has-as (has_at slots k) i.0
+        has-viewed slots figures k (omega (arith, r.size)) ∙ f.has_as (has_at slots k) i.0
         ∙ ap (λ (x : ℕ). b.holdings.cash x (item (has_at slots k)).currency) m ∙ ap (b.holdings.cash (item k).credited.member) c;
     owes_as = λ k h. owes_viewed slots figures k (omega (arith, r.size)) ∙ f.owes_as (has_at slots k) (near legs slots s k h).0;
   }

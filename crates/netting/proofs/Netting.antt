@@ -49,8 +49,8 @@ module _ (b : Ledger) (debits : Item → Place) (legs : List ℕ) where
   -- the legs are such, and their numbers and what is there fit
   pub record Column : Type 0 where
     pub size : n ≤ 64
-    pub brings-as : (j k : ℕ) → j < n → k < n → brings legs j k ≡ into k (item j)
-    pub takes-as : (j k : ℕ) → j < n → k < n → takes legs j k ≡ out k (item j)
+    pub brings_as : (j k : ℕ) → j < n → k < n → brings legs j k ≡ into k (item j)
+    pub takes_as : (j k : ℕ) → j < n → k < n → takes legs j k ≡ out k (item j)
     pub into_small : (j k : ℕ) → j < n → k < n → into k (item j) < 2 ^ 40
     pub out_small : (j k : ℕ) → j < n → k < n → out k (item j) < 2 ^ 40
     pub rich : (k : ℕ) → k < n → have k < 2 ^ 63
@@ -63,13 +63,13 @@ module _ (b : Ledger) (debits : Item → Place) (legs : List ℕ) where
     brought : (k : ℕ) → k < n → brings_all n on legs k ≡ over (into k) (marking on item n)
     brought k h =
         sum_same n (λ j. if on j then into k (item j) else 0) (λ j. if on j then brings legs j k else 0)
-        (λ j l. ap (λ (x : ℕ). if on j then x else 0) (a.brings-as j k l h))
+        (λ j l. ap (λ (x : ℕ). if on j then x else 0) (a.brings_as j k l h))
         ∙ sym (over-sum item n (into k) on)
 
     taken : (k : ℕ) → k < n → takes_all n on legs k ≡ over (out k) (marking on item n)
     taken k h =
         sum_same n (λ j. if on j then out k (item j) else 0) (λ j. if on j then takes legs j k else 0)
-        (λ j l. ap (λ (x : ℕ). if on j then x else 0) (a.takes-as j k l h))
+        (λ j l. ap (λ (x : ℕ). if on j then x else 0) (a.takes_as j k l h))
         ∙ sym (over-sum item n (out k) on)
 
     into_most : (k : ℕ) → k < n → over (into k) (marking on item n) ≤ 64 * 1_099_511_627_776
@@ -88,7 +88,7 @@ module _ (b : Ledger) (debits : Item → Place) (legs : List ℕ) where
       -- the marked legs can be added
       pub room_all : RoomAll n on legs before
       room_all = record {
-        has = λ k h. omega (arith, f.has-as k h, a.rich k h, brought k h, into_most k h);
+        has = λ k h. omega (arith, f.has_as k h, a.rich k h, brought k h, into_most k h);
         owes = λ k h. omega (arith, f.owes_as k h, taken k h, out_most k h);
       }
 
@@ -99,7 +99,7 @@ module _ (b : Ledger) (debits : Item → Place) (legs : List ℕ) where
       unfolding marked_of
       start_figures after g = record {
         long = g.long;
-        has-as = λ k h. omega (arith, g.has-as k h, f.has-as k h, brought k h);
+        has_as = λ k h. omega (arith, g.has_as k h, f.has_as k h, brought k h);
         owes_as = λ k h. omega (arith, g.owes_as k h, f.owes_as k h, taken k h);
       }
 
@@ -113,7 +113,7 @@ module _ (b : Ledger) (debits : Item → Place) (legs : List ℕ) where
       pub short_missing : (k : ℕ) → k < n → short_at figures k ≡ (missing b.holdings trades_in_lem (debits (item k)) is_not 0)
       unfolding missing
       short_missing k l =
-          rw (f.has-as k l, f.owes_as k l, over-marked (into k) (marked_of marks b.waiting), over-marked (out k) (marked_of marks b.waiting))
+          rw (f.has_as k l, f.owes_as k l, over-marked (into k) (marked_of marks b.waiting), over-marked (out k) (marked_of marks b.waiting))
           (missing-test (have k + total (into k) trades_in_lem) (total (out k) trades_in_lem))
 
       module _ (j : ℕ) (l : j < n) where
@@ -124,8 +124,8 @@ module _ (b : Ledger) (debits : Item → Place) (legs : List ℕ) where
             let has : has_at figures j + brings legs j j ≡ have j + total (into j) (trades_in_lem ++ item j ∷ []) =
             omega (
               arith,
-              f.has-as j l,
-              a.brings-as j j l l,
+              f.has_as j l,
+              a.brings_as j j l l,
               over-marked (into j) (marked_of marks b.waiting),
               total-append (into j) trades_in_lem (item j ∷ []),
             )
@@ -134,7 +134,7 @@ module _ (b : Ledger) (debits : Item → Place) (legs : List ℕ) where
             omega (
               arith,
               f.owes_as j l,
-              a.takes-as j j l l,
+              a.takes_as j j l l,
               over-marked (out j) (marked_of marks b.waiting),
               total-append (out j) trades_in_lem (item j ∷ []),
             )
@@ -145,8 +145,8 @@ module _ (b : Ledger) (debits : Item → Place) (legs : List ℕ) where
         pub room_one : Room n legs j figures
         unfolding marked_of
         room_one = record {
-          has = λ k h. omega (arith, f.has-as k h, a.rich k h, a.brings-as j k l h, a.into_small j k l h, into_most k h);
-          owes = λ k h. omega (arith, f.owes_as k h, a.takes-as j k l h, a.out_small j k l h, out_most k h);
+          has = λ k h. omega (arith, f.has_as k h, a.rich k h, a.brings_as j k l h, a.into_small j k l h, into_most k h);
+          owes = λ k h. omega (arith, f.owes_as k h, a.takes_as j k l h, a.out_small j k l h, out_most k h);
         }
 
         -- and then the figures are those under the marks with it
@@ -156,8 +156,8 @@ module _ (b : Ledger) (debits : Item → Place) (legs : List ℕ) where
         unfolding marked_of
         more-figures off more now e after g = record {
           long = g.long;
-          has-as = λ k h. omega (arith, g.has-as k h, f.has-as k h, a.brings-as j k l h, over-more item n (into k) on (is_on more) j l off now e);
-          owes_as = λ k h. omega (arith, g.owes_as k h, f.owes_as k h, a.takes-as j k l h, over-more item n (out k) on (is_on more) j l off now e);
+          has_as = λ k h. omega (arith, g.has_as k h, f.has_as k h, a.brings_as j k l h, over-more item n (into k) on (is_on more) j l off now e);
+          owes_as = λ k h. omega (arith, g.owes_as k h, f.owes_as k h, a.takes_as j k l h, over-more item n (out k) on (is_on more) j l off now e);
         }
 
         module _ (marked : on j ≡ true) where
@@ -171,8 +171,8 @@ module _ (b : Ledger) (debits : Item → Place) (legs : List ℕ) where
           pub cover_one : Cover n legs j figures
           unfolding marked_of
           cover_one = record {
-            has = λ k h. omega (arith, f.has-as k h, part (into k), a.brings-as j k l h);
-            owes = λ k h. omega (arith, f.owes_as k h, part (out k), a.takes-as j k l h);
+            has = λ k h. omega (arith, f.has_as k h, part (into k), a.brings_as j k l h);
+            owes = λ k h. omega (arith, f.owes_as k h, part (out k), a.takes_as j k l h);
           }
 
           -- and then the figures are those under the marks without it
@@ -182,6 +182,6 @@ module _ (b : Ledger) (debits : Item → Place) (legs : List ℕ) where
           unfolding marked_of
           less_figures less gone e after g = record {
             long = g.long;
-            has-as = λ k h. omega (arith, g.has-as k h, f.has-as k h, a.brings-as j k l h, over-more item n (into k) (is_on less) on j l gone marked e);
-            owes_as = λ k h. omega (arith, g.owes_as k h, f.owes_as k h, a.takes-as j k l h, over-more item n (out k) (is_on less) on j l gone marked e);
+            has_as = λ k h. omega (arith, g.has_as k h, f.has_as k h, a.brings_as j k l h, over-more item n (into k) (is_on less) on j l gone marked e);
+            owes_as = λ k h. omega (arith, g.owes_as k h, f.owes_as k h, a.takes_as j k l h, over-more item n (out k) (is_on less) on j l gone marked e);
           }

@@ -40,7 +40,7 @@ still m legs before after j f k credited h e = go (to_at legs j is from_at legs 
     go true t = credited t
     go false t =
         let none : brings legs j k ≡ 0 = rw t in
-        le-ltb (has_at after k) (owes_at after k) (omega (arith, none, f.has-as k h, f.owes_as k h, ltb-false (has_at before k) (owes_at before k) e))
+        le-ltb (has_at after k) (owes_at after k) (omega (arith, none, f.has_as k h, f.owes_as k h, ltb-false (has_at before k) (owes_at before k) e))
 
 off : (a b : Bool) → a ≡ false → (a && b) ≡ false
 off a b e = rw e
@@ -59,9 +59,9 @@ module _ (b : Ledger) (r : Ready b) where
 
   -- the marks and the figures after some rounds
   pub record Running (due marks : ℕ) (shares cents held funds : List ℕ) : Type 0 where
-    pub share_legs_lem : ShareLegs b.waiting shares
-    pub cash_legs_lem : CashLegs b.waiting cents
-    pub held-figures : FiguresOf b marks delivers held
+    pub share_legs : ShareLegs b.waiting shares
+    pub cash_legs : CashLegs b.waiting cents
+    pub held_figures : FiguresOf b marks delivers held
     pub funds_figures : FiguresOf b marks pays funds
     -- no mark is new
     pub within : Within due marks
@@ -81,9 +81,9 @@ module _ (b : Ledger) (r : Ready b) where
   module _ {shares held_at held₀ cents funds_at funds₀ : List ℕ} {due : ℕ} (f : Figured b due shares held_at held₀ cents funds_at funds₀) where
     pub starts : Running due due shares cents (viewed held_at held₀) (viewed funds_at funds₀)
     starts = record {
-      share_legs_lem = f.share_legs_lem;
-      cash_legs_lem = f.cash_legs_lem;
-      held-figures = f.held-figures;
+      share_legs = f.share_legs;
+      cash_legs = f.cash_legs;
+      held_figures = f.held_figures;
       funds_figures = f.funds_figures;
       within = λ k l e. e;
       left = n;
@@ -95,11 +95,11 @@ module _ (b : Ledger) (r : Ready b) where
         (marks : ℕ) (held funds : List ℕ) → length held ≡ 128 → length funds ≡ 128 → Running due marks shares cents (viewed held_at held) (viewed funds_at funds)
         → Figured b marks shares held_at held cents funds_at funds
     figured marks held funds p q w = record {
-      share_legs_lem = f.share_legs_lem;
+      share_legs = f.share_legs;
       share_slots = f.share_slots;
-      held-long = p;
-      held-figures = w.held-figures;
-      cash_legs_lem = f.cash_legs_lem;
+      held_long = p;
+      held_figures = w.held_figures;
+      cash_legs = f.cash_legs;
       cash_slots = f.cash_slots;
       funds_long = q;
       funds_figures = w.funds_figures;
@@ -118,8 +118,8 @@ module _ (b : Ledger) (r : Ready b) where
     tested k l =
         rw (
           mark-at (is_on marks) k l,
-          short_missing b delivers shares (share_column b r shares w.share_legs_lem) marks held w.held-figures k l,
-          short_missing b pays cents (cash_column b r cents w.cash_legs_lem) marks funds w.funds_figures k l,
+          short_missing b delivers shares (share_column b r shares w.share_legs) marks held w.held_figures k l,
+          short_missing b pays cents (cash_column b r cents w.cash_legs) marks funds w.funds_figures k l,
         )
 
     -- ---- no one is short
@@ -144,10 +144,10 @@ module _ (b : Ledger) (r : Ready b) where
       marked = (both (is_on marks j) _ (last_at code n j found).passed).0
 
       pub share_cover : Cover n shares j held
-      share_cover = cover_one b delivers shares (share_column b r shares w.share_legs_lem) marks held w.held-figures j inside marked
+      share_cover = cover_one b delivers shares (share_column b r shares w.share_legs) marks held w.held_figures j inside marked
 
       pub cash_cover : Cover n cents j funds
-      cash_cover = cover_one b pays cents (cash_column b r cents w.cash_legs_lem) marks funds w.funds_figures j inside marked
+      cash_cover = cover_one b pays cents (cash_column b r cents w.cash_legs) marks funds w.funds_figures j inside marked
 
       module _ (now : ℕ) (flips : (k : ℕ) → k < 64 → is_on now k ≡ (if k is j then not (is_on marks j) else is_on marks k)) where
         gone : is_on now j ≡ false
@@ -220,12 +220,12 @@ module _ (b : Ledger) (r : Ready b) where
             (held' funds' : List ℕ) → Figures n (λ k. has_at held k - brings shares j k) (λ k. owes_at held k - takes shares j k) held'
             → Figures n (λ k. has_at funds k - brings cents j k) (λ k. owes_at funds k - takes cents j k) funds' → Running due now shares cents held' funds'
         runs_on held' funds' h f = record {
-          share_legs_lem = w.share_legs_lem;
-          cash_legs_lem = w.cash_legs_lem;
-          held-figures =
-              less_figures b delivers shares (share_column b r shares w.share_legs_lem) marks held w.held-figures j inside marked now gone others held' h;
+          share_legs = w.share_legs;
+          cash_legs = w.cash_legs;
+          held_figures =
+              less_figures b delivers shares (share_column b r shares w.share_legs) marks held w.held_figures j inside marked now gone others held' h;
           funds_figures =
-              less_figures b pays cents (cash_column b r cents w.cash_legs_lem) marks funds w.funds_figures j inside marked now gone others funds' f;
+              less_figures b pays cents (cash_column b r cents w.cash_legs) marks funds w.funds_figures j inside marked now gone others funds' f;
           within = λ k l e. w.within k l (was_on k l e);
           left = w.left - 1;
           enough = omega (arith, w.enough, fewer);

@@ -18,11 +18,11 @@ FiguresOf b marks debits figures =
 
 -- the columns of shares, and those of cash
 pub record Figured (b : Ledger) (marks : ℕ) (shares held_at held cents funds_at funds : List ℕ) : Type 0 where
-  pub share_legs_lem : ShareLegs b.waiting shares
+  pub share_legs : ShareLegs b.waiting shares
   pub share_slots : Slots (length b.waiting) shares held_at
-  pub held-long : length held ≡ 128
-  pub held-figures : FiguresOf b marks delivers (viewed held_at held)
-  pub cash_legs_lem : CashLegs b.waiting cents
+  pub held_long : length held ≡ 128
+  pub held_figures : FiguresOf b marks delivers (viewed held_at held)
+  pub cash_legs : CashLegs b.waiting cents
   pub cash_slots : Slots (length b.waiting) cents funds_at
   pub funds_long : length funds ≡ 128
   pub funds_figures : FiguresOf b marks pays (viewed funds_at funds)

@@ -50,6 +50,6 @@ AllPassed b due before after =
 
 -- the trades that are due, and those of them that are fixed
 pub record Selected (b : Ledger) (due fixed : ℕ) : Type 0 where
-  pub due-marked : Taken b due
-  pub fixed-marked : marked_of fixed b.waiting ≡ map mark_of (selection b)
+  pub due_marked : Taken b due
+  pub fixed_marked : marked_of fixed b.waiting ≡ map mark_of (selection b)
   pub fewer : count_on (is_on fixed) (length b.waiting) ≤ count_on (is_on due) (length b.waiting)

@@ -27,17 +27,17 @@ pub as_written :
 as_written e = record { answered = e.0; number = ap written_number e.0; written = e.1 }
 
 module _ (octets : List ℕ) (number : ℕ) (l : length octets ≡ 40) (e : number ≡ fields_refusal (fields_in octets)) where
-  read_number : read_refusal octets ≡ number
+  read_number_lem : read_refusal octets ≡ number
   unfolding read_refusal fields_refusal
-  read_number = simp (eq-eqb _ _ l) (sym e)
+  read_number_lem = simp (eq-eqb _ _ l) (sym e)
 
   pub read-refused : (number ≡ 0 → ⊥) → Read.Refused number ≡ read_of octets
   unfolding read_of
-  read-refused n = simp (read_number, ne_eqb _ _ n)
+  read-refused n = simp (read_number_lem, ne_eqb _ _ n)
 
   pub read_order : number ≡ 0 → Read.Order (order_of (fields_in octets)) ≡ read_of octets
   unfolding read_of
-  read_order z = simp (read_number, eq-eqb _ _ z)
+  read_order z = simp (read_number_lem, eq-eqb _ _ z)
 
 module _ (order : Order) (area : List ℕ) (number : ℕ) (l : 40 ≤ length area) (e : number ≡ fields_refusal (fields_of order)) where
   write_number : write_refusal order area ≡ number

@@ -57,8 +57,8 @@ module _ (book : List ℕ) (o : Order) (g : Given book o) where
       security = (fits o g.read).security;
       typ = (fits o g.read).debited.typ;
       shareholder = (fits o g.read).debited.shareholder;
-      quantity-least = quantity;
-      quantity-most = (fits o g.read).quantity;
+      quantity_least = quantity;
+      quantity_most = (fits o g.read).quantity;
       day = omega (arith, g.kept.premise.day.number);
     }
 

@@ -67,7 +67,7 @@ module _ (a : List ℕ) (kept : Kept a) (member reference : ℕ) (range : Refere
         (record {
           number = omega (arith, quantities.number, counted-some (quantity_word request / 2 ^ 16) (omega arith), ap counted none_there, counted_none);
           shares_of = more-values SHARES a _ key _ shares nowhere;
-          quantity-of = more-values QUANTITIES a _ key _ quantities nowhere;
+          quantity_of = more-values QUANTITIES a _ key _ quantities nowhere;
         })
         ∙ ap (λ (r : Request). put_request member reference r (requests_of a)) (packed_back request fits)
 
@@ -115,7 +115,7 @@ module _ (a : List ℕ) (kept : Kept a) (member reference : ℕ) (range : Refere
         (record {
           number = omega (arith, quantities_left.number, counted-some (request_of a key).quantity.0 some-there, counted_none);
           shares_of = gone SHARES shares_left;
-          quantity-of = gone QUANTITIES quantities_left;
+          quantity_of = gone QUANTITIES quantities_left;
         })
       where
         some-there : 1 ≤ (request_of a key).quantity.0

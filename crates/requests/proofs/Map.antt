@@ -58,7 +58,7 @@ asked-of a member reference range = rw (range_true member reference range)
 pub record Puts (a r : List ℕ) (key shares quantity : ℕ) : Type 0 where
   pub number : rows r ≡ rows a + counted (quantity / 2 ^ 16) - counted (request_of a key).quantity.0
   pub shares_of : (x : ℕ) → value_of SHARES r x ≡ (if key is x then shares else value_of SHARES a x)
-  pub quantity-of : (x : ℕ) → value_of QUANTITIES r x ≡ (if key is x then quantity else value_of QUANTITIES a x)
+  pub quantity_of : (x : ℕ) → value_of QUANTITIES r x ≡ (if key is x then quantity else value_of QUANTITIES a x)
 
 -- the rulebook's own words
 pub put-means :
@@ -78,11 +78,11 @@ put-means a r member reference shares quantity range put = λ i. record { asked 
     chosen : (x : ℕ) (b : Bool) → (key is x) ≡ b → request_of r x ≡ (if b then request_in shares quantity else request_of a x)
     chosen x true e =
         let s : value_of SHARES r x ≡ shares = rw e at (put.shares_of x) in
-        let q : value_of QUANTITIES r x ≡ quantity = rw e at (put.quantity-of x) in
+        let q : value_of QUANTITIES r x ≡ quantity = rw e at (put.quantity_of x) in
         λ i. request_in (s i) (q i)
     chosen x false e =
         let s : value_of SHARES r x ≡ value_of SHARES a x = rw e at (put.shares_of x) in
-        let q : value_of QUANTITIES r x ≡ value_of QUANTITIES a x = rw e at (put.quantity-of x) in
+        let q : value_of QUANTITIES r x ≡ value_of QUANTITIES a x = rw e at (put.quantity_of x) in
         λ i. request_in (s i) (q i)
 
     map :

@@ -22,7 +22,7 @@ module _ (a : List ℕ) (kept : Kept a) where
 
   of-key : (key : ℕ) → key < key_limit → quantity_of key ≡ value_of QUANTITIES a key / 2 ^ 16
   of-key key l =
-      let range : ReferenceInRange (member_of key) (reference_of key) = record { member_most = omega arith; reference-most = omega arith } in
+      let range : ReferenceInRange (member_of key) (reference_of key) = record { member_most = omega arith; reference_most = omega arith } in
       let back : key_of (member_of key) (reference_of key) ≡ key = omega arith in
       ap (λ (r : Request). r.quantity.0) (asked-of a (member_of key) (reference_of key) range) ∙ ap (λ (k : ℕ). value_of QUANTITIES a k / 2 ^ 16) back
 

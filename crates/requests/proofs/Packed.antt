@@ -11,11 +11,11 @@ use Rattle.requests.specs.Packed.{ReferenceInRange, in_range, key_of, RequestInR
 
 pub range_true : (m n : ℕ) → ReferenceInRange m n → in_range m n ≡ true
 unfolding in_range
-range_true m n r = rw (lt-ltb _ _ r.member_most, lt-ltb _ _ r.reference-most)
+range_true m n r = rw (lt-ltb _ _ r.member_most, lt-ltb _ _ r.reference_most)
 
 pub range_holds : (m n : ℕ) → in_range m n ≡ true → ReferenceInRange m n
 unfolding in_range
-range_holds m n e = let h = both (m below 2 ^ 10) (n below 2 ^ 32) e in record { member_most = ltb-true _ _ h.0; reference-most = ltb-true _ _ h.1 }
+range_holds m n e = let h = both (m below 2 ^ 10) (n below 2 ^ 32) e in record { member_most = ltb-true _ _ h.0; reference_most = ltb-true _ _ h.1 }
 
 -- the keys are equal where both numbers are
 pub key_test : (m n p q : ℕ) → ReferenceInRange m n → ReferenceInRange p q → (key_of m n is key_of p q) ≡ (m is p && n is q)

@@ -6,7 +6,7 @@ use Rattle.rulebook.specs.declared.Request.{Request}
 -- what a record's fields can name
 pub record ReferenceInRange (member reference : ℕ) : Type 0 where
   pub member_most : member < 2 ^ 10
-  pub reference-most : reference < 2 ^ 32
+  pub reference_most : reference < 2 ^ 32
 
 -- the same as a test
 unfoldable pub in_range : (member reference : ℕ) → Bool
@@ -35,8 +35,8 @@ pub record RequestInRange (r : Request) : Type 0 where
   pub security : r.security < 2 ^ 14
   pub typ : r.typ < 2 ^ 8
   pub shareholder : r.shareholder < 2 ^ 30
-  pub quantity-least : 1 ≤ r.quantity.0
-  pub quantity-most : r.quantity.0 < 2 ^ 40
+  pub quantity_least : 1 ≤ r.quantity.0
+  pub quantity_most : r.quantity.0 < 2 ^ 40
   pub day : r.day < 2 ^ 16
 
 -- of which shares, and how many since which day

@@ -81,7 +81,7 @@ module _ (b : Ledger) (p : Premise b) (a : Account) where
         arith,
         p.sizes.items,
         small (takes_from a) b.waiting
-            (each_so _ _ (λ item f. where_same (same_account (seller item) a) _ f.terms.quantity-most) b.waiting p.items),
+            (each_so _ _ (λ item f. where_same (same_account (seller item) a) _ f.terms.quantity_most) b.waiting p.items),
       )
 
   pub brought_small : total (brings_to a) (fixed b.waiting) ≤ 64 * 2 ^ 40
@@ -91,7 +91,7 @@ module _ (b : Ledger) (p : Premise b) (a : Account) where
         arith,
         p.sizes.items,
         small (brings_to a) b.waiting
-            (each_so _ _ (λ item f. where_same (same_account (buyer item) a) _ f.terms.quantity-most) b.waiting p.items),
+            (each_so _ _ (λ item f. where_same (same_account (buyer item) a) _ f.terms.quantity_most) b.waiting p.items),
       )
 
 -- ---- what is offered

@@ -19,7 +19,7 @@ NoticeFits n = Fit notice_widths (n.kind ∷ n.deliverer ∷ n.receiver ∷ n.de
 -- a member's cash that a posting row can name
 pub record CashInRange (member currency : ℕ) : Type 0 where
   pub member_fits : member < 2 ^ 10
-  pub currency-fits : currency < 2 ^ 14
+  pub currency_fits : currency < 2 ^ 14
 
 -- a trade whose four rows can be written
 pub record TradeInRange (trade : Item) : Type 0 where

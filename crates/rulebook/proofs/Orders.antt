@@ -90,8 +90,8 @@ pub record Ranges (o : Order) : Type 0 where
   pub credited_holder : needs o.form Field.credited_shareholder ≡ true → 1 ≤ o.credited.shareholder
   pub quantity : needs o.form Field.quantity ≡ true → (1 ≤ o.quantity.0) × (o.quantity.0 ≤ most o.form Field.quantity)
   pub amount : needs o.form Field.amount ≡ true → 1 ≤ o.amount.0
-  pub trade_day : needs o.form Field.trade-day ≡ true → 1 ≤ o.trade_day
-  pub settlement_day : needs o.form Field.settlement_day_lem ≡ true → 1 ≤ o.settlement_day
+  pub trade_day : needs o.form Field.trade_day ≡ true → 1 ≤ o.trade_day
+  pub settlement_day : needs o.form Field.settlement_day ≡ true → 1 ≤ o.settlement_day
   pub reference : needs o.form Field.reference ≡ true → 1 ≤ o.reference
 
 pub none_at : (test : ℕ → Bool) (xs : List ℕ) (i : ℕ) → i < length xs → some test xs ≡ false → test (get_or xs i 0) ≡ false
@@ -148,8 +148,8 @@ fields_range fields nf u r = record {
   credited_holder = λ t. (field Field.credited_shareholder (omega arith) t).0;
   quantity = λ t. field Field.quantity (omega arith) t;
   amount = λ t. (field Field.amount (omega arith) t).0;
-  trade_day = λ t. (field Field.trade-day (omega arith) t).0;
-  settlement_day = λ t. (field Field.settlement_day_lem (omega arith) t).0;
+  trade_day = λ t. (field Field.trade_day (omega arith) t).0;
+  settlement_day = λ t. (field Field.settlement_day (omega arith) t).0;
   reference = λ t. (field Field.reference (omega arith) t).0;
 }
   where

@@ -50,8 +50,8 @@ fields_fit o u r =
     at Field.credited_shareholder (lit< tt) refl (lit< tt) and
     at Field.quantity (lit< tt) refl (lit< tt) and
     at Field.amount (lit< tt) refl (lit< tt) and
-    at Field.trade-day (lit< tt) refl (lit< tt) and
-    at Field.settlement_day_lem (lit< tt) refl (lit< tt) and
+    at Field.trade_day (lit< tt) refl (lit< tt) and
+    at Field.settlement_day (lit< tt) refl (lit< tt) and
     at Field.reference (lit< tt) refl (lit< tt) and
     at Field.operation (lit< tt) refl (lit< tt) and
     at Field.original (lit< tt) refl (lit< tt) and

@@ -39,11 +39,11 @@ quantity = 10
 abbrev pub amount : ℕ
 amount = 11
 
-abbrev pub trade-day : ℕ
-trade-day = 12
+abbrev pub trade_day : ℕ
+trade_day = 12
 
-abbrev pub settlement_day_lem : ℕ
-settlement_day_lem = 13
+abbrev pub settlement_day : ℕ
+settlement_day = 13
 
 abbrev pub reference : ℕ
 reference = 14
@@ -66,7 +66,7 @@ spare = 18
 unfoldable pub places : List ℕ
 places =
     form ∷ minute ∷ security ∷ currency ∷ debited_member ∷ debited_type ∷ credited_member ∷ credited_type ∷ debited_shareholder
-    ∷ credited_shareholder ∷ quantity ∷ amount ∷ trade-day ∷ settlement_day_lem ∷ reference ∷ operation ∷ original ∷ edition ∷ spare ∷ []
+    ∷ credited_shareholder ∷ quantity ∷ amount ∷ trade_day ∷ settlement_day ∷ reference ∷ operation ∷ original ∷ edition ∷ spare ∷ []
 
 -- The fields' widths in bits, by place: 40 bytes.
 unfoldable pub widths : List ℕ
@@ -109,7 +109,7 @@ C = credited_member ∷ credited_type ∷ credited_shareholder ∷ []
 
 -- all fields of an instruction, and all but one
 abbrev pub all : List ℕ
-all = security ∷ currency ∷ D ++ C ++ (quantity ∷ amount ∷ trade-day ∷ settlement_day_lem ∷ reference ∷ [])
+all = security ∷ currency ∷ D ++ C ++ (quantity ∷ amount ∷ trade_day ∷ settlement_day ∷ reference ∷ [])
 
 abbrev pub all_but : ℕ → List ℕ
 all_but place = keep (λ other. other is_not place) all

@@ -2,7 +2,7 @@
 use Rattle.std.specs.Prelude.{ℕ, zero, suc, Bool, true, false, not, List, [], ◌∷◌, ◌++◌, map, length, get_or}
 use Prim.Native.String.{String}
 use Rattle.plain.specs.Lists.{if◌then◌else◌, ◌is◌, keep, some}
-use Rattle.rulebook.specs.Field.{Rule, from1, from1_to, always, rule_in, D, C, all, all_but, security, currency, debited_member, debited_type, credited_member, credited_type, quantity, amount, settlement_day_lem, reference}
+use Rattle.rulebook.specs.Field.{Rule, from1, from1_to, always, rule_in, D, C, all, all_but, security, currency, debited_member, debited_type, credited_member, credited_type, quantity, amount, settlement_day, reference}
 use Rattle.rulebook.specs.TypeTable.{requested}
 use Rattle.rulebook.specs.AccountTypes.{is_outside}
 use Rattle.rulebook.specs.Ledger.{Ledger, Requests, no_request, account_of, request_account, put_day, put_holdings, put_waiting, put_rate, put_requests, put_request, put_securities, cycle_sent, cycle_answered, opening, closing, new_security}
@@ -216,15 +216,15 @@ forms =
     -- 4, RULES 6.4
     ∷ row "withdrawal" (needs (security ∷ D ++ (quantity ∷ []))) counter_hours withdraw postings 0
     -- 5, RULES 6.5
-    ∷ row "transfer" (needs (security ∷ D ++ C ++ (quantity ∷ settlement_day_lem ∷ []))) counter_hours transfer postings 0
+    ∷ row "transfer" (needs (security ∷ D ++ C ++ (quantity ∷ settlement_day ∷ []))) counter_hours transfer postings 0
     -- 6, RULES 6.6
-    ∷ row "pledge" (needs (security ∷ D ++ C ++ (quantity ∷ settlement_day_lem ∷ []))) counter_hours transfer postings 0
+    ∷ row "pledge" (needs (security ∷ D ++ C ++ (quantity ∷ settlement_day ∷ []))) counter_hours transfer postings 0
     -- 7, RULES 6.7
-    ∷ row "release" (needs (security ∷ D ++ C ++ (quantity ∷ settlement_day_lem ∷ []))) counter_hours transfer postings 0
+    ∷ row "release" (needs (security ∷ D ++ C ++ (quantity ∷ settlement_day ∷ []))) counter_hours transfer postings 0
     -- 8, RULES 6.8
-    ∷ row "block" (needs (security ∷ D ++ C ++ (quantity ∷ settlement_day_lem ∷ []))) counter_hours transfer postings 0
+    ∷ row "block" (needs (security ∷ D ++ C ++ (quantity ∷ settlement_day ∷ []))) counter_hours transfer postings 0
     -- 9, RULES 6.9
-    ∷ row "unblock" (needs (security ∷ D ++ C ++ (quantity ∷ settlement_day_lem ∷ []))) counter_hours transfer postings 0
+    ∷ row "unblock" (needs (security ∷ D ++ C ++ (quantity ∷ settlement_day ∷ []))) counter_hours transfer postings 0
     -- 10, RULES 6.10
     ∷ row "pay-in" (needs (currency ∷ credited_member ∷ amount ∷ [])) office_hours pay_in postings 0
     -- 11, RULES 6.11

@@ -61,30 +61,30 @@ pub record AccountFits (h : Holdings) (a : Account) : Type 0 where
 pub record CashFits (member currency : ℕ) : Type 0 where
   pub member_least : 1 ≤ member
   pub member_most : member ≤ 64
-  pub currency-least : 1 ≤ currency
-  pub currency-most : currency ≤ 2
+  pub currency_least : 1 ≤ currency
+  pub currency_most : currency ≤ 2
 
 -- A waiting item, in parts: what stays as long as it waits; its days; its state; and that it is not overdue.
 
 -- security, currency, parties, quantity and amount
 pub record TermsFit (security currency : ℕ) (debited credited : Party) (quantity amount : ℕ) : Type 0 where
-  pub security-least : 1 ≤ security
-  pub security-most : security < 2 ^ 14
-  pub currency-least : 1 ≤ currency
-  pub currency-most : currency ≤ 2
+  pub security_least : 1 ≤ security
+  pub security_most : security < 2 ^ 14
+  pub currency_least : 1 ≤ currency
+  pub currency_most : currency ≤ 2
   pub debited_named : Named debited.member debited.shareholder
   pub credited_named : Named credited.member credited.shareholder
-  pub quantity-least : 1 ≤ quantity
-  pub quantity-most : quantity < 2 ^ 40
-  pub amount-least : 1 ≤ amount
-  pub amount-most : amount < 2 ^ 40
+  pub quantity_least : 1 ≤ quantity
+  pub quantity_most : quantity < 2 ^ 40
+  pub amount_least : 1 ≤ amount
+  pub amount_most : amount < 2 ^ 40
 
 -- traded on a day up to the last that opened, to settle on that day or later, at most 20 days from the last that opened
 pub record DaysFit (number trade_day settlement_day : ℕ) : Type 0 where
   pub traded_least : 1 ≤ trade_day
   pub traded_most : trade_day ≤ number
-  pub settles-least : trade_day ≤ settlement_day
-  pub settles-most : settlement_day ≤ number + 20
+  pub settles_least : trade_day ≤ settlement_day
+  pub settles_most : settlement_day ≤ number + 20
 
 pub record ReferenceFits (reference : ℕ) : Type 0 where
   pub least : 1 ≤ reference
@@ -149,13 +149,13 @@ pub record DayFits (d : Day) : Type 0 where
   pub cycles : d.cycles ≤ length (cycle_minutes d.kind)
   pub minute : d.minute ≤ 1439
   -- while it is open
-  pub number-least : d.opened ≡ true → 1 ≤ d.number
+  pub number_least : d.opened ≡ true → 1 ≤ d.number
   pub kind_least : d.opened ≡ true → 1 ≤ d.kind
   -- no minute behind the office as long as a cycle is sent or still to run, so that all that is left of the day can still come
   pub office : d.opened ≡ true → (d.sent || not (all_run d)) ≡ true → d.minute ≤ office_end d.kind
   -- a cycle is sent only in an open day, and has run
-  pub sent-open : d.sent ≡ true → d.opened ≡ true
-  pub sent-run : d.sent ≡ true → 1 ≤ d.cycles
+  pub sent_open : d.sent ≡ true → d.opened ≡ true
+  pub sent_run : d.sent ≡ true → 1 ≤ d.cycles
 
 -- RULES 3.1: what the quantity of a record can be
 pub record RateFits (rate : ℕ) : Type 0 where

@@ -31,8 +31,8 @@ order_of fields = record {
       { member = get_or fields Field.credited_member 0; typ = get_or fields Field.credited_type 0; shareholder = get_or fields Field.credited_shareholder 0 };
   quantity = record { 0 = get_or fields Field.quantity 0 };
   amount = record { 0 = get_or fields Field.amount 0 };
-  trade_day = get_or fields Field.trade-day 0;
-  settlement_day = get_or fields Field.settlement_day_lem 0;
+  trade_day = get_or fields Field.trade_day 0;
+  settlement_day = get_or fields Field.settlement_day 0;
   reference = get_or fields Field.reference 0;
   operation = get_or fields Field.operation 0;
   original = get_or fields Field.original 0;

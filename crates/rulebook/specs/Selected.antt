@@ -51,8 +51,8 @@ pub record Selected (h : Holdings) (before after : List Entry) : Type 0 where
 
 -- more rounds than there are entries in, and more passes than there are left, change nothing
 pub record EnoughTurns (h : Holdings) (es : List Entry) : Type 0 where
-  pub rounds-enough : (n k : ℕ) → count_in es ≤ n → count_in es ≤ k → rounds n h es ≡ rounds k h es
-  pub passes-enough : (n k : ℕ) → count_left es ≤ n → count_left es ≤ k → passes n h es ≡ passes k h es
+  pub rounds_enough : (n k : ℕ) → count_in es ≤ n → count_in es ≤ k → rounds n h es ≡ rounds k h es
+  pub passes_enough : (n k : ℕ) → count_left es ≤ n → count_left es ≤ k → passes n h es ≡ passes k h es
 
 -- ---- of one with passes until none puts anything back
 

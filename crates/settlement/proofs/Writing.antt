@@ -29,7 +29,7 @@ pub trade-fits : (t : Item) → Bookable t → TradeInRange t
 trade-fits t k = record {
   debited = record { security = k.sells.security; member = k.sells.member; typ = k.sells.typ; shareholder = k.sells.shareholder };
   credited = record { security = k.buys.security; member = k.buys.member; typ = k.buys.typ; shareholder = k.buys.shareholder };
-  currency = omega (arith, k.pays.currency-most);
+  currency = omega (arith, k.pays.currency_most);
 }
 
 abbrev bytes : List Item → List ℕ

@@ -71,9 +71,9 @@ stated_one number octets book area out between book' area' after at next last fo
 -- ---- a walk over the records of a file, from a place on
 
 -- nothing is found behind the last record alone
-pub at-end : (file : List ℕ) (at : ℕ) → next_at file at ≡ End → length file ≤ at
+pub at_end : (file : List ℕ) (at : ℕ) → next_at file at ≡ End → length file ≤ at
 unfolding next_at
-at-end file at e = go (at below length file) refl e
+at_end file at e = go (at below length file) refl e
   where
     go : (t : Bool) → (at below length file) ≡ t → (if t then Record at (end_of file at) (record { at = end_of file at }) else End) ≡ End → length file ≤ at
     go true p e = let z : ◌≡◌ {A = ℕ} 0 1 = cc in absurd (omega arith)

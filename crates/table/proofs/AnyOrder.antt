@@ -62,8 +62,8 @@ fit_exchange k places f =
         known = same 18 ∙ f.apart.known;
         once = λ n. omega (arith, same n, f.apart.once n);
       };
-      has-form = omega (arith, same form, f.has-form);
-      has-minute = omega (arith, same minute, f.has-minute);
+      has_form = omega (arith, same form, f.has_form);
+      has_minute = omega (arith, same minute, f.has_minute);
     }
 
 fills_exchange : (k : ℕ) {ps values : List ℕ} {cs : List (List ℕ)} {out : List ℕ} → ((n : ℕ) → times n ps ≤ 1) → Fills ps values cs out

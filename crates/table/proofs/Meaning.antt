@@ -93,8 +93,8 @@ pub record Apart (places : List ℕ) : Type 0 where
 -- and with form and minute among them
 pub record Fit (places : List ℕ) : Type 0 where
   pub apart : Apart places
-  pub has-form : 0 < times form places
-  pub has-minute : 0 < times minute places
+  pub has_form : 0 < times form places
+  pub has_minute : 0 < times minute places
 
 once_more : (n p : ℕ) (ps : List ℕ) → Apart ps → times p ps ≡ 0 → times n (ps ++ (p ∷ [])) ≤ 1
 once_more n p ps a e = rw (total-append (λ q. if n is q then 1 else 0) ps (p ∷ [])) (go (eqb n p) refl)
@@ -113,8 +113,8 @@ columned before [] out e a =
     let same : before ≡ out = cc in
     let fit : Fit before = record {
       apart = a;
-      has-form = ltb-true 0 _ (sym (one_of_times form before) ∙ not-false _ f.0);
-      has-minute = ltb-true 0 _ (sym (one_of_times minute before) ∙ not-false _ m.0);
+      has_form = ltb-true 0 _ (sym (one_of_times form before) ∙ not-false _ f.0);
+      has_minute = ltb-true 0 _ (sym (one_of_times minute before) ∙ not-false _ m.0);
     } in
     (sym same ∙ sym (append-nil before), subst Fit same fit)
 columned before (name ∷ names) out e a =
@@ -138,7 +138,7 @@ unfolding header_from placed
 named before [] f =
     let e : before ++ [] ≡ before = append-nil before in
     let g : Fit before = subst Fit e f in
-    simp (one_of_times form before ∙ lt-ltb 0 _ g.has-form, one_of_times minute before ∙ lt-ltb 0 _ g.has-minute, e)
+    simp (one_of_times form before ∙ lt-ltb 0 _ g.has_form, one_of_times minute before ∙ lt-ltb 0 _ g.has_minute, e)
 named before (name ∷ names) f =
     let place : ℕ = field_place (trim name) in
     let e : (before ++ (place ∷ [])) ++ placed names ≡ before ++ (place ∷ placed names) = append_assoc before (place ∷ []) (placed names) in

@@ -122,8 +122,8 @@ module _ (block : List ℕ) (ended : Bool) (start end : ℕ) (first : First) (s 
     → lines_of (unmarked (block ++ later)) ≡ take (end - start) (drop start block) ∷ lines_of (drop (end + 1) block ++ later)) where
   first_read : FirstRead block ended first
   first_read = record {
-    starts = omega (arith, h.at_start, h.at-end);
-    ends = omega (arith, h.at-end);
+    starts = omega (arith, h.at_start, h.at_end);
+    ends = omega (arith, h.at_end);
     behind = h.behind;
     usable = λ g. h.usable;
     refused = λ g n later o. import_refused (block ++ later) _ _ (e later o) _ _ _ (columns_refused first.columns _ h.columns g);
@@ -150,8 +150,8 @@ module _ (block : List ℕ) (ended : Bool) (kind at : ℕ) (first : First) (n : 
   none_read : ((later : List ℕ) → (ended ≡ true → later ≡ []) → (kind ≡ long_line → ⊥) → import_of (block ++ later) ≡ refused_at kind 1 0 no_place)
       → FirstRead block ended first
   none_read why = record {
-    starts = omega (arith, n.at_start, n.at-end);
-    ends = omega (arith, n.at-end);
+    starts = omega (arith, n.at_start, n.at_end);
+    ends = omega (arith, n.at_end);
     behind = omega (arith, n.behind);
     usable = λ g. absurd (never g);
     refused = λ g k later o. rw (n.because, n.nowhere) (why later o (λ e. k (n.because ∙ e)));

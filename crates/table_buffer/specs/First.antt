@@ -11,7 +11,7 @@ use Rattle.table_buffer.specs.declared.first.First.{First}
 -- the columns of a line that stands at a place of some bytes, and the bytes behind it
 pub record Headed (block : List ℕ) (start end : ℕ) (first : First) : Type 0 where
   pub at_start : first.start ≡ start
-  pub at-end : first.end ≡ end
+  pub at_end : first.end ≡ end
   pub behind : first.from ≤ length block
   pub rest : drop first.from block ≡ drop (end + 1) block
   pub columns : columns_of first.columns ≡ header_of (take (end - start) (drop start block))
@@ -33,7 +33,7 @@ pub record FirstRead (block : List ℕ) (ended : Bool) (first : First) : Type 0 
 -- there is none, for a reason
 pub record NoLine (kind at : ℕ) (first : First) : Type 0 where
   pub at_start : first.start ≡ at
-  pub at-end : first.end ≡ at
+  pub at_end : first.end ≡ at
   pub behind : first.from ≡ at
   pub bad : first.columns.good ≡ false
   pub because : first.columns.kind ≡ kind

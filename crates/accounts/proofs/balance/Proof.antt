@@ -10,8 +10,8 @@ use Rattle.accounts.proofs.balance.Tie as tie
 returns : tie.Need-returns
 returns c =
     let s = c.before.before.before in
-    c.value.ensures ∙ ap (value_of BALANCES s.args.accounts.now) c.before.key_of.ensures
+    c.value.ensures ∙ ap (value_of BALANCES s.args.accounts.now) c.before.key_of-key.ensures
     ∙ sym (balance_value s.args.accounts.now s.requires.0 s.args.account s.requires.1)
 
-pub balance-spec : {M : Type 1} → statement M
-balance-spec = tie.close (tie.spec (λ c κs. search rules) (λ c κs. search rules) returns)
+pub balance_spec : {M : Type 1} → statement M
+balance_spec = tie.close (tie.spec (λ c κs. search rules) (λ c κs. search rules) returns)

@@ -8,5 +8,5 @@ returns : tie.Need-returns
 unfolding in_range
 returns c = search rules
 
-pub is-named-spec : {M : Type 1} → statement M
-is-named-spec = tie.close (tie.spec returns)
+pub is_named_spec : {M : Type 1} → statement M
+is_named_spec = tie.close (tie.spec returns)

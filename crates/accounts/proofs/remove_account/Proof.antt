@@ -5,8 +5,8 @@ use lib.ListN.{length-set}
 use Rattle.accounts.proofs.remove_account.Statement.{statement}
 use Rattle.accounts.proofs.remove_account.Tie as tie
 
-pub remove-account-spec : {M : Type 1} → statement M
-remove-account-spec =
+pub remove_account_spec : {M : Type 1} → statement M
+remove_account_spec =
     tie.close
     (tie.spec (λ c. search rules) (λ c. search rules) (λ c. search rules) (λ c. search rules) (λ c. search rules) (λ c. search rules) (λ c. search rules)
     (λ c. search rules) (λ c. search rules) (λ c. search rules) (λ c. search rules) (λ c. search rules) (λ c. search rules)

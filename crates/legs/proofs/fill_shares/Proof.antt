@@ -93,7 +93,7 @@ returns c =
     let l = c.before.loop in
     let all : length (ledger_of (entry c.before).args.book.now).waiting ≤ l.i = omega (arith, c.loop-test.false, c.before.before.items.ensures) in
     let filled = filled-done _ _ _ _ l.legs l.figures _ l.i all l.invariant.1 in
-    (filled.legs-as, filled.start_as)
+    (filled.legs_as, filled.start_as)
 
 pub fill-shares-spec : {M : Type 1} → statement M
 fill-shares-spec =
@@ -101,7 +101,7 @@ fill-shares-spec =
     (tie.spec invariant-loop decreases-loop (λ c κs. search rules)
     (λ c. let s = c.before.before.before.before in (omega arith, filled_none _ _ _ _ s.args.legs.now s.args.figures.now s.requires.0 s.requires.1))
     (λ c κs. ((entry c.before).pre.2, there c)) (λ c κs. search rules) (λ c κs. sells c) (λ c κs. search rules) (λ c κs. buys c)
-    (λ c κs. ((turn c).before.loop.invariant.1.legs-as.long, low (turn c)))
+    (λ c κs. ((turn c).before.loop.invariant.1.legs_as.long, low (turn c)))
     (λ c κs. ((entry (turn (leg c)).before).pre.2, sells (leg c).before.before.before.before))
     (λ c κs. let t = turn (leg c.before) in (t.before.loop.inv.1.start_as.long, low t))
     (λ c. omega (arith, low (turn (leg (start c))))) (λ c. omega (arith, (turn (leg (start c))).loop-test.taken)) loop-again

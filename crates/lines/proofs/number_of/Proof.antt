@@ -5,13 +5,13 @@ use Rattle.rulebook.specs.Call.{answer_number}
 use Rattle.lines.proofs.number_of.Statement.{statement}
 use Rattle.lines.proofs.number_of.Tie as tie
 
-returns : tie.Need-returns
+returns : tie.Need-returns-in-Accepted
 unfolding answer_number
-returns c = ap answer_number (sym c.enum_told.given.1)
+returns c = ap answer_number (sym c.in-Accepted.is)
 
-returns-2 : tie.Need-returns-2
+returns-2 : tie.Need-returns-in-Refused
 unfolding answer_number
-returns-2 c = ap answer_number (sym c.before.answer.given.1)
+returns-2 c = ap answer_number (sym c.in-Refused.is)
 
-pub number-of-spec : {M : Type 1} → statement M
-number-of-spec = tie.close (tie.spec (λ c. search rules) (λ c. search rules) returns returns-2)
+pub number_of_spec : {M : Type 1} → statement M
+number_of_spec = tie.close (tie.spec (λ c. search rules) (λ c. search rules) returns returns-2)

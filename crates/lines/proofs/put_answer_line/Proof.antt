@@ -8,46 +8,41 @@ use Rattle.lines.proofs.put_answer_line.Tie as tie
 
 -- ---- places: where each part has been put
 
-abbrev first : tie.After-number-of → tie.After-put-number
-first c = c.before.before.before.before.before
+abbrev first : tie.After-number_of → tie.After-put_number-next
+first c = c.before.before.before.before.before.before
 
-abbrev second : tie.After-rows-of → tie.After-put-figure
-second c = c.before.before.before.before.before
+abbrev second : tie.After-rows_of → tie.After-put_figure-next
+second c = c.before.before.before.before.before.before
 
-abbrev third : tie.After-put-bytes-arg2 → tie.After-put-figure2
+abbrev third : tie.After-put_bytes-arg-2-1 → tie.After-put_figure-next-2
 third c = c.before.before.before.before
 
 -- ---- the buffer is as long as it was
 
-put-figure-requires : tie.Need-put-figure-requires
-put-figure-requires c κs = omega (arith, (first c).put-number.auto.0)
+put-figure-requires : tie.Need-put_figure-next-requires
+put-figure-requires c κs = omega (arith, (first c).put_number-next.auto.out)
 
-put-figure-requires-2 : tie.Need-put-figure-requires-2
-put-figure-requires-2 c κs = omega (arith, (second c).put-figure.auto.0, (first (second c).before).put-number.auto.0)
+put-figure-requires-2 : tie.Need-put_figure-next-requires-2
+put-figure-requires-2 c κs = omega (arith, (second c).put_figure-next.auto.out, (first (second c).before).put_number-next.auto.out)
 
-put-bytes-requires : tie.Need-put-bytes-requires
+put-bytes-requires : tie.Need-put_bytes-requires
 put-bytes-requires c κs =
-    let two = second (third c).before in
-    omega (arith, (third c).put-figure2.auto.0, two.put-figure.kept.0, (first two.before).put-number.auto.0)
+    let two = second (third c.before).before in
+    omega (arith, (third c.before).put_figure-next-2.auto.out, two.put_figure-next.kept.0, (first two.before).put_number-next.auto.0)
 
 returns : tie.Need-returns
 unfolding answer_line
 returns c =
     let last = c.before.before in
-    let rows = third last.before in
+    let rows = third last.before.before in
     let answer = second rows.before in
     let number = first answer.before in
-    let two = put_then number.put-number.ensures.0 answer.put-figure.ensures.0 in
-    let three = put_then two rows.put-figure2.ensures.0 in
-    let all = put_then three last.put-bytes.ensures in
-    (rw (← answer.before.number_of_lem.ensures, ← rows.before.rows_of.ensures) all, omega (arith, last.put-bytes.ensures.place))
+    let two = put_then number.put_number-next.ensures.0 answer.put_figure-next.ensures.0 in
+    let three = put_then two rows.put_figure-next-2.ensures.0 in
+    let all = put_then three last.put_bytes.ensures in
+    (rw (← answer.before.number_of.ensures, ← rows.before.rows_of.ensures) all, omega (arith, last.put_bytes.ensures.place))
 
-pub put-answer-line-spec : {M : Type 1} → statement M
-put-answer-line-spec =
+pub put_answer_line_spec : {M : Type 1} → statement M
+put_answer_line_spec =
     tie.close
-    (tie.spec
-    (λ c κs. search rules)
-    (λ c. search rules) (λ c κs. search rules) put-figure-requires
-    (λ c. search rules) (λ c κs. search rules) put-figure-requires-2
-    (λ c. search rules) put-bytes-requires
-    (λ c. search rules) returns)
+    (tie.spec (λ c κs. search rules) (λ c κs. search rules) put-figure-requires (λ c κs. search rules) put-figure-requires-2 put-bytes-requires (λ c. search rules) returns)

@@ -12,8 +12,8 @@ returns c =
     let due = c.before.due-marks.ensures in
     let fixed = c.selected-marks.ensures in
     record {
-      due-marked = due;
-      fixed-marked = fixed;
+      due_marked = due;
+      fixed_marked = fixed;
       fewer = omega (arith, counted b c.before.due-marks.result c.selected-marks.result due fixed);
     }
 

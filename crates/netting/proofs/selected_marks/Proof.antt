@@ -76,7 +76,7 @@ add-marked-requires c κs =
     let f = filled g in
     let e = (counted f).items.ensures in
     let d = f.fill-shares.ensures in (
-      record { figures_long = d.1.long; legs-long = d.0.long; size = few f },
+      record { figures_long = d.1.long; legs_long = d.0.long; size = few f },
       g.fill.ensures,
       rw e (share_room (ledger f) (ready f) (entry f).args.due _ _ _ (rw e at g.fill.ensures) d.0 d.1),
     )
@@ -87,7 +87,7 @@ add-marked-requires-2 c κs =
     let f = shares-filled (cash-filled g) in
     let e = (counted f).items.ensures in
     let d = (cash-filled g).fill-cash.ensures in (
-      record { figures_long = d.1.long; legs-long = d.0.long; size = few f },
+      record { figures_long = d.1.long; legs_long = d.0.long; size = few f },
       g.fill2.ensures,
       rw e (cash_room (ledger f) (ready f) (entry f).args.due _ _ _ (rw e at g.fill2.ensures) d.0 d.1),
     )
@@ -122,11 +122,11 @@ module _ (c : tie.After-add-marked2) where
       let h0 = added-sized _ _ (is_on due) shares.fill-shares.last.0 _ _ _ e h.0 in
       let k0 = added-sized _ _ (is_on due) cash.fill-cash.last.0 _ _ _ e k.0 in
       record {
-        share_legs_lem = held.0;
+        share_legs = held.0;
         share_slots = p;
-        held-long = h.1;
-        held-figures = share_figures (ledger shares) (ready shares) due _ _ _ p held.0 held.1 _ h0;
-        cash_legs_lem = funds.0;
+        held_long = h.1;
+        held_figures = share_figures (ledger shares) (ready shares) due _ _ _ p held.0 held.1 _ h0;
+        cash_legs = funds.0;
         cash_slots = q;
         funds_long = k.1;
         funds_figures = cash_figures (ledger shares) (ready shares) due _ _ _ q funds.0 funds.1 _ k0;

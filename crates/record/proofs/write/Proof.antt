@@ -45,7 +45,7 @@ pack-bits-requires c κs =
       search rules,
       search rules,
       omega arith,
-      rw (fields p.before).fields_of-fields.ensures (write_fits _ (sym (refused-by p.before) ∙ p.if-number-eq0.taken)),
+      rw (fields p.before).fields_of-fields.ensures (write_fits _ (sym (refused-by p.before) ∙ p.if-number-eq0.true)),
     )
 
 returns-2 : tie.Need-returns-then-number-eq0
@@ -56,7 +56,7 @@ returns-2 c =
     let fs = fields p.before in
     let order : Order = (start fs.before).args.order in
     let area : List ℕ = (start fs.before).args.area.now in
-    let done = write_record order area _ fs.before.if-area-lt40.left (refused-by p.before) p.if-number-eq0.taken in
+    let done = write_record order area _ fs.before.if-area-lt40.false (refused-by p.before) p.if-number-eq0.true in
     let packed : put area 0 320 (pack 0 widths fs.fields_of-fields.result) ≡ record_of order ++ drop 40 area =
     ap (λ (values : List ℕ). put area 0 320 (pack 0 widths values)) fs.fields_of-fields.ensures
     ∙ put_front area 40 (pack 0 widths (fields_of order)) (λ i. (fs.before.before.slice_known-1.given i).fits) in

@@ -29,11 +29,11 @@ fresh-day = record {
   kind = omega arith;
   cycles = omega arith;
   minute = omega arith;
-  number-least = λ e. absurd (false≢true e);
+  number_least = λ e. absurd (false≢true e);
   kind_least = λ e. absurd (false≢true e);
   office = λ e _. absurd (false≢true e);
-  sent-open = λ e. absurd (false≢true e);
-  sent-run = λ e. absurd (false≢true e);
+  sent_open = λ e. absurd (false≢true e);
+  sent_run = λ e. absurd (false≢true e);
 }
 
 -- office hours end after 480, and after every shorter time
@@ -92,11 +92,11 @@ same_day n b o e t d a = record {
   kind = d.kind;
   cycles = d.cycles;
   minute = a.ranges.minute;
-  number-least = d.number-least;
+  number_least = d.number_least;
   kind_least = d.kind_least;
   office = λ _ _. omega (arith, in_window b o a.window, window_end n b o e t);
-  sent-open = d.sent-open;
-  sent-run = d.sent-run;
+  sent_open = d.sent_open;
+  sent_run = d.sent_run;
 }
 
 pub open_day_lem : (b : Ledger) (o : Order) → o.form ≡ 1 → DayFits b.day → Accepted b o → DayAt o.minute (open_day b o).after
@@ -110,11 +110,11 @@ open_day_lem b o e d a =
       kind = simp e at q.1;
       cycles = omega arith;
       minute = a.ranges.minute;
-      number-least = λ _. omega arith;
+      number_least = λ _. omega arith;
       kind_least = λ _. q.0;
       office = λ _ _. omega (arith, w, office_least o.quantity.0);
-      sent-open = λ _. refl;
-      sent-run = λ s. absurd (false≢true (sym (opens-next b o e a.right_day).0 ∙ d.sent-open s));
+      sent_open = λ _. refl;
+      sent_run = λ s. absurd (false≢true (sym (opens-next b o e a.right_day).0 ∙ d.sent_open s));
     }
 
 pub cycle-day : (b : Ledger) (o : Order) → o.form ≡ 16 → DayFits b.day → Accepted b o → DayAt o.minute (cycle b o).after
@@ -124,11 +124,11 @@ cycle-day b o e d a = record {
   kind = d.kind;
   cycles = omega (arith, cycles-left b o e a.cycle);
   minute = a.ranges.minute;
-  number-least = d.number-least;
+  number_least = d.number_least;
   kind_least = d.kind_least;
   office = λ _ _. omega (arith, in_window b o a.window, window_end 16 b o e refl);
-  sent-open = λ _. is_open b o 16 e refl a.right_day;
-  sent-run = λ _. omega arith;
+  sent_open = λ _. is_open b o 16 e refl a.right_day;
+  sent_run = λ _. omega arith;
 }
 
 -- an answer past office hours leaves no cycle to run
@@ -146,11 +146,11 @@ answered_day b o e d a = record {
   kind = d.kind;
   cycles = omega (arith, d.cycles);
   minute = a.ranges.minute;
-  number-least = d.number-least;
+  number_least = d.number_least;
   kind_least = d.kind_least;
   office = λ _ t. unfold all_run in answer_end_lem b o e a t;
-  sent-open = λ s. absurd (false≢true s);
-  sent-run = λ s. absurd (false≢true s);
+  sent_open = λ s. absurd (false≢true s);
+  sent_run = λ s. absurd (false≢true s);
 }
 
 pub answer_day : (b : Ledger) (o : Order) → o.form ≡ 21 → DayFits b.day → Accepted b o → DayAt o.minute (answer_cycle b o).after
@@ -165,9 +165,9 @@ close-day b o e d a = record {
   kind = d.kind;
   cycles = d.cycles;
   minute = a.ranges.minute;
-  number-least = λ e. absurd (false≢true e);
+  number_least = λ e. absurd (false≢true e);
   kind_least = λ e. absurd (false≢true e);
   office = λ e _. absurd (false≢true e);
-  sent-open = λ s. absurd (false≢true (sym (none_sent b o 17 e refl a.answered) ∙ s));
-  sent-run = d.sent-run;
+  sent_open = λ s. absurd (false≢true (sym (none_sent b o 17 e refl a.answered) ∙ s));
+  sent_run = d.sent_run;
 }

@@ -258,7 +258,7 @@ unfolding open_day silent outcome put_day
 open_keeps b o e p a step = unsent-fixed (open_day b o).after (unfold open_day silent outcome put_day in all-unsent b p (go (b.day.sent) refl))
   where
     go : (t : Bool) → b.day.sent ≡ t → b.day.sent ≡ false
-    go true s = absurd (false≢true (sym (opens-next b o e a.right_day).0 ∙ p.day.sent-open s))
+    go true s = absurd (false≢true (sym (opens-next b o e a.right_day).0 ∙ p.day.sent_open s))
     go false s = s
 
 close-keeps : Keeps 17 close

@@ -119,8 +119,8 @@ item-state n n' t t' h h' l a i x s d f = record {
   days = record {
     traded_least = f.days.traded_least;
     traded_most = omega (arith, f.days.traded_most);
-    settles-least = f.days.settles-least;
-    settles-most = omega (arith, f.days.settles-most);
+    settles_least = f.days.settles_least;
+    settles_most = omega (arith, f.days.settles_most);
   };
   state = s;
   due = d;
@@ -225,16 +225,16 @@ pair_fits n t h d r a f g =
     record {
       listed = f.listed;
       terms = record {
-        security-least = f.terms.security-least;
-        security-most = f.terms.security-most;
-        currency-least = f.terms.currency-least;
-        currency-most = f.terms.currency-most;
+        security_least = f.terms.security_least;
+        security_most = f.terms.security_most;
+        currency_least = f.terms.currency_least;
+        currency_most = f.terms.currency_most;
         debited_named = f.terms.debited_named;
         credited_named = g.terms.credited_named;
-        quantity-least = f.terms.quantity-least;
-        quantity-most = f.terms.quantity-most;
-        amount-least = g.terms.amount-least;
-        amount-most = g.terms.amount-most;
+        quantity_least = f.terms.quantity_least;
+        quantity_most = f.terms.quantity_most;
+        amount_least = g.terms.amount_least;
+        amount_most = g.terms.amount_most;
       };
       days = f.days;
       state = record {
@@ -291,10 +291,10 @@ pub item-posts : (n t : ℕ) (h : Holdings) (i : Item) → ItemFits n t h i → 
 item-posts n t h i f =
     let p = parties_post i.security i.debited i.credited i.state f.terms.debited_named f.terms.credited_named f.state in
     record {
-      security = f.terms.security-most;
-      currency = omega (arith, f.terms.currency-most);
+      security = f.terms.security_most;
+      currency = omega (arith, f.terms.currency_most);
       debited = p.0;
       credited = p.1;
-      quantity = f.terms.quantity-most;
-      amount = f.terms.amount-most;
+      quantity = f.terms.quantity_most;
+      amount = f.terms.amount_most;
     }

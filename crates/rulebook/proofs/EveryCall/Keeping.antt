@@ -127,7 +127,7 @@ unfolding pay_in used least forms row_of
 pay_in-keeps b o e p a =
     let c = a.ranges.credited (needed 10 Field.credited_member o e refl) in
     let v = a.ranges.currency (needed 10 Field.currency o e refl) in
-    moves 10 refl b o _ e p a (record { member_least = c.0; member_most = c.1; currency-least = v.0; currency-most = v.1 }, tt)
+    moves 10 refl b o _ e p a (record { member_least = c.0; member_most = c.1; currency_least = v.0; currency_most = v.1 }, tt)
 
 pay_out-keeps : Keeps 11 pay_out
 unfolding pay_out
@@ -257,8 +257,8 @@ legs-get n t d h (i ∷ rest) e =
         record {
           member_least = f.terms.debited_named.member_least;
           member_most = f.terms.debited_named.member_most;
-          currency-least = f.terms.currency-least;
-          currency-most = f.terms.currency-most;
+          currency_least = f.terms.currency_least;
+          currency_most = f.terms.currency_most;
         },
         legs-get n t d h rest e.1,
       ),

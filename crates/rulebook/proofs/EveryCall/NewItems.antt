@@ -25,7 +25,7 @@ use Rattle.rulebook.proofs.Orders.{Accepted, needs, needed, uses, is_admitted, r
 abbrev common : List ℕ
 common =
     Field.security ∷ Field.currency ∷ Field.debited_member ∷ Field.credited_member ∷ Field.debited_shareholder ∷ Field.credited_shareholder ∷ Field.quantity
-    ∷ Field.amount ∷ Field.trade-day ∷ Field.reference ∷ []
+    ∷ Field.amount ∷ Field.trade_day ∷ Field.reference ∷ []
 
 abbrev Uses : ℕ → Type 0
 Uses n = Each (λ k. needs n k ≡ true) common
@@ -50,10 +50,10 @@ module _ (n : ℕ) (b : Ledger) (o : Order) (e : o.form ≡ n) (a : Accepted b o
       record {
         listed = is_admitted n b o e t t₂ a.security;
         terms = record {
-          security-least = a.ranges.security (field Field.security refl);
-          security-most = a.fits.security;
-          currency-least = v.0;
-          currency-most = v.1;
+          security_least = a.ranges.security (field Field.security refl);
+          security_most = a.fits.security;
+          currency_least = v.0;
+          currency_most = v.1;
           debited_named =
               record {
                 member_least = d.0;
@@ -70,12 +70,12 @@ module _ (n : ℕ) (b : Ledger) (o : Order) (e : o.form ≡ n) (a : Accepted b o
                 shareholder_most =
                     a.fits.credited.shareholder;
               };
-          quantity-least = (a.ranges.quantity (field Field.quantity refl)).0;
-          quantity-most = a.fits.quantity;
-          amount-least = a.ranges.amount (field Field.amount refl);
-          amount-most = a.fits.amount;
+          quantity_least = (a.ranges.quantity (field Field.quantity refl)).0;
+          quantity_most = a.fits.quantity;
+          amount_least = a.ranges.amount (field Field.amount refl);
+          amount_most = a.fits.amount;
         };
-        days = record { traded_least = a.ranges.trade_day (field Field.trade-day refl); traded_most = l₁; settles-least = l₂; settles-most = l₃ };
+        days = record { traded_least = a.ranges.trade_day (field Field.trade_day refl); traded_most = l₁; settles_least = l₂; settles_most = l₃ };
         state = f;
         due = g;
       }

@@ -131,12 +131,12 @@ none_short_in : (h : Holdings) (es : List Entry) → count_in es ≡ 0 → any_s
 unfolding any_short
 none_short_in h es z = simp (none_in es z)
 
-pub rounds-enough : (h : Holdings) (n k : ℕ) (es : List Entry) → count_in es ≤ n → count_in es ≤ k → rounds n h es ≡ rounds k h es
+pub rounds_enough : (h : Holdings) (n k : ℕ) (es : List Entry) → count_in es ≤ n → count_in es ≤ k → rounds n h es ≡ rounds k h es
 unfolding rounds
-rounds-enough h zero zero es l m = refl
-rounds-enough h zero (suc k) es l m = simp (none_short_in h es (omega arith))
-rounds-enough h (suc n) zero es l m = simp (none_short_in h es (omega arith))
-rounds-enough h (suc n) (suc k) es l m = go (any_short h (trades_in es)) refl (rounds-enough h n k next)
+rounds_enough h zero zero es l m = refl
+rounds_enough h zero (suc k) es l m = simp (none_short_in h es (omega arith))
+rounds_enough h (suc n) zero es l m = simp (none_short_in h es (omega arith))
+rounds_enough h (suc n) (suc k) es l m = go (any_short h (trades_in es)) refl (rounds_enough h n k next)
   where
     next : List Entry
     next = drop_last h (trades_in es) es

@@ -148,12 +148,12 @@ module _ (h : Holdings) where
       go false k ih = simp k (ih (omega (arith, eqb-false (count_left (one_pass h es)) (count_left es) k, (passed (trades_in es) es).fewer)))
 
   -- more passes than there are left change nothing
-  pub passes-enough : (n k : ℕ) (es : List Entry) → count_left es ≤ n → count_left es ≤ k → passes n h es ≡ passes k h es
+  pub passes_enough : (n k : ℕ) (es : List Entry) → count_left es ≤ n → count_left es ≤ k → passes n h es ≡ passes k h es
   unfolding passes
-  passes-enough zero zero es l m = refl
-  passes-enough zero (suc k) es l m = simp (all_in es (omega arith))
-  passes-enough (suc n) zero es l m = simp (all_in es (omega arith))
-  passes-enough (suc n) (suc k) es l m = go (count_left (one_pass h es) is count_left es) refl (passes-enough n k (one_pass h es))
+  passes_enough zero zero es l m = refl
+  passes_enough zero (suc k) es l m = simp (all_in es (omega arith))
+  passes_enough (suc n) zero es l m = simp (all_in es (omega arith))
+  passes_enough (suc n) (suc k) es l m = go (count_left (one_pass h es) is count_left es) refl (passes_enough n k (one_pass h es))
     where
       go :
           (b : Bool) → (count_left (one_pass h es) is count_left es) ≡ b

@@ -14,9 +14,9 @@ use Rattle.rulebook.specs.Selection.{due}
 use Rattle.rulebook.specs.Selection.{Standing, Entry, not_due, taken, left, is_left, trades_in, count_left, dropping, passes}
 use Rattle.rulebook.specs.Selection.{selection_in, full_selection, entry_by, entries, selection, trades_left, trades_of, LeftTrade, with_lacks}
 use Rattle.rulebook.specs.Selected.{IfLeft, WhereLeft, Moment, Spot, spot, Selected, NothingFits, EnoughTurns, PassesEnd, NoneLeft}
-use Rattle.rulebook.proofs.Selection.Dropping.{dropping-covered, dropping-spots, dropping-lacked, nothing_claimed, rounds-enough}
+use Rattle.rulebook.proofs.Selection.Dropping.{dropping-covered, dropping-spots, dropping-lacked, nothing_claimed, rounds_enough}
 use Rattle.rulebook.proofs.Selection.Passes.{pass-none, passes-refuse, passes-covered, passes-spots}
-use Rattle.rulebook.proofs.Selection.Passes.{passes-lacked, passes-enough, refused-unfit}
+use Rattle.rulebook.proofs.Selection.Passes.{passes-lacked, passes_enough, refused-unfit}
 
 pub left-most : (es : List Entry) → count_left es ≤ length es
 unfolding count_left
@@ -114,7 +114,7 @@ nothing_fits_lem h es =
     record { unfit = refused-unfit h (trades_in after) after r; ended = pass-none h (trades_in after) after r }
 
 pub enough_turns : (h : Holdings) (es : List Entry) → EnoughTurns h es
-enough_turns h es = record { rounds-enough = λ n k. rounds-enough h n k es; passes-enough = λ n k. passes-enough h n k es }
+enough_turns h es = record { rounds_enough = λ n k. rounds_enough h n k es; passes_enough = λ n k. passes_enough h n k es }
 
 -- and so of the waiting list
 pub entries-none_left : (is_in : Item → Bool) (others : Item → List Item) (waiting : List Item) → NoneLeft (map (entry_by is_in others) waiting)
@@ -145,6 +145,6 @@ passes-end book =
     let size = length-map book.waiting (entry_by (due book.day.number) (λ item. [])) in
     record {
       few = omega (arith, most, long, size);
-      enough = λ n l. passes-enough h n (length (entries book)) d l (omega (arith, most, long));
+      enough = λ n l. passes_enough h n (length (entries book)) d l (omega (arith, most, long));
       ended = (selection-unfit book).ended;
     }

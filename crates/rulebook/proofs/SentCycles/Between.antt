@@ -142,7 +142,7 @@ cancel-same b o =
 forms-act : AllForms (λ n f. Acts n f.effect) 1 forms
 unfolding forms admit deposit withdraw transfer set_rate request_paper end_request moving silent outcome put_day put_holdings put_waiting put_rate put_requests
 forms-act =
-    (λ b o e p a s t. absurd (false≢true (sym (opens-next b o e a.right_day).0 ∙ p.day.sent-open s)))
+    (λ b o e p a s t. absurd (false≢true (sym (opens-next b o e a.right_day).0 ∙ p.day.sent_open s)))
     and (λ b o e p a s t. (refl, refl, refl)) and (λ b o e p a s t. (refl, refl, refl)) and (λ b o e p a s t. (refl, refl, refl))
     and (λ b o e p a s t. (refl, refl, refl)) and (λ b o e p a s t. (refl, refl, refl)) and (λ b o e p a s t. (refl, refl, refl))
     and (λ b o e p a s t. (refl, refl, refl)) and (λ b o e p a s t. (refl, refl, refl))

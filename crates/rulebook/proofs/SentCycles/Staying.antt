@@ -38,7 +38,7 @@ unfolding
     forms admit deposit withdraw transfer instruct trade cancel set_rate request_paper end_request moving silent outcome put_holdings put_waiting put_rate
     put_requests
 forms-keep =
-    (λ b o e p a s t. absurd (false≢true (sym (opens-next b o e a.right_day).0 ∙ p.day.sent-open s)))
+    (λ b o e p a s t. absurd (false≢true (sym (opens-next b o e a.right_day).0 ∙ p.day.sent_open s)))
     and (λ b o e p a s t. (s, refl)) and (λ b o e p a s t. (s, refl)) and (λ b o e p a s t. (s, refl)) and (λ b o e p a s t. (s, refl))
     and (λ b o e p a s t. (s, refl)) and (λ b o e p a s t. (s, refl)) and (λ b o e p a s t. (s, refl)) and (λ b o e p a s t. (s, refl))
     and (λ b o e p a s t. not_while_sent b (none_sent b o 10 e refl a.answered) s)

@@ -5,10 +5,9 @@ use Rattle.text_or_page.proofs.put_foot.Statement.{statement}
 use Rattle.text_or_page.proofs.put_foot.Tie as tie
 
 returns : tie.Need-returns
-returns c = let put = c.before.before.put-in-page.ensures in (put.0, omega (arith, put.1))
+returns c = let put = c.before.before.put_in_page.ensures in (put.0, omega (arith, put.1))
 
-pub put-foot-spec : {M : Type 1} → statement M
-put-foot-spec =
+pub put_foot_spec : {M : Type 1} → statement M
+put_foot_spec =
     tie.close
-    (tie.spec
-    (λ c. search rules) (λ c κs. search rules) (λ c. search rules) returns)
+    (tie.spec (λ c κs. search rules) (λ c. search rules) returns)

@@ -5,10 +5,10 @@ use Rattle.text_or_page.proofs.put_one.Statement.{statement}
 use Rattle.text_or_page.proofs.put_one.Tie as tie
 
 returns : tie.Need-returns
-returns c = let put = c.before.before.Put-written.ensures in (put.0, omega (arith, put.1))
+returns c = let put = c.before.before.put_written.ensures in (put.0, omega (arith, put.1))
 
-pub put-one-spec : {M : Type 1} → statement M
-put-one-spec =
+pub put_one_spec : {M : Type 1} → statement M
+put_one_spec =
     tie.close
     (tie.spec
     (λ c. search rules) (λ c κs. search rules) (λ c. search rules) returns)

@@ -5,10 +5,9 @@ use Rattle.text_or_page.proofs.put_words.Statement.{statement}
 use Rattle.text_or_page.proofs.put_words.Tie as tie
 
 returns : tie.Need-returns
-returns c = let put = c.before.before.Put-written.ensures in (put.0, omega (arith, put.1))
+returns c = let put = c.before.before.put_written.ensures in (put.0, omega (arith, put.1))
 
-pub put-words-spec : {M : Type 1} → statement M
-put-words-spec =
+pub put_words_spec : {M : Type 1} → statement M
+put_words_spec =
     tie.close
-    (tie.spec
-    (λ c. search rules) (λ c κs. search rules) (λ c. search rules) returns)
+    (tie.spec (λ c κs. search rules) (λ c. search rules) returns)

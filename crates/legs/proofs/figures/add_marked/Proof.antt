@@ -41,7 +41,7 @@ add-trade-requires c κs =
     let s = entry t.before in
     let low = t.loop-test.taken in
     let marked = sym c.before.before.is-on.ensures ∙ c.before.if1.true in (
-      record { figures_long = l.inv.1.0; legs-long = s.pre.0.legs-long; size = s.pre.0.size },
+      record { figures_long = l.inv.1.0; legs_long = s.pre.0.legs_long; size = s.pre.0.size },
       s.pre.1,
       low,
       added_room s.args.n (is_on s.args.marks) s.args.legs.now _ l.j low _ l.inv.1.1 marked s.pre.2,

@@ -41,7 +41,7 @@ pub add-trade-spec : {M : Type 1} → statement M
 add-trade-spec =
     tie.close
     (tie.spec
-    (λ c. omega (arith, c.requires.0.size)) (λ c. omega (arith, c.requires.0.size)) (λ c. omega (arith, c.before.requires.0.size, c.before.requires.0.legs-long))
+    (λ c. omega (arith, c.requires.0.size)) (λ c. omega (arith, c.requires.0.size)) (λ c. omega (arith, c.before.requires.0.size, c.before.requires.0.legs_long))
     (λ c. omega (arith, c.before.requires.0.size)) (λ c. let s = c.before.before in omega (arith, s.requires.0.size, s.requires.1.long))
     (λ c. omega (arith, c.before.before.requires.0.size)) (λ c. omega (arith, c.before.before.requires.0.size))
     (λ c. let s = c.before.before.before in omega (arith, s.requires.0.size, s.requires.1.long))

@@ -76,13 +76,13 @@ lent : (c : tie.After-first invariant-loop decreases-loop) → (let l = turn c i
 lent c =
     let l = turn c in
     let f = (passing l).figured in
-    record { figures_long = f.held-long; legs-long = f.share_legs_lem.long; size = omega (arith, size l, (r l).size) }
+    record { figures_long = f.held_long; legs_long = f.share_legs.long; size = omega (arith, size l, (r l).size) }
 
 lent-funds : (c : tie.After-first invariant-loop decreases-loop) → (let l = turn c in Lent l.loop.funds (entry l).args.cents.now l.before.before.items.result)
 lent-funds c =
     let l = turn c in
     let f = (passing l).figured in
-    record { figures_long = f.funds_long; legs-long = f.cash_legs_lem.long; size = omega (arith, size l, (r l).size) }
+    record { figures_long = f.funds_long; legs_long = f.cash_legs.long; size = omega (arith, size l, (r l).size) }
 
 -- there is room for its legs
 held_fits :
@@ -213,5 +213,5 @@ one-pass-spec =
     (λ c κs. (firsts (tried (tried-both (held_more (shares-more c.before.before))))).first.ensures.inside)
     (λ c. less-out (tried (tried-both (held_more (shares-more (funds-more c)))))) loop-again (λ c. less-out (tried (tried-both c.before))) loop-again-2
     (λ c. less-out (tried c.before)) loop-again-3
-    (λ c. omega (arith, (passing c.before).figured.held-long, (entry c.before).pre.1.held-long))
+    (λ c. omega (arith, (passing c.before).figured.held_long, (entry c.before).pre.1.held_long))
     (λ c. omega (arith, (passing c.before).figured.funds_long, (entry c.before).pre.1.funds_long)) returns)

@@ -88,6 +88,6 @@ pub put-back-spec : {M : Type 1} → statement M
 put-back-spec =
     tie.close
     (tie.spec invariant-loop decreases-loop loop-holds one-pass-requires
-    (λ c. let p = made c.before in omega (arith, p.one_pass_lem.ensures.1.held-long, (entry (head p).before).pre.1.held-long))
+    (λ c. let p = made c.before in omega (arith, p.one_pass_lem.ensures.1.held_long, (entry (head p).before).pre.1.held_long))
     (λ c. let p = made c.before in omega (arith, p.one_pass_lem.ensures.1.funds_long, (entry (head p).before).pre.1.funds_long)) returns loop-less
     loop-again)

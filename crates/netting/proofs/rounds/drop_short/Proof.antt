@@ -62,7 +62,7 @@ module _ (c : tie.After-items invariant-loop decreases-loop) where
 loop-holds : tie.Need-loop-init invariant-loop decreases-loop
 loop-holds c =
     let f = first-figured c in
-    (f.held-long, f.funds_long, (λ r. starts (ledger c) r f), omega arith, (λ k l m. absurd (omega arith)))
+    (f.held_long, f.funds_long, (λ r. starts (ledger c) r f), omega arith, (λ k l m. absurd (omega arith)))
 
 -- ---- at the loop's head
 
@@ -158,7 +158,7 @@ drop-trade-requires : tie.Need-drop-trade-requires invariant-loop decreases-loop
 drop-trade-requires c κs =
     let f = c.before.before in
     let l = head f in (
-      record { figures_long = l.loop.inv.0; legs-long = (first-figured (counted l)).share_legs_lem.long; size = few (counted l) },
+      record { figures_long = l.loop.inv.0; legs_long = (first-figured (counted l)).share_legs.long; size = few (counted l) },
       share_slots l,
       rw (size (counted l)) (there f),
       rw (size (counted l)) (share_cover (b l) (r l) (running l) (spot f)),
@@ -168,7 +168,7 @@ drop-trade-requires-2 : tie.Need-drop-trade-requires-2 invariant-loop decreases-
 drop-trade-requires-2 c κs =
     let f = found c.before.before.before in
     let l = head f in (
-      record { figures_long = l.loop.inv.1; legs-long = (first-figured (counted l)).cash_legs_lem.long; size = few (counted l) },
+      record { figures_long = l.loop.inv.1; legs_long = (first-figured (counted l)).cash_legs.long; size = few (counted l) },
       cash_slots l,
       rw (size (counted l)) (there f),
       rw (size (counted l)) (cash_cover (b l) (r l) (running l) (spot f)),

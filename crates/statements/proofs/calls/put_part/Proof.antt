@@ -7,7 +7,7 @@ use Rattle.file.specs.Records.{records_of, next_at}
 use Rattle.file.specs.declared.Next.TheVariants.{Record, End}
 use Rattle.file.proofs.Walking.{inside}
 use Rattle.printing.specs.Printed.{lent}
-use Rattle.statements.proofs.Walks.{at-end, Walked, walked_none, walked_inside, part-put, walked_more, fewer, less_left}
+use Rattle.statements.proofs.Walks.{at_end, Walked, walked_none, walked_inside, part-put, walked_more, fewer, less_left}
 use Rattle.statements.proofs.calls.put_part.Statement.{statement}
 use Rattle.statements.proofs.calls.put_part.Tie as tie
 
@@ -81,7 +81,7 @@ returns-2 : tie.Need-returns-2 invariant-loop decreases-loop
 returns-2 c =
     let s = c.before.before in
     let l = turn s in
-    let behind = at-end (start l).args.file.now l.loop.cursor.at (sym s.next-record.ensures ∙ c.enum_told.given.1) in
+    let behind = at_end (start l).args.file.now l.loop.cursor.at (sym s.next-record.ensures ∙ c.enum_told.given.1) in
     part-put l.loop.inv.0 refl refl (λ more. absurd (omega arith))
 
 pub put-part-spec : {M : Type 1} → statement M

@@ -22,21 +22,21 @@ loop-holds c =
 
 returns : tie.Need-returns-then-end-bytes invariant-loop decreases-loop
 returns c =
-    let at-end = c.before.before in
-    let at-loop = at-end.before.before in
-    part-missing _ _ _ _ at-end.end_of-end.ensures.0 (search rules) _ _ at-loop.loop-left.invariant.1 (search rules) (search rules)
+    let at_end = c.before.before in
+    let at-loop = at_end.before.before in
+    part-missing _ _ _ _ at_end.end_of-end.ensures.0 (search rules) _ _ at-loop.loop-left.invariant.1 (search rules) (search rules)
 
 loop-again : tie.Need-loop-left-preserved invariant-loop decreases-loop
 loop-again c =
-    let at-end = c.before in
-    let at-loop = at-end.before.before in
-    (search rules, part-on _ _ _ _ at-end.end_of-end.ensures.0 (search rules) _ _ at-loop.loop-left.invariant.1 (search rules))
+    let at_end = c.before in
+    let at-loop = at_end.before.before in
+    (search rules, part-on _ _ _ _ at_end.end_of-end.ensures.0 (search rules) _ _ at-loop.loop-left.invariant.1 (search rules))
 
 returns-2 : tie.Need-returns invariant-loop decreases-loop
 returns-2 c =
-    let at-end = c.before in
-    let at-loop = at-end.before.before in
-    part-here _ _ _ _ at-end.end_of-end-2.ensures.0 (search rules) _ _ at-loop.loop-left.invariant.1 (search rules)
+    let at_end = c.before in
+    let at-loop = at_end.before.before in
+    part-here _ _ _ _ at_end.end_of-end-2.ensures.0 (search rules) _ _ at-loop.loop-left.invariant.1 (search rules)
 
 pub part_spec : {M : Type 1} → statement M
 part_spec =

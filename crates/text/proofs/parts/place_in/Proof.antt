@@ -24,18 +24,18 @@ loop-holds c =
 returns : tie.Need-returns-then-same invariant-loop decreases-loop
 returns c =
     let at_same = c.before in
-    let at-end = at_same.before.before in
-    let at-loop = at-end.before.before in
-    place_found _ _ _ _ at-end.end_of-end.ensures.0 (search rules) _ _ _ at-loop.loop-at.invariant.2 (sym at_same.same.ensures ∙ c.if-same.true)
+    let at_end = at_same.before.before in
+    let at-loop = at_end.before.before in
+    place_found _ _ _ _ at_end.end_of-end.ensures.0 (search rules) _ _ _ at-loop.loop-at.invariant.2 (sym at_same.same.ensures ∙ c.if-same.true)
 
 loop-again : tie.Need-loop-at-preserved invariant-loop decreases-loop
 loop-again c =
     let at_same = c.before in
-    let at-end = at_same.before.before in
-    let at-loop = at-end.before.before in (
+    let at_end = at_same.before.before in
+    let at-loop = at_end.before.before in (
       search rules,
       search rules,
-      place-on _ _ _ _ at-end.end_of-end.ensures.0 (search rules) _ _ _ at-loop.loop-at.invariant.2 (sym at_same.same.ensures ∙ c.if-same.false),
+      place-on _ _ _ _ at_end.end_of-end.ensures.0 (search rules) _ _ _ at-loop.loop-at.invariant.2 (sym at_same.same.ensures ∙ c.if-same.false),
     )
 
 returns-2 : tie.Need-returns invariant-loop decreases-loop
