@@ -28,7 +28,7 @@ KIT = os.environ.get("RATTLE_KIT", "")
 
 def files(root):
     for top, _, names in os.walk(os.path.join(root, "crates")):
-        if "/out" in top:
+        if "/out/" in top + "/":
             continue
         for name in names:
             path = os.path.join(top, name)

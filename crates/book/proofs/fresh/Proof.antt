@@ -12,50 +12,50 @@ use Rattle.book.proofs.Zeros.{zeros, zeros_mean, rated_mean, fresh_kept, zeros_m
 use Rattle.book.proofs.fresh.Statement.{statement}
 use Rattle.book.proofs.fresh.Tie as tie
 
-abbrev invariant-loop : tie.invariant-loop
+abbrev invariant-loop : tie.invariant-loop-i
 invariant-loop book₀ i₀ book i = (i ≤ book_length) × (length book ≡ book_length) × (take i book ≡ replicate i 0)
 
-abbrev decreases-loop : tie.decreases-loop
+abbrev decreases-loop : tie.decreases-loop-i
 decreases-loop book₀ i₀ book i = book_length - i
 
-returns : tie.Need-returns invariant-loop decreases-loop
+returns : tie.Need-returns-then-book-ne-END invariant-loop decreases-loop
 returns c = record {
-  answers = sym (ne_eqb _ book_length c.if1.true);
+  answers = sym (ne_eqb _ book_length c.if-book-ne-END.true);
   ledger = λ e. absurd (false≢true e);
   kept = λ e. absurd (false≢true e);
   untouched = λ e. refl;
 }
 
-loop-again : tie.Need-loop-preserved invariant-loop decreases-loop
+loop-again : tie.Need-loop-i-preserved invariant-loop decreases-loop
 loop-again c =
-    let l = c.before.loop in
+    let l = c.before.loop-i in
     (omega arith, simp length-set l.invariant.1, zeros_more l.book l.i (omega arith) l.invariant.2)
 
 -- behind the loop every word is 0
-all-zeros : (c : tie.After-put-rate-arg invariant-loop decreases-loop) → c.before.before.loop.book ≡ zeros
+all-zeros : (c : tie.After-put_rate-arg-1 invariant-loop decreases-loop) → c.before.before.loop-i.book ≡ zeros
 all-zeros c =
-    let l = c.before.before.loop in
+    let l = c.before.before.loop-i in
     let all : l.i ≡ book_length = omega arith in
     let whole : length l.book ≡ l.i = omega arith in
     sym (take-length l.book) ∙ ap (λ (n : ℕ). take n l.book) whole ∙ l.invariant.2 ∙ ap (λ (n : ℕ). replicate n 0) all
 
-put-rate-requires : tie.Need-put-rate-requires invariant-loop decreases-loop
+put-rate-requires : tie.Need-put_rate-requires invariant-loop decreases-loop
 put-rate-requires c κs = subst Stored (sym (all-zeros c)) zeros_mean.stored
 
-returns-2 : tie.Need-returns-2 invariant-loop decreases-loop
+returns-2 : tie.Need-returns invariant-loop decreases-loop
 returns-2 c =
     let zeroed = c.before.before.before in
-    let rated = c.before.before.put-rate in
-    let m = rated_mean zeroed.before.before.loop.book rated.new.0 (all-zeros zeroed) rated.ensures in
+    let rated = c.before.before.put_rate in
+    let m = rated_mean zeroed.before.before.loop-i.book rated.new.book (all-zeros zeroed) rated.ensures in
     record {
-      answers = sym (eq-eqb _ book_length zeroed.before.before.before.if1.false);
+      answers = sym (eq-eqb _ book_length zeroed.before.before.before.if-book-ne-END.false);
       ledger = λ e. m.ledger;
       kept = λ e. fresh_kept _ m;
       untouched = λ e. absurd (true≢false e);
     }
 
-pub fresh-spec : {M : Type 1} → statement M
-fresh-spec =
+pub fresh_spec : {M : Type 1} → statement M
+fresh_spec =
     tie.close
-    (tie.spec invariant-loop decreases-loop returns (λ c. (omega arith, c.if1.false, refl)) (λ c. omega arith) (λ c. omega arith) (λ c. omega arith) (λ c. omega arith)
-    loop-again put-rate-requires (λ c. omega (arith, c.before.before.before.before.before.before.if1.false)) returns-2)
+    (tie.spec invariant-loop decreases-loop returns (λ c. (omega arith, c.if-book-ne-END.false, refl)) (λ c. omega arith) (λ c. omega arith) (λ c. omega arith) (λ c. omega arith)
+    loop-again put-rate-requires (λ c. omega (arith, c.before.before.before.before.before.before.if-book-ne-END.false)) returns-2)

@@ -22,12 +22,12 @@ returns c =
     let s = written.before.before.before in
     let o = s.before in
     let a = o.before.before.args in
-    let e = flag a.day.opened o.bit-of.result o.bit-of.ensures.0 in
-    let f = flag a.day.sent s.bit-of2.result s.bit-of2.ensures.0 in
+    let e = flag a.day.opened o.bit_of-opened.result o.bit_of-opened.ensures.0 in
+    let f = flag a.day.sent s.bit_of-sent.result s.bit_of-sent.ensures.0 in
     subst (λ (l : List ℕ). (day_in l ≡ a.day) × (get_or l 1 0 ≤ 1)) (sym c.before.before.write.ensures) (
       (λ i. record { number = a.day.number; opened = e i; kind = a.day.kind; cycles = a.day.cycles; minute = a.day.minute; sent = f i }),
-      o.bit-of.ensures.1,
+      o.bit_of-opened.ensures.1,
     )
 
-pub put-day-in-spec : {M : Type 1} → statement M
-put-day-in-spec = tie.close (tie.spec (λ c κs. search rules) (λ c κs. search rules) (λ c. search rules) (λ c κs. search rules) (λ c. search rules) returns)
+pub put_day_in_spec : {M : Type 1} → statement M
+put_day_in_spec = tie.close (tie.spec (λ c κs. search rules) (λ c κs. search rules) (λ c. search rules) (λ c κs. search rules) (λ c. search rules) returns)

@@ -10,8 +10,8 @@ use Rattle.book.proofs.put_rate.Tie as tie
 returns : tie.Need-returns
 returns c =
     let s = c.before.before.before.before.before in
-    let p = c.before.before.put-rate-in in
-    rate_step s.args.book.now s.requires p.new.0 _ (p.auto.0 ∙ part-long RATE (omega arith) s.args.book.now s.requires) p.ensures
+    let p = c.before.before.put_rate_in in
+    rate_step s.args.book.now s.requires p.new.words _ (p.auto.words ∙ part-long RATE (omega arith) s.args.book.now s.requires) p.ensures
 
-pub put-rate-spec : {M : Type 1} → statement M
-put-rate-spec = tie.close (tie.spec (λ c. search rules) (λ c. search rules) (λ c. search rules) (λ c κs. search rules) (λ c. search rules) returns)
+pub put_rate_spec : {M : Type 1} → statement M
+put_rate_spec = tie.close (tie.spec (λ c. search rules) (λ c. search rules) (λ c. search rules) (λ c κs. search rules) (λ c. search rules) returns)

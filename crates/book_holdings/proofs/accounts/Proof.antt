@@ -8,5 +8,5 @@ returns : tie.Need-returns
 unfolding holdings_of
 returns c = c.rows.ensures
 
-pub accounts-spec : {M : Type 1} → statement M
-accounts-spec = tie.close (tie.spec (λ c. search rules) (λ c. search rules) (λ c. search rules) (λ c κs. search rules) returns)
+pub accounts_spec : {M : Type 1} → statement M
+accounts_spec = tie.close (tie.spec (λ c. search rules) (λ c. search rules) (λ c. search rules) (λ c κs. search rules) returns)

@@ -23,5 +23,5 @@ returns c =
     let e = c.before.before.admit.ensures in
     securities_step s.args.book.now s.requires.0 _ _ e.0 (ap (λ (l : List Security). put_securities l (holdings_of s.args.book.now)) e.1)
 
-pub admit-spec : {M : Type 1} → statement M
-admit-spec = tie.close (tie.spec (λ c. search rules) (λ c. search rules) (λ c. search rules) admit-requires (λ c. search rules) returns)
+pub admit_spec : {M : Type 1} → statement M
+admit_spec = tie.close (tie.spec (λ c. search rules) (λ c. search rules) (λ c. search rules) admit-requires (λ c. search rules) returns)

@@ -8,5 +8,5 @@ returns : tie.Need-returns
 unfolding holdings_of
 returns c = c.admitted.ensures (holdings_of c.before.before.before.args.book.now)
 
-pub admitted-spec : {M : Type 1} → statement M
-admitted-spec = tie.close (tie.spec (λ c. search rules) (λ c. search rules) (λ c. search rules) (λ c κs. search rules) returns)
+pub admitted_spec : {M : Type 1} → statement M
+admitted_spec = tie.close (tie.spec (λ c. search rules) (λ c. search rules) (λ c. search rules) (λ c κs. search rules) returns)

@@ -8,5 +8,5 @@ returns : tie.Need-returns
 unfolding holdings_of
 returns c = c.balance.ensures
 
-pub balance-spec : {M : Type 1} → statement M
-balance-spec = tie.close (tie.spec (λ c. search rules) (λ c. search rules) (λ c. search rules) (λ c κs. search rules) returns)
+pub balance_spec : {M : Type 1} → statement M
+balance_spec = tie.close (tie.spec (λ c. search rules) (λ c. search rules) (λ c. search rules) (λ c κs. search rules) returns)

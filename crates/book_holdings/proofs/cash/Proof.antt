@@ -8,5 +8,5 @@ returns : tie.Need-returns
 unfolding holdings_of
 returns c = c.amount.ensures
 
-pub cash-spec : {M : Type 1} → statement M
-cash-spec = tie.close (tie.spec (λ c. search rules) (λ c. search rules) (λ c. search rules) (λ c κs. search rules) returns)
+pub cash_spec : {M : Type 1} → statement M
+cash_spec = tie.close (tie.spec (λ c. search rules) (λ c. search rules) (λ c. search rules) (λ c κs. search rules) returns)

@@ -16,5 +16,5 @@ returns : tie.Need-returns
 unfolding holdings_of cash_total total_in
 returns c = c.total.ensures
 
-pub cash-total-spec : {M : Type 1} → statement M
-cash-total-spec = tie.close (tie.spec (λ c. search rules) (λ c. search rules) (λ c. search rules) total-requires returns)
+pub cash_total_spec : {M : Type 1} → statement M
+cash_total_spec = tie.close (tie.spec (λ c. search rules) (λ c. search rules) (λ c. search rules) total-requires returns)

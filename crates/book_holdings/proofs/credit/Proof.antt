@@ -16,5 +16,5 @@ returns c =
     let e = c.before.before.credit.ensures in
     accounts_step s.args.book.now s.requires.0 _ _ e.0 (e.1 (holdings_of s.args.book.now))
 
-pub credit-spec : {M : Type 1} → statement M
-credit-spec = tie.close (tie.spec (λ c. search rules) (λ c. search rules) (λ c. search rules) credit-requires (λ c. search rules) returns)
+pub credit_spec : {M : Type 1} → statement M
+credit_spec = tie.close (tie.spec (λ c. search rules) (λ c. search rules) (λ c. search rules) credit-requires (λ c. search rules) returns)

@@ -15,8 +15,8 @@ returns : tie.Need-returns
 unfolding holdings_of
 returns c =
     let s = c.before.before.before.before.before in
-    let wide = c.before.before.credit.auto.0 ∙ part-long CASH (omega arith) s.args.book.now s.requires.0 in
+    let wide = c.before.before.credit.auto.cash ∙ part-long CASH (omega arith) s.args.book.now s.requires.0 in
     cash_step s.args.book.now s.requires.0 _ _ wide (c.before.before.credit.ensures (holdings_of s.args.book.now))
 
-pub credit-cash-spec : {M : Type 1} → statement M
-credit-cash-spec = tie.close (tie.spec (λ c. search rules) (λ c. search rules) (λ c. search rules) credit-requires (λ c. search rules) returns)
+pub credit_cash_spec : {M : Type 1} → statement M
+credit_cash_spec = tie.close (tie.spec (λ c. search rules) (λ c. search rules) (λ c. search rules) credit-requires (λ c. search rules) returns)

@@ -16,5 +16,5 @@ returns c =
     let e = c.before.before.debit.ensures in
     accounts_step s.args.book.now s.requires.0 _ _ e.0 (e.1 (holdings_of s.args.book.now))
 
-pub debit-spec : {M : Type 1} → statement M
-debit-spec = tie.close (tie.spec (λ c. search rules) (λ c. search rules) (λ c. search rules) debit-requires (λ c. search rules) returns)
+pub debit_spec : {M : Type 1} → statement M
+debit_spec = tie.close (tie.spec (λ c. search rules) (λ c. search rules) (λ c. search rules) debit-requires (λ c. search rules) returns)

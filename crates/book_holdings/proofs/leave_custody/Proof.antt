@@ -6,7 +6,7 @@ use Rattle.book.proofs.Parts.{securities_step}
 use Rattle.book_holdings.proofs.leave_custody.Statement.{statement}
 use Rattle.book_holdings.proofs.leave_custody.Tie as tie
 
-leave-custody-requires : tie.Need-leave-custody-requires
+leave-custody-requires : tie.Need-leave_custody-requires
 unfolding holdings_of outside_of held_of
 leave-custody-requires c κs = let s = c.before.before in (s.requires.0.parts.securities, (λ h. s.requires.1), λ h. s.requires.2)
 
@@ -14,8 +14,8 @@ returns : tie.Need-returns
 unfolding holdings_of
 returns c =
     let s = c.before.before.before.before.before in
-    let e = c.before.before.leave-custody.ensures in
+    let e = c.before.before.leave_custody.ensures in
     securities_step s.args.book.now s.requires.0 _ _ e.0 (e.1 (holdings_of s.args.book.now))
 
-pub leave-custody-spec : {M : Type 1} → statement M
-leave-custody-spec = tie.close (tie.spec (λ c. search rules) (λ c. search rules) (λ c. search rules) leave-custody-requires (λ c. search rules) returns)
+pub leave_custody_spec : {M : Type 1} → statement M
+leave_custody_spec = tie.close (tie.spec (λ c. search rules) (λ c. search rules) (λ c. search rules) leave-custody-requires (λ c. search rules) returns)

@@ -6,7 +6,7 @@ use Rattle.book_holdings.proofs.next_account.Tie as tie
 
 returns : tie.Need-returns
 unfolding holdings_of
-returns c = c.next_account_lem.ensures
+returns c = c.next_account.ensures
 
-pub next-account-spec : {M : Type 1} → statement M
-next-account-spec = tie.close (tie.spec (λ c. search rules) (λ c. search rules) (λ c. search rules) (λ c κs. search rules) returns)
+pub next_account_spec : {M : Type 1} → statement M
+next_account_spec = tie.close (tie.spec (λ c. search rules) (λ c. search rules) (λ c. search rules) (λ c κs. search rules) returns)

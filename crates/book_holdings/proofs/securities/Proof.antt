@@ -10,5 +10,5 @@ returns : tie.Need-returns
 unfolding holdings_of
 returns c = c.rows.ensures ∙ sym (how_many (part SECURITIES c.before.before.before.args.book.now))
 
-pub securities-spec : {M : Type 1} → statement M
-securities-spec = tie.close (tie.spec (λ c. search rules) (λ c. search rules) (λ c. search rules) (λ c κs. search rules) returns)
+pub securities_spec : {M : Type 1} → statement M
+securities_spec = tie.close (tie.spec (λ c. search rules) (λ c. search rules) (λ c. search rules) (λ c κs. search rules) returns)

@@ -10,5 +10,5 @@ returns : tie.Need-returns
 unfolding waiting_of
 returns c = c.rows.ensures ∙ sym (how_many (part ITEMS c.before.before.before.args.book.now))
 
-pub items-spec : {M : Type 1} → statement M
-items-spec = tie.close (tie.spec (λ c. search rules) (λ c. search rules) (λ c. search rules) (λ c κs. search rules) returns)
+pub items_spec : {M : Type 1} → statement M
+items_spec = tie.close (tie.spec (λ c. search rules) (λ c. search rules) (λ c. search rules) (λ c κs. search rules) returns)

@@ -6,13 +6,13 @@ use Rattle.book.specs.Meaning.{ITEMS, part, waiting_of}
 use Rattle.book_items.proofs.may_bear.Statement.{statement}
 use Rattle.book_items.proofs.may_bear.Tie as tie
 
-may-bear-requires : tie.Need-may-bear-requires
+may-bear-requires : tie.Need-may_bear-requires
 unfolding waiting_of
 may-bear-requires c κs = let s = c.before.before in (s.requires.0.parts.items, omega (arith, how_many (part ITEMS s.args.book.now), s.requires.1))
 
 returns : tie.Need-returns
 unfolding waiting_of
-returns c = c.may-bear.ensures
+returns c = c.may_bear.ensures
 
-pub may-bear-spec : {M : Type 1} → statement M
-may-bear-spec = tie.close (tie.spec (λ c. search rules) (λ c. search rules) (λ c. search rules) may-bear-requires returns)
+pub may_bear_spec : {M : Type 1} → statement M
+may_bear_spec = tie.close (tie.spec (λ c. search rules) (λ c. search rules) (λ c. search rules) may-bear-requires returns)

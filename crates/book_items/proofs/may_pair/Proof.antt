@@ -6,13 +6,13 @@ use Rattle.book.specs.Meaning.{ITEMS, part, waiting_of}
 use Rattle.book_items.proofs.may_pair.Statement.{statement}
 use Rattle.book_items.proofs.may_pair.Tie as tie
 
-may-pair-requires : tie.Need-may-pair-requires
+may-pair-requires : tie.Need-may_pair-requires
 unfolding waiting_of
 may-pair-requires c κs = let s = c.before.before in (s.requires.0.parts.items, omega (arith, how_many (part ITEMS s.args.book.now), s.requires.1))
 
 returns : tie.Need-returns
 unfolding waiting_of
-returns c = c.may-pair.ensures
+returns c = c.may_pair.ensures
 
-pub may-pair-spec : {M : Type 1} → statement M
-may-pair-spec = tie.close (tie.spec (λ c. search rules) (λ c. search rules) (λ c. search rules) may-pair-requires returns)
+pub may_pair_spec : {M : Type 1} → statement M
+may_pair_spec = tie.close (tie.spec (λ c. search rules) (λ c. search rules) (λ c. search rules) may-pair-requires returns)

@@ -7,7 +7,7 @@ use Rattle.book.proofs.Parts.{items_step}
 use Rattle.book_items.proofs.put_item.Statement.{statement}
 use Rattle.book_items.proofs.put_item.Tie as tie
 
-put-item-requires : tie.Need-put-item-requires
+put-item-requires : tie.Need-put_item-requires
 unfolding waiting_of
 put-item-requires c κs = let s = c.before.before in (s.requires.0.parts.items, omega (arith, how_many (part ITEMS s.args.book.now), s.requires.1))
 
@@ -17,5 +17,5 @@ returns c =
     let s = c.before.before.before.before.before in let e = c.before.before.put_item.ensures in items_step s.args.book.now s.requires.0 _ _
     e.0 e.1
 
-pub put-item-spec : {M : Type 1} → statement M
-put-item-spec = tie.close (tie.spec (λ c. search rules) (λ c. search rules) (λ c. search rules) put-item-requires (λ c. search rules) returns)
+pub put_item_spec : {M : Type 1} → statement M
+put_item_spec = tie.close (tie.spec (λ c. search rules) (λ c. search rules) (λ c. search rules) put-item-requires (λ c. search rules) returns)

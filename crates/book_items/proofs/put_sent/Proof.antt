@@ -7,7 +7,7 @@ use Rattle.book.proofs.Parts.{items_step}
 use Rattle.book_items.proofs.put_sent.Statement.{statement}
 use Rattle.book_items.proofs.put_sent.Tie as tie
 
-put-sent-requires : tie.Need-put-sent-requires
+put-sent-requires : tie.Need-put_sent-requires
 unfolding waiting_of
 put-sent-requires c κs = let s = c.before.before in (s.requires.0.parts.items, omega (arith, how_many (part ITEMS s.args.book.now), s.requires.1))
 
@@ -15,8 +15,8 @@ returns : tie.Need-returns
 unfolding waiting_of
 returns c =
     let s = c.before.before.before.before.before in
-    let e = c.before.before.put-sent.ensures in
+    let e = c.before.before.put_sent.ensures in
     λ d. items_step s.args.book.now s.requires.0 _ _ e.0 (e.1 d)
 
-pub put-sent-spec : {M : Type 1} → statement M
-put-sent-spec = tie.close (tie.spec (λ c. search rules) (λ c. search rules) (λ c. search rules) put-sent-requires (λ c. search rules) returns)
+pub put_sent_spec : {M : Type 1} → statement M
+put_sent_spec = tie.close (tie.spec (λ c. search rules) (λ c. search rules) (λ c. search rules) put-sent-requires (λ c. search rules) returns)

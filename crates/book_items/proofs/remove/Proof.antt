@@ -17,5 +17,5 @@ returns c =
     let s = c.before.before.before.before.before in let e = c.before.before.remove.ensures in items_step s.args.book.now s.requires.0 _ _ e.0
     e.1
 
-pub remove-spec : {M : Type 1} → statement M
-remove-spec = tie.close (tie.spec (λ c. search rules) (λ c. search rules) (λ c. search rules) remove-requires (λ c. search rules) returns)
+pub remove_spec : {M : Type 1} → statement M
+remove_spec = tie.close (tie.spec (λ c. search rules) (λ c. search rules) (λ c. search rules) remove-requires (λ c. search rules) returns)

@@ -5,7 +5,7 @@ use Rattle.book.proofs.Parts.{requests_step}
 use Rattle.book_requests.proofs.end_request.Statement.{statement}
 use Rattle.book_requests.proofs.end_request.Tie as tie
 
-end-request-requires : tie.Need-end-request-requires
+end-request-requires : tie.Need-end_request-requires
 unfolding requests_of
 end-request-requires c κs = let s = c.before.before in (s.requires.0.parts.requests, s.requires.1, s.requires.2)
 
@@ -13,8 +13,8 @@ returns : tie.Need-returns
 unfolding requests_of
 returns c =
     let s = c.before.before.before.before.before in
-    let e = c.before.before.end-request.ensures in
+    let e = c.before.before.end_request.ensures in
     requests_step s.args.book.now s.requires.0 _ _ e.0 e.1
 
-pub end-request-spec : {M : Type 1} → statement M
-end-request-spec = tie.close (tie.spec (λ c. search rules) (λ c. search rules) (λ c. search rules) end-request-requires (λ c. search rules) returns)
+pub end_request_spec : {M : Type 1} → statement M
+end_request_spec = tie.close (tie.spec (λ c. search rules) (λ c. search rules) (λ c. search rules) end-request-requires (λ c. search rules) returns)

@@ -6,7 +6,7 @@ use Rattle.book_requests.proofs.next_request.Tie as tie
 
 returns : tie.Need-returns
 unfolding requests_of
-returns c = c.next_request_lem.ensures
+returns c = c.next_request.ensures
 
-pub next-request-spec : {M : Type 1} → statement M
-next-request-spec = tie.close (tie.spec (λ c. search rules) (λ c. search rules) (λ c. search rules) (λ c κs. search rules) returns)
+pub next_request_spec : {M : Type 1} → statement M
+next_request_spec = tie.close (tie.spec (λ c. search rules) (λ c. search rules) (λ c. search rules) (λ c κs. search rules) returns)

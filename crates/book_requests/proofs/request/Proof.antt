@@ -8,5 +8,5 @@ returns : tie.Need-returns
 unfolding requests_of
 returns c = c.request.ensures
 
-pub request-spec : {M : Type 1} → statement M
-request-spec = tie.close (tie.spec (λ c. search rules) (λ c. search rules) (λ c. search rules) (λ c κs. search rules) returns)
+pub request_spec : {M : Type 1} → statement M
+request_spec = tie.close (tie.spec (λ c. search rules) (λ c. search rules) (λ c. search rules) (λ c κs. search rules) returns)

@@ -8,5 +8,5 @@ returns : tie.Need-returns
 unfolding requests_of
 returns c = c.rows.ensures
 
-pub requests-spec : {M : Type 1} → statement M
-requests-spec = tie.close (tie.spec (λ c. search rules) (λ c. search rules) (λ c. search rules) (λ c κs. search rules) returns)
+pub requests_spec : {M : Type 1} → statement M
+requests_spec = tie.close (tie.spec (λ c. search rules) (λ c. search rules) (λ c. search rules) (λ c κs. search rules) returns)

@@ -1,11 +1,11 @@
 -- `day_tests::outside_window` meets its contract. Assumes nothing.
 use borrow.Author.Rules.{rules}
-use Rattle.rulebook.specs.Refusals.{outsideWindow}
+use Rattle.rulebook.specs.Refusals.{outside_window}
 use Rattle.day_tests.proofs.outside_window.Statement.{statement}
 use Rattle.day_tests.proofs.outside_window.Tie as tie
 
 pub outside-window-spec : {M : Type 1} → statement M
-unfolding outsideWindow
+unfolding outside_window
 outside-window-spec =
     tie.close
     (tie.spec (λ c κs. search rules) (λ c κs. search rules)

@@ -5,12 +5,12 @@ use Rattle.table.specs.Header.{header_of}
 use Rattle.first_line.proofs.header.Statement.{statement}
 use Rattle.first_line.proofs.header.Tie as tie
 
-pub header-spec : {M : Type 1} → statement M
+pub header_spec : {M : Type 1} → statement M
 unfolding header_of
-header-spec =
+header_spec =
     tie.close
     (tie.spec
     (λ c κs. search rules) (λ c κs. search rules)
-    (λ c. (c.refused.ensures.0 ∙ sym (simp (sym c.before.before.is-empty.ensures ∙ c.before.if1.true)), c.refused.ensures.1))
+    (λ c. (c.refused.ensures.0 ∙ sym (simp (sym c.before.before.is_empty.ensures ∙ c.before.if-is_empty.true)), c.refused.ensures.1))
     (λ c κs. search rules)
-    (λ c. (c.columns.ensures.0 ∙ sym (simp (sym c.before.before.is-empty.ensures ∙ c.before.if1.false)), c.columns.ensures.1)))
+    (λ c. (c.columns.ensures.0 ∙ sym (simp (sym c.before.before.is_empty.ensures ∙ c.before.if-is_empty.false)), c.columns.ensures.1)))

@@ -8,5 +8,5 @@ use Rattle.first_line.proofs.Heading.{has-column}
 use Rattle.first_line.proofs.seen.Statement.{statement}
 use Rattle.first_line.proofs.seen.Tie as tie
 
-pub seen-spec : {M : Type 1} → statement M
-seen-spec = tie.close (tie.spec (λ c κs. search rules) (λ c. ap (λ n. not (eqb n 0)) c.column-of.ensures ∙ has-column _ _ 1 (omega arith)))
+pub seen_spec : {M : Type 1} → statement M
+seen_spec = tie.close (tie.spec (λ c κs. search rules) (λ c. ap (λ n. not (eqb n 0)) c.column_of.ensures ∙ has-column _ _ 1 (omega arith)))

@@ -7,12 +7,8 @@ use Rattle.first_line.proofs.Heading.{too_short}
 use Rattle.first_line.proofs.text_start.Statement.{statement}
 use Rattle.first_line.proofs.text_start.Tie as tie
 
-pub text-start-spec : {M : Type 1} → statement M
+pub text_start_spec : {M : Type 1} → statement M
 unfolding mark unmarked
-text-start-spec =
+text_start_spec =
     tie.close
-    (tie.spec
-    (λ c. (search rules, too_short _ c.if1.true)) (λ c. sym (length-take-le 3 c.before.before.before.args.file.now (search rules)))
-    (λ c. search rules) (λ c κs. search rules)
-    (λ c. (search rules, sym (simp (sym c.before.same.ensures ∙ c.if2.true))))
-    (λ c. (search rules, sym (simp (sym c.before.same.ensures ∙ c.if2.false)))))
+    (tie.spec (λ c. (search rules, too_short _ c.if-file-lt3.true)) (λ c. sym (length-take-le 3 c.args.file.now (search rules))) (λ c κs. search rules) (λ c. (search rules, sym (simp (sym c.same.ensures ∙ c.if-same.true)))) (λ c. (search rules, sym (simp (sym c.same.ensures ∙ c.if-same.false)))))
