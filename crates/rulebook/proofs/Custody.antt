@@ -1,6 +1,5 @@
 -- The held counts that a book keeps: what each form does to them, and that they are what the accounts hold, over any list of calls. Assumes nothing.
 use native.Mathlib.Omega.{arith}
-use Rattle.plain.specs.Lists.{◌is◌}
 use Rattle.rulebook.specs.Ledger.{fresh}
 use Rattle.rulebook.specs.Calls.{book_after}
 use Rattle.rulebook.specs.Custody.{comes_in, goes_out, HeldByForm, HeldOfCalls}

@@ -5,7 +5,7 @@ use mathlib.Core.List.{List, [], ◌∷◌, ◌++◌}
 use Prim.Native.Nat.{ℕ, ◌+◌, ◌-◌, ◌*◌}
 use native.Mathlib.Omega.{arith}
 use borrow.Author.Tests.{eqb-true, le-leb, lt-leb}
-use Rattle.plain.specs.Lists.{if◌then◌else◌, ◌is◌, first}
+use Rattle.plain.specs.Lists.{if◌then◌else◌, ◌is◌}
 use Rattle.rulebook.specs.declared.Item.{Item}
 use Rattle.rulebook.specs.declared.Order.{Order}
 use Rattle.rulebook.specs.Ledger.{Ledger, fresh, put_day, put_waiting}

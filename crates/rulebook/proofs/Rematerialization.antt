@@ -7,7 +7,7 @@ use native.Mathlib.Omega.{arith}
 use borrow.Author.Tests.{eqb-true, ne_eqb, le-ltb, le-leb, not-true, not-false}
 use lib.ListN.{length}
 use Rattle.plain.specs.Lists.{if◌then◌else◌, ◌is◌, ◌at_most◌, some, first}
-use Rattle.plain.proofs.Lists.{◌and◌, some-append}
+use Rattle.plain.proofs.Lists.{some-append}
 use Rattle.plain.proofs.Tests.{both, neither, not-second}
 use Rattle.rulebook.specs.Ledger.{Ledger, Requests, fresh, request_account, put_day, put_request}
 use Rattle.rulebook.specs.Record.{fields_of, no_form, unused_not_zero, used_out_of_range, read_of, write_refusal}

@@ -19,7 +19,7 @@ use Rattle.rulebook.specs.declared.Account.{Account}
 use Rattle.rulebook.specs.Movements.{Place, Movement, account, type91, type90, move, credit, debit, credits, debits, recounted, booked}
 use Rattle.rulebook.specs.Waiting.{item_of, single_of}
 use Rattle.rulebook.specs.Matching.{tolerance, pairs_with, arrive}
-use Rattle.rulebook.specs.Forms.{Outcome, outcome, moving, silent, admit, deposit, transfer, instruct, trade, new_request, ended_request, request_paper, end_request, forms, row_of, effect}
+use Rattle.rulebook.specs.Forms.{Outcome, outcome, moving, silent, admit, deposit, transfer, instruct, trade, new_request, ended_request, request_paper, end_request, forms, row_of}
 use Rattle.rulebook.specs.Refusals.{no_space, wrong_pair, wrong_parties}
 use Rattle.rulebook.specs.Premise.{Sizes}
 use Rattle.rulebook.proofs.ByCall.{effect-at}

@@ -1,7 +1,6 @@
 // The types of the depository ledger. The definitions in specs/ speak of these under specs.declared.
 #![tactic(auto)]
 
-
 // A count of shares.
 #[derive(Clone, Copy)]
 pub struct Shares(pub u64);

@@ -4,7 +4,7 @@ use native.Mathlib.Decide.{ℕ_discrete}
 use native.Mathlib.Omega.{arith}
 use mathlib.Core.Bool.{Bool, true, false, true≢false}
 use mathlib.Core.List.{List}
-use mathlib.Core.Path.{◌≡◌, refl, sym, ap, ◌∙◌, subst}
+use mathlib.Core.Path.{◌≡◌, refl, sym, ◌∙◌, subst}
 use borrow.Author.Tests.{ltb-true, ltb-false}
 use Rattle.plain.specs.Lists.{if◌then◌else◌, ◌below◌}
 use Rattle.words.specs.Tables.{key_at}

@@ -11,35 +11,35 @@ use Rattle.booking.proofs.Moved.{balance_kept, either_order, stepwise, outside-r
 use Rattle.booking.proofs.leave.Statement.{statement}
 use Rattle.booking.proofs.leave.Tie as tie
 
-abbrev outside : tie.After-leave-custody → tie.After-outside-account
+abbrev outside : tie.After-leave_custody → tie.After-outside_account-outside
 outside c = c.before.before
 
-abbrev start : tie.After-outside-account → tie.Start
+abbrev start : tie.After-outside_account-outside → tie.Start
 start c = c.before.before.before
 
-abbrev gone : tie.After-debit → tie.After-leave-custody
+abbrev gone : tie.After-debit → tie.After-leave_custody
 gone c = c.before.before.before.before
 
-abbrev debited : tie.After-write-shares-arg → tie.After-debit
+abbrev debited : tie.After-write_shares-arg-1 → tie.After-debit
 debited c = c.before.before.before
 
-leave-custody-requires : tie.Need-leave-custody-requires
-leave-custody-requires c κs = let s = start c.before in (s.pre.0, s.pre.2.word, s.pre.2.held)
+leave-custody-requires : tie.Need-leave_custody-requires
+leave-custody-requires c κs = let s = start c.before in (s.requires.0, s.requires.2.word, s.requires.2.held)
 
 debit-requires : tie.Need-debit-requires
 debit-requires c κs =
     let credited = c.before.before.before in
     let s = start (outside credited) in
-    let same = balance_kept (ledger_of s.args.book.now) _ s.args.from.security _ s.args.from credited.leave-custody.ensures in
-    (credited.leave-custody.ensures.stored, s.pre.2.some, rw same s.pre.2.enough)
+    let same = balance_kept (ledger_of s.args.book.now) _ s.args.from.security _ s.args.from credited.leave_custody.ensures in
+    (credited.leave_custody.ensures.stored, s.requires.2.some, rw same s.requires.2.enough)
 
-write-shares-requires : tie.Need-write-shares-requires
+write-shares-requires : tie.Need-write_shares-requires
 write-shares-requires c κs =
     let out = outside (gone (debited c)) in
     let s = start out in (
-      s.pre.1,
-      s.pre.2.named,
-      subst AccountInRange (sym out.outside-account.ensures) (outside-row 91 _ (omega arith) s.pre.2.named.security),
+      s.requires.1,
+      s.requires.2.named,
+      subst AccountInRange (sym out.outside_account-outside.ensures) (outside-row 91 _ (omega arith) s.requires.2.named.security),
     )
 
 returns : tie.Need-returns
@@ -52,9 +52,9 @@ returns c =
     let s = start out in
     let from = s.args.from in
     let q = s.args.quantity.0 in
-    stepwise (ledger_of s.args.book.now) c.two-rows.ensures (account from) (type91 from.security) q
+    stepwise (ledger_of s.args.book.now) c.two_rows.ensures (account from) (type91 from.security) q
     (left from.security q) (debit (account from) q) (either_order _ from from.security q)
-    credited.leave-custody.ensures debited.debit.ensures (rw out.outside-account.ensures at wrote.write-shares.ensures)
+    credited.leave_custody.ensures debited.debit.ensures (rw out.outside_account-outside.ensures at wrote.write_shares.ensures)
 
 pub leave_spec : {M : Type 1} → statement M
 leave_spec =

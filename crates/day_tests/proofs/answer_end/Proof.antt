@@ -4,11 +4,11 @@ use mathlib.Core.Path.{sym, ◌∙◌}
 use Rattle.day_tests.proofs.answer_end.Statement.{statement}
 use Rattle.day_tests.proofs.answer_end.Tie as tie
 
-returns : tie.Need-returns
-returns c = rw (sym c.before.is-all-run.ensures ∙ c.if1.true)
+returns : tie.Need-returns-then-is_all_run
+returns c = rw (sym c.before.is_all_run.ensures ∙ c.if-is_all_run.true)
 
-returns-2 : tie.Need-returns-2
-returns-2 c = c.office-end.ensures ∙ rw (sym c.before.before.is-all-run.ensures ∙ c.before.if1.false)
+returns-2 : tie.Need-returns
+returns-2 c = c.office_end.ensures ∙ rw (sym c.before.before.is_all_run.ensures ∙ c.before.if-is_all_run.false)
 
-pub answer-end-spec : {M : Type 1} → statement M
-answer-end-spec = tie.close (tie.spec (λ c κs. search rules) returns (λ c κs. search rules) returns-2)
+pub answer_end_spec : {M : Type 1} → statement M
+answer_end_spec = tie.close (tie.spec (λ c κs. search rules) returns (λ c κs. search rules) returns-2)

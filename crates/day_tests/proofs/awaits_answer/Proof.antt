@@ -19,5 +19,5 @@ returns c =
     let a = c.before.args in
     one-of-four (a.order.form is 10) (a.order.form is 11) (a.order.form is 16) (a.order.form is 17) a.day.sent
 
-pub awaits-answer-spec : {M : Type 1} → statement M
-awaits-answer-spec = tie.close (tie.spec returns)
+pub awaits_answer_spec : {M : Type 1} → statement M
+awaits_answer_spec = tie.close (tie.spec returns)

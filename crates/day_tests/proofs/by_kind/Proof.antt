@@ -4,6 +4,6 @@ use Rattle.rulebook.specs.Windows.{by_kind}
 use Rattle.day_tests.proofs.by_kind.Statement.{statement}
 use Rattle.day_tests.proofs.by_kind.Tie as tie
 
-pub by-kind-spec : {M : Type 1} → statement M
+pub by_kind_spec : {M : Type 1} → statement M
 unfolding by_kind
-by-kind-spec = tie.close (tie.spec (λ c. rw c.if1.true) (λ c. rw (ne_eqb _ _ c.if1.false)))
+by_kind_spec = tie.close (tie.spec (λ c. rw c.if-kind-eq1.true) (λ c. rw (ne_eqb _ _ c.if-kind-eq1.false)))

@@ -6,17 +6,17 @@ use Rattle.day_tests.proofs.Windows.{minute-by_test}
 use Rattle.day_tests.proofs.cycle_minute.Statement.{statement}
 use Rattle.day_tests.proofs.cycle_minute.Tie as tie
 
-returns : tie.Need-returns
-returns c = rw (minute-by_test, c.if1.true)
+returns : tie.Need-returns-then-cycles-eq0
+returns c = rw (minute-by_test, c.if-cycles-eq0.true)
 
-returns-2 : tie.Need-returns-2
-returns-2 c = rw (minute-by_test, c.if2.true)
+returns-2 : tie.Need-returns-then-cycles-eq1
+returns-2 c = rw (minute-by_test, c.if-cycles-eq1.true)
 
-returns-3 : tie.Need-returns-3
-returns-3 c = c.by_kind_lem.ensures ∙ rw (minute-by_test, c.before.if3.true)
+returns-3 : tie.Need-returns-then-cycles-eq2
+returns-3 c = c.by_kind.ensures ∙ rw (minute-by_test, c.before.if-cycles-eq2.true)
 
-returns-4 : tie.Need-returns-4
-returns-4 c = rw (minute-by_test, ne_eqb _ _ c.before.before.if1.false, ne_eqb _ _ c.before.if2.false, ne_eqb _ _ c.if3.false)
+returns-4 : tie.Need-returns
+returns-4 c = rw (minute-by_test, ne_eqb _ _ c.before.before.if-cycles-eq0.false, ne_eqb _ _ c.before.if-cycles-eq1.false, ne_eqb _ _ c.if-cycles-eq2.false)
 
-pub cycle-minute-spec : {M : Type 1} → statement M
-cycle-minute-spec = tie.close (tie.spec returns returns-2 (λ c κs. search rules) returns-3 returns-4)
+pub cycle_minute_spec : {M : Type 1} → statement M
+cycle_minute_spec = tie.close (tie.spec returns returns-2 (λ c κs. search rules) returns-3 returns-4)

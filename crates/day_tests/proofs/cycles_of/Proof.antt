@@ -4,6 +4,6 @@ use Rattle.rulebook.specs.Windows.{by_kind, cycle_minutes}
 use Rattle.day_tests.proofs.cycles_of.Statement.{statement}
 use Rattle.day_tests.proofs.cycles_of.Tie as tie
 
-pub cycles-of-spec : {M : Type 1} → statement M
+pub cycles_of_spec : {M : Type 1} → statement M
 unfolding by_kind cycle_minutes
-cycles-of-spec = tie.close (tie.spec (λ c. rw c.if1.true) (λ c. rw (ne_eqb _ _ c.if1.false)))
+cycles_of_spec = tie.close (tie.spec (λ c. rw c.if-kind-eq1.true) (λ c. rw (ne_eqb _ _ c.if-kind-eq1.false)))

@@ -4,6 +4,6 @@ use Rattle.rulebook.specs.Refusals.{goes_back}
 use Rattle.day_tests.proofs.goes_back.Statement.{statement}
 use Rattle.day_tests.proofs.goes_back.Tie as tie
 
-pub goes-back-spec : {M : Type 1} → statement M
+pub goes_back_spec : {M : Type 1} → statement M
 unfolding goes_back
-goes-back-spec = tie.close (tie.spec (λ c. search rules))
+goes_back_spec = tie.close (tie.spec (λ c. search rules))

@@ -4,6 +4,6 @@ use Rattle.rulebook.specs.Windows.{all_run}
 use Rattle.day_tests.proofs.is_all_run.Statement.{statement}
 use Rattle.day_tests.proofs.is_all_run.Tie as tie
 
-pub is-all-run-spec : {M : Type 1} → statement M
+pub is_all_run_spec : {M : Type 1} → statement M
 unfolding all_run
-is-all-run-spec = tie.close (tie.spec (λ c κs. search rules) (λ c. cc))
+is_all_run_spec = tie.close (tie.spec (λ c κs. search rules) (λ c. cc))

@@ -4,6 +4,6 @@ use Rattle.rulebook.specs.Refusals.{nothing_sent}
 use Rattle.day_tests.proofs.nothing_sent.Statement.{statement}
 use Rattle.day_tests.proofs.nothing_sent.Tie as tie
 
-pub nothing-sent-spec : {M : Type 1} → statement M
+pub nothing_sent_spec : {M : Type 1} → statement M
 unfolding nothing_sent
-nothing-sent-spec = tie.close (tie.spec (λ c. search rules))
+nothing_sent_spec = tie.close (tie.spec (λ c. search rules))

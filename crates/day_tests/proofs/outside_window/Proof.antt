@@ -4,9 +4,9 @@ use Rattle.rulebook.specs.Refusals.{outside_window}
 use Rattle.day_tests.proofs.outside_window.Statement.{statement}
 use Rattle.day_tests.proofs.outside_window.Tie as tie
 
-pub outside-window-spec : {M : Type 1} → statement M
+pub outside_window_spec : {M : Type 1} → statement M
 unfolding outside_window
-outside-window-spec =
+outside_window_spec =
     tie.close
     (tie.spec (λ c κs. search rules) (λ c κs. search rules)
-    (λ c. rw (c.is_Within.ensures, c.before.window-of.ensures.0, c.before.window-of.ensures.1)))
+    (λ c. rw (c.is_Within.ensures, c.before.window_of-window.ensures.0, c.before.window_of-window.ensures.1)))

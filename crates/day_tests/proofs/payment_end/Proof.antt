@@ -5,8 +5,8 @@ use borrow.Author.Tests.{eq-eqb, ne_eqb}
 use Rattle.day_tests.proofs.payment_end.Statement.{statement}
 use Rattle.day_tests.proofs.payment_end.Tie as tie
 
-pub payment-end-spec : {M : Type 1} → statement M
-payment-end-spec =
+pub payment_end_spec : {M : Type 1} → statement M
+payment_end_spec =
     tie.close
-    (tie.spec (λ c κs. search rules) (λ c. c.by_kind_lem.ensures ∙ rw (eq-eqb _ _ c.before.if1.true)) (λ c κs. search rules)
-    (λ c. c.office-end.ensures ∙ rw (ne_eqb _ _ c.before.if1.false)))
+    (tie.spec (λ c κs. search rules) (λ c. c.by_kind.ensures ∙ rw (eq-eqb _ _ c.before.if-settlement_day-day.true)) (λ c κs. search rules)
+    (λ c. c.office_end.ensures ∙ rw (ne_eqb _ _ c.before.if-settlement_day-day.false)))

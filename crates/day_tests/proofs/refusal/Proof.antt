@@ -4,9 +4,9 @@ use Rattle.rulebook.specs.Refusals.{day_tests}
 use Rattle.day_tests.proofs.refusal.Statement.{statement}
 use Rattle.day_tests.proofs.refusal.Tie as tie
 
-pub refusal-spec : {M : Type 1} → statement M
+pub refusal_spec : {M : Type 1} → statement M
 unfolding day_tests
-refusal-spec =
+refusal_spec =
     tie.close
     (tie.spec (λ c κs. search rules) (λ c κs. search rules) (λ c κs. search rules) (λ c κs. search rules) (λ c κs. search rules)
     (λ c κs. search rules) (λ c κs. search rules) (λ c κs. search rules) (λ c κs. search rules) (λ c κs. search rules)

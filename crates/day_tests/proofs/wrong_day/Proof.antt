@@ -4,6 +4,6 @@ use Rattle.rulebook.specs.Refusals.{wrong_day}
 use Rattle.day_tests.proofs.wrong_day.Statement.{statement}
 use Rattle.day_tests.proofs.wrong_day.Tie as tie
 
-pub wrong-day-spec : {M : Type 1} → statement M
+pub wrong_day_spec : {M : Type 1} → statement M
 unfolding wrong_day
-wrong-day-spec = tie.close (tie.spec (λ c. rw (eq-eqb _ _ c.before.before.if1.true)) (λ c. rw (ne_eqb _ _ c.before.if1.false)))
+wrong_day_spec = tie.close (tie.spec (λ c. rw (eq-eqb _ _ c.before.before.if-order-eq1.true)) (λ c. rw (ne_eqb _ _ c.before.if-order-eq1.false)))

@@ -4,6 +4,6 @@ use Rattle.rulebook.specs.Refusals.{wrong_days}
 use Rattle.order_tests.proofs.wrong_days.Statement.{statement}
 use Rattle.order_tests.proofs.wrong_days.Tie as tie
 
-pub wrong-days-spec : {M : Type 1} → statement M
+pub wrong_days_spec : {M : Type 1} → statement M
 unfolding wrong_days
-wrong-days-spec = tie.close (tie.spec (λ c κs. search rules) (λ c κs. search rules) (λ c. search rules) (λ c κs. search rules) (λ c. search rules) (λ c. cc))
+wrong_days_spec = tie.close (tie.spec (λ c κs. search rules) (λ c κs. search rules) (λ c. search rules) (λ c κs. search rules) (λ c. search rules) (λ c. cc))

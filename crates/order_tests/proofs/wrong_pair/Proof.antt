@@ -21,65 +21,64 @@ arm : (o : Order) (keys : List ℕ) (r right : Bool) → r ≡ right → map (at
 unfolding wrong_pair
 arm o keys r right e same h = ap not e ∙ sym (by_arm (at o) (λ n. not right) keys same o.form h)
 
-returns : tie.Need-returns
+returns : tie.Need-returns-in-3
 unfolding wrong_types
-returns c = arm c.before.before.args.order (3 ∷ 13 ∷ []) _ _ c.is_free.ensures (simp or-false) c.before.match.keys1
+returns c = arm c.args.order (3 ∷ 13 ∷ []) _ _ c.is_free.ensures (simp or-false) c.in-3.is
 
-returns-2 : tie.Need-returns-2
+returns-2 : tie.Need-returns-in-4
 unfolding wrong_types
-returns-2 c = arm c.before.before.args.order (4 ∷ 12 ∷ []) _ _ c.is-free2.ensures (simp or-false) c.before.match.keys2
+returns-2 c = arm c.args.order (4 ∷ 12 ∷ []) _ _ c.is_free-in-4.ensures (simp or-false) c.in-4.is
 
-returns-3 : tie.Need-returns-3
+returns-3 : tie.Need-returns-in-5
 unfolding wrong_types
-returns-3 c = arm c.before.before.args.order (5 ∷ 14 ∷ []) _ _ c.are-alike.ensures (simp or-false) c.before.match.keys3
+returns-3 c = arm c.args.order (5 ∷ 14 ∷ []) _ _ c.are_alike.ensures (simp or-false) c.in-5.is
 
-returns-4 : tie.Need-returns-4
+returns-4 : tie.Need-returns-in-6
 unfolding wrong_types
-returns-4 c = arm c.before.before.args.order (6 ∷ []) _ _ c.is-pledge.ensures (simp or-false) c.before.match.keys4
+returns-4 c = arm c.args.order (6 ∷ []) _ _ c.is_pledge.ensures (simp or-false) c.in-6.is
 
-returns-5 : tie.Need-returns-5
+returns-5 : tie.Need-returns-in-7
 unfolding wrong_types
-returns-5 c = arm c.before.before.args.order (7 ∷ []) _ _ c.is-pledge2.ensures (simp or-false) c.before.match.keys5
+returns-5 c = arm c.args.order (7 ∷ []) _ _ c.is_pledge-in-7.ensures (simp or-false) c.in-7.is
 
-returns-6 : tie.Need-returns-6
+returns-6 : tie.Need-returns-in-8
 unfolding wrong_types
-returns-6 c = arm c.before.before.args.order (8 ∷ []) _ _ c.is_Block.ensures (simp or-false) c.before.match.keys6
+returns-6 c = arm c.args.order (8 ∷ []) _ _ c.is_block.ensures (simp or-false) c.in-8.is
 
-returns-7 : tie.Need-returns-7
+returns-7 : tie.Need-returns-in-9
 unfolding wrong_types
-returns-7 c = arm c.before.before.args.order (9 ∷ []) _ _ c.is-block2.ensures (simp or-false) c.before.match.keys7
+returns-7 c = arm c.args.order (9 ∷ []) _ _ c.is_block-in-9.ensures (simp or-false) c.in-9.is
 
-returns-8 : tie.Need-returns-8
+returns-8 : tie.Need-returns-in-19
 unfolding wrong_types
-returns-8 c = arm c.before.before.args.order (19 ∷ []) _ _ c.has-paper.ensures (simp or-false) c.before.match.keys8
+returns-8 c = arm c.args.order (19 ∷ []) _ _ c.has_paper.ensures (simp or-false) c.in-19.is
 
-returns-9 : tie.Need-returns-9
+returns-9 : tie.Need-returns-in-20
 unfolding wrong_types
 returns-9 c =
-    let order = c.before.before.before.args.order in
+    let order = c.args.order in
     let credited = order.credited.typ in
-    arm order (20 ∷ []) (c.before.is-outside.result || c.is-paper.result) (is_outside credited || is_paper credited)
-    (rw (c.before.is-outside.ensures, c.is-paper.ensures)) refl c.before.before.match.keys9
+    arm order (20 ∷ []) (c.is_outside.result || c.is_paper.result) (is_outside credited || is_paper credited)
+    (rw (c.is_outside.ensures, c.is_paper.ensures)) refl c.in-20.is
 
 -- the others have none
-returns-10 : tie.Need-returns-10
+returns-10 : tie.Need-returns-in_default
 unfolding wrong_pair wrong_types
 returns-10 c =
-    let others = c.match.rest.0.0 in
-    rw (
-      not_arm (3 ∷ 13 ∷ []) _ others.0.0.0.0.0.0.1,
-      not_arm (4 ∷ 12 ∷ []) _ others.0.0.0.0.0.1,
-      not_arm (5 ∷ 14 ∷ []) _ others.0.0.0.0.1,
-      ne_eqb _ 6 others.0.0.0.1,
-      ne_eqb _ 7 others.0.0.1,
-      ne_eqb _ 8 others.0.1,
-      ne_eqb _ 9 others.1,
-      ne_eqb _ 19 c.match.rest.0.1,
-      ne_eqb _ 20 c.match.rest.1,
+        rw (
+      not_arm (3 ∷ 13 ∷ []) _ c.in_default.in_default-own.rest.0.0.0.0.0.0.0.0.1,
+      not_arm (4 ∷ 12 ∷ []) _ c.in_default.in_default-own.rest.0.0.0.0.0.0.0.1,
+      not_arm (5 ∷ 14 ∷ []) _ c.in_default.in_default-own.rest.0.0.0.0.0.0.1,
+      ne_eqb _ 6 c.in_default.in_default-own.rest.0.0.0.0.0.1,
+      ne_eqb _ 7 c.in_default.in_default-own.rest.0.0.0.0.1,
+      ne_eqb _ 8 c.in_default.in_default-own.rest.0.0.0.1,
+      ne_eqb _ 9 c.in_default.in_default-own.rest.0.0.1,
+      ne_eqb _ 19 c.in_default.in_default-own.rest.0.1,
+      ne_eqb _ 20 c.in_default.in_default-own.rest.1,
     )
 
-pub wrong-pair-spec : {M : Type 1} → statement M
-wrong-pair-spec =
+pub wrong_pair_spec : {M : Type 1} → statement M
+wrong_pair_spec =
     tie.close
     (tie.spec (λ c κs. search rules) (λ c κs. search rules) (λ c κs. search rules) (λ c κs. search rules) (λ c κs. search rules) (λ c κs. search rules)
     (λ c κs. search rules) (λ c κs. search rules) (λ c κs. search rules) (λ c κs. search rules)

@@ -10,16 +10,16 @@ unfolding wrong_parties
 returns c =
     simp (
       or-false,
-      c.is-within3.ensures,
-      c.before.is-within2.ensures,
-      c.before.before.is_Within.ensures,
-      c.before.before.before.same-account.ensures,
-      c.before.before.before.before.account-of2.ensures,
-      c.before.before.before.before.before.account-of.ensures,
+      c.is_within-2.ensures,
+      c.before.is_within.ensures,
+      c.before.before.is_within-instruction.ensures,
+      c.before.before.before.same_account-one_account.ensures,
+      c.before.before.before.before.account_of-2.ensures,
+      c.before.before.before.before.before.account_of.ensures,
     )
 
-pub wrong-parties-spec : {M : Type 1} → statement M
-wrong-parties-spec =
+pub wrong_parties_spec : {M : Type 1} → statement M
+wrong_parties_spec =
     tie.close
     (tie.spec (λ c κs. search rules) (λ c κs. search rules) (λ c κs. search rules) (λ c κs. search rules) (λ c κs. search rules) (λ c κs. search rules)
     returns)

@@ -7,11 +7,11 @@ use Rattle.book.specs.Meaning.{holdings_of}
 use Rattle.reading.proofs.balance.Statement.{statement}
 use Rattle.reading.proofs.balance.Tie as tie
 
-pub balance-spec : {M : Type 1} → statement M
-balance-spec =
+pub balance_spec : {M : Type 1} → statement M
+balance_spec =
     tie.close
     (tie.spec
     (λ c κs. search rules)
-    (λ c κs. (c.before.before.before.requires.stored, range_holds _ (sym c.before.is-named.ensures ∙ c.if1.true)))
+    (λ c κs. (c.before.before.before.requires.stored, range_holds _ (sym c.before.is_named.ensures ∙ c.if-is_named.true)))
     (λ c. search rules)
-    (λ c. unfold holdings_of balance_of in rw (sym c.before.is-named.ensures ∙ c.if1.false)))
+    (λ c. unfold holdings_of balance_of in rw (sym c.before.is_named.ensures ∙ c.if-is_named.false)))

@@ -7,11 +7,11 @@ use Rattle.book.specs.Meaning.{requests_of}
 use Rattle.reading.proofs.request.Statement.{statement}
 use Rattle.reading.proofs.request.Tie as tie
 
-pub request-spec : {M : Type 1} → statement M
-request-spec =
+pub request_spec : {M : Type 1} → statement M
+request_spec =
     tie.close
     (tie.spec
     (λ c κs. search rules)
-    (λ c κs. let named = range_holds _ _ (sym c.before.is-named.ensures ∙ c.if1.true) in search rules)
+    (λ c κs. let named = range_holds _ _ (sym c.before.is_named.ensures ∙ c.if-is_named.true) in search rules)
     (λ c. search rules)
-    (λ c. unfold requests_of asked_of in rw (sym c.before.is-named.ensures ∙ c.if1.false)))
+    (λ c. unfold requests_of asked_of in rw (sym c.before.is_named.ensures ∙ c.if-is_named.false)))

@@ -13,9 +13,9 @@ returns : tie.Need-returns
 returns c =
     let s = c.before.before in
     let b = ledger_of s.args.book.now in
-    let found : Security = c.security-at.result in
+    let found : Security = c.security_at.result in
     let sums = each_at (λ x. x.held.0 ≡ held x.code b.holdings) b.holdings.securities s.args.i found (each_held b s.requires.0.premise) s.requires.1 in
-    (c.security-at.ensures, subst (λ (x : Security). x.held.0 ≡ held x.code b.holdings) (sym (c.security-at.ensures found)) sums)
+    (c.security_at.ensures, subst (λ (x : Security). x.held.0 ≡ held x.code b.holdings) (sym (c.security_at.ensures found)) sums)
 
-pub security-at-spec : {M : Type 1} → statement M
-security-at-spec = tie.close (tie.spec (λ c κs. search rules) returns)
+pub security_at_spec : {M : Type 1} → statement M
+security_at_spec = tie.close (tie.spec (λ c κs. search rules) returns)

@@ -3,6 +3,6 @@ use Rattle.rulebook.specs.Refusals.{ends_too_soon}
 use Rattle.request_tests.proofs.ends_too_soon.Statement.{statement}
 use Rattle.request_tests.proofs.ends_too_soon.Tie as tie
 
-pub ends-too-soon-spec : {M : Type 1} → statement M
+pub ends_too_soon_spec : {M : Type 1} → statement M
 unfolding ends_too_soon
-ends-too-soon-spec = tie.close (tie.spec (λ c requests same. rw same))
+ends_too_soon_spec = tie.close (tie.spec (λ c requests same. rw same))

@@ -12,43 +12,43 @@ use Rattle.request_tests.proofs.refusal.Tie as tie
 
 -- ---- places
 
-abbrev start : tie.Then1 → tie.Start
+abbrev start : tie.Then-order → tie.Start
 start c = c.before.before.before.before
 
-abbrev asking : tie.Else1 → tie.Start
+abbrev asking : tie.Else-order → tie.Start
 asking c = c.before.before.before.before
 
 -- ---- the tests
 
 -- an order of another form
-returns : tie.Need-returns
+returns : tie.Need-returns-then-order
 unfolding request_tests wrong_request ends_too_soon too_many_requests
 returns c =
     let form = (start c).args.order.form in
-    let other = both (form is_not 19) (form is_not 20) c.if1.true in
+    let other = both (form is_not 19) (form is_not 20) c.if-order.true in
     rw (not-true (form is 19) other.0, not-true (form is 20) other.1)
 
-request-requires : tie.Need-request-requires
-request-requires c κs = let s = asking c in (s.pre.0, reference-named _ s.pre.1)
+request-requires : tie.Need-request-request-requires
+request-requires c κs = let s = asking c in (s.requires.0, reference-named _ s.requires.1)
 
-returns-2 : tie.Need-returns-2
+returns-2 : tie.Need-returns
 unfolding request_tests
 returns-2 c =
     let tests = c.before.before.before in
     let looked = tests.before.before.before in
     let requests = (ledger_of (asking looked.before).args.book.now).requests in
-    let same = sym looked.request.ensures in
+    let same = sym looked.request-request.ensures in
     rw (
-      c.refuse3.ensures,
-      c.before.refuse2.ensures,
-      c.before.before.refuse.ensures,
-      tests.too-many-requests.ensures,
-      tests.before.ends-too-soon.ensures requests same,
-      tests.before.before.wrong-request.ensures requests same,
+      c.refuse.ensures,
+      c.before.refuse-later-2.ensures,
+      c.before.before.refuse-later.ensures,
+      tests.too_many_requests-too_many.ensures,
+      tests.before.ends_too_soon-too_soon.ensures requests same,
+      tests.before.before.wrong_request-wrong.ensures requests same,
     )
 
-pub refusal-spec : {M : Type 1} → statement M
-refusal-spec =
+pub refusal_spec : {M : Type 1} → statement M
+refusal_spec =
     tie.close
     (tie.spec returns request-requires (λ c κs. search rules) (λ c κs. search rules) (λ c κs. search rules) (λ c κs. search rules) (λ c κs. search rules)
     (λ c κs. search rules) returns-2)

@@ -1,7 +1,7 @@
 -- Part 7 of the premise: the day, and that a minute which is accepted is within office hours as long as a cycle is sent or still to run. Assumes nothing.
 use mathlib.Core.Path.{◌≡◌, refl, sym, subst, ◌∙◌}
 use mathlib.Core.List.{[], ◌∷◌}
-use mathlib.Core.Bool.{Bool, true, false, not, ◌||◌, false≢true}
+use mathlib.Core.Bool.{Bool, true, false, not, false≢true}
 use Prim.Native.Nat.{ℕ, ◌≤◌}
 use native.Mathlib.Omega.{arith}
 use borrow.Author.Tests.{eqb-false, not-true}
@@ -12,7 +12,7 @@ use Rattle.rulebook.specs.Field as Field
 use Rattle.rulebook.specs.Ledger.{Ledger, fresh, put_day, put_holdings, put_waiting, with_minute, cycle_answered}
 use Rattle.rulebook.specs.Windows.{by_kind, all_run, office_end, office_hours, counter_hours, payment_hours}
 use Rattle.rulebook.specs.Call.{put_minute}
-use Rattle.rulebook.specs.Forms.{Form, outcome, Outcome, silent, open_day, cycle, confirm, decline, answer_cycle, close, forms, row_of, used, least, most, window_of}
+use Rattle.rulebook.specs.Forms.{Form, outcome, silent, open_day, cycle, confirm, decline, answer_cycle, close, forms, row_of, used, least, most, window_of}
 use Rattle.rulebook.specs.Premise.{DayFits}
 use Rattle.rulebook.specs.declared.Day.{Day}
 use Rattle.rulebook.proofs.ByCall.{AllForms, either_answer, window_at, by_form}

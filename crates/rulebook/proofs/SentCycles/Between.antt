@@ -10,7 +10,7 @@ use Rattle.rulebook.specs.Ledger.{Ledger, put_day, put_holdings, put_waiting, pu
 use Rattle.rulebook.specs.Waiting.{is_deliver, item_of, single_of, sender_of, sent_by, with_state, with_sent, marked, marking, both_marked, cancelled, staying, sides, sides_of}
 use Rattle.rulebook.specs.Matching.{tolerance, pairs_with, agree, same_terms, shared_terms, pair_of, arrive}
 use Rattle.rulebook.specs.Cycle.{declined}
-use Rattle.rulebook.specs.Forms.{Outcome, outcome, counts, moving, silent, admit, deposit, withdraw, transfer, instruct, trade, cancel, cycle, set_rate, request_paper, end_request, forms, effect}
+use Rattle.rulebook.specs.Forms.{Outcome, outcome, counts, moving, silent, admit, deposit, withdraw, transfer, instruct, trade, cancel, set_rate, request_paper, end_request, forms, effect}
 use Rattle.rulebook.specs.Rows.{notice, notice_of}
 use Rattle.rulebook.specs.Premise.{Premise}
 use Rattle.rulebook.specs.SentCycles.{unsent}

@@ -2,7 +2,7 @@
 use mathlib.Core.Path.{◌≡◌, refl, sym, subst, ◌∙◌}
 use mathlib.Core.Bool.{Bool, true, false}
 use mathlib.Core.List.{List, [], ◌∷◌, ◌++◌, map}
-use Prim.Native.Nat.{ℕ, ◌+◌}
+use Prim.Native.Nat.{ℕ}
 use native.Mathlib.Omega.{arith}
 use lib.ListN.{length}
 use Rattle.plain.specs.Lists.{keep, Each}
@@ -14,7 +14,7 @@ use Rattle.rulebook.specs.Shortfall.{missing, takes, brings}
 use Rattle.rulebook.specs.Waiting.{with_sent}
 use Rattle.rulebook.specs.Selection.{Standing, Entry, not_due, taken, left, trades_of, is_left, is_sent, trades_in, trades_left, count_left, due, selection}
 use Rattle.rulebook.specs.Selected.{IfLeft, WhereLeft, Moment, spot, SomethingShort, Unfit}
-use Rattle.rulebook.specs.Cycle.{fixing, fixed, left_by}
+use Rattle.rulebook.specs.Cycle.{fixing, left_by}
 use Rattle.rulebook.specs.Forms.{outcome, counts, cycle, forms, row_of}
 use Rattle.rulebook.specs.SentCycles.{is_out, LeftUnfit}
 use Rattle.rulebook.proofs.ByCall.{effect-at}

@@ -4,7 +4,7 @@ use mathlib.Core.Bool.{Bool, true, false}
 use mathlib.Core.List.{[], ◌∷◌}
 use Prim.Native.Nat.{ℕ}
 use native.Mathlib.Omega.{arith}
-use Rattle.plain.specs.Lists.{if◌then◌else◌, ◌is◌}
+use Rattle.plain.specs.Lists.{if◌then◌else◌}
 use Rattle.rulebook.specs.TypeTable.{requested}
 use Rattle.rulebook.specs.AccountTypes.{is_outside, pledged_or_blocked}
 use Rattle.rulebook.specs.Ledger.{Ledger, admitted, account_of, request_account}

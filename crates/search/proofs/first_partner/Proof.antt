@@ -13,9 +13,9 @@ returns : tie.Need-returns
 returns c =
     let rated = c.before.before in
     let a = rated.before.before.args in
-    c.first-pairing.ensures
+    c.first_pairing.ensures
     ∙ ap (λ (limit : ℕ). place_in (pairs_with limit a.arriving) (ledger_of a.book.now).waiting)
-    (c.before.tolerance-of.ensures ∙ ap (λ (rate : ℕ). tolerance rate a.arriving.currency) rated.rate.ensures)
+    (c.before.tolerance_of-limit.ensures ∙ ap (λ (rate : ℕ). tolerance rate a.arriving.currency) rated.rate.ensures)
 
-pub first-partner-spec : {M : Type 1} → statement M
-first-partner-spec = tie.close (tie.spec (λ c κs. search rules) (λ c κs. search rules) (λ c κs. search rules) returns)
+pub first_partner_spec : {M : Type 1} → statement M
+first_partner_spec = tie.close (tie.spec (λ c κs. search rules) (λ c κs. search rules) (λ c κs. search rules) returns)

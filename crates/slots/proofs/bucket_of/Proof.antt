@@ -9,5 +9,5 @@ returns : tie.Need-returns
 unfolding bucket_of
 returns c = (refl, omega arith)
 
-pub bucket-of-spec : {M : Type 1} → statement M
-bucket-of-spec = tie.close (tie.spec returns)
+pub bucket_of_spec : {M : Type 1} → statement M
+bucket_of_spec = tie.close (tie.spec returns)

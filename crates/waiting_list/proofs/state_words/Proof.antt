@@ -18,7 +18,7 @@ returns c = ap (words 0 c.in-Single.reference 0) c.bit_of.ensures.0 ∙ ap state
 returns-2 : tie.Need-returns-in-Pair
 unfolding words
 returns-2 c =
-        let m : c.bit_of-in-Pair.result + 2 * c.bit_of-in-Pair-2.result ≡ bit c.in-Pair.deliver_marked + 2 * bit c.in-Pair.receive_marked =
+    let m : c.bit_of-in-Pair.result + 2 * c.bit_of-in-Pair-2.result ≡ bit c.in-Pair.deliver_marked + 2 * bit c.in-Pair.receive_marked =
     ap (λ (n : ℕ). n + 2 * c.bit_of-in-Pair-2.result) c.bit_of-in-Pair.ensures.0
     ∙ ap (λ (n : ℕ). bit c.in-Pair.deliver_marked + 2 * n) c.bit_of-in-Pair-2.ensures.0 in
     ap (words 1 c.in-Pair.deliver_reference c.in-Pair.receive_reference) m ∙ ap state_words (sym c.in-Pair.is)

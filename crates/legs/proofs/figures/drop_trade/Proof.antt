@@ -17,42 +17,42 @@ by_none x = omega arith
 
 -- ---- places
 
-abbrev entry : tie.After-slice-known → tie.Start
+abbrev entry : tie.After-slice_known-1 → tie.Start
 entry c = c.before.before.before.before
 
-abbrev credited : tie.After-slice-known3 → tie.Else1
+abbrev credited : tie.After-slice_known-3-1 → tie.Else-to-eq-NOWHERE
 credited c = c.before.before
 
 spot : (s : tie.Start) → Spot s.args.n s.args.legs.now s.args.slots.now s.args.figures.now s.args.j
 spot s = record { size = s.requires.0.size; long = s.requires.0.figures_long; slots_as = s.requires.1; low = s.requires.2 }
 
 -- what the trade credits has a slot
-below : (c : tie.Else1) → owes_at (entry c.before).args.slots.now (entry c.before).args.j < 64
-below c = omega (arith, to_most (spot (entry c.before)), c.if1.false)
+below : (c : tie.Else-to-eq-NOWHERE) → owes_at (entry c.before).args.slots.now (entry c.before).args.j < 64
+below c = omega (arith, to_most (spot (entry c.before)), c.if-to-eq-NOWHERE.false)
 
 -- what it moved is in the figures
 owes-room : (s : tie.Start) → number_at s.args.legs.now s.args.j ≤ owes_at s.args.figures.now (has_at s.args.slots.now s.args.j)
 owes-room s = owes_fits (spot s) (λ x m. m ≤ x) s.requires.3.owes
 
 has_room :
-    (c : tie.Else1)
+    (c : tie.Else-to-eq-NOWHERE)
     → (let s = entry c.before in number_at s.args.legs.now s.args.j ≤ has_at (one (spot s) ◌-◌ by_none) (owes_at s.args.slots.now s.args.j))
-has_room c = let s = entry c.before in has-fits (spot s) (λ x m. m ≤ x) s.pre.3.has (below c) _
+has_room c = let s = entry c.before in has-fits (spot s) (λ x m. m ≤ x) s.requires.3.has (below c) _
 
-stored : (c : tie.After-slice-known2) → length (one (spot (entry c.before.before)) ◌-◌ by_none) ≡ 128
-stored c = one_long (spot (entry c.before.before)) ◌-◌ by_none
+stored : (s : tie.Start) → length (one (spot s) ◌-◌ by_none) ≡ 128
+stored s = one_long (spot s) ◌-◌ by_none
 
-stored-both : (c : tie.After-slice-known3) → length (both (spot (entry (credited c).before)) ◌-◌ by_none) ≡ 128
-stored-both c = both_long (spot (entry (credited c).before)) ◌-◌ by_none
+stored-both : (c : tie.Else-to-eq-NOWHERE) → length (both (spot (entry c.before)) ◌-◌ by_none) ≡ 128
+stored-both c = both_long (spot (entry c.before)) ◌-◌ by_none
 
-returns : tie.Need-returns
+returns : tie.Need-returns-then-to-eq-NOWHERE
 returns c =
     let p = spot (entry c.before) in (
-      changed-one p ◌-◌ by_none c.if1.true,
-      (one_long p ◌-◌ by_none, record { inside = omega arith; fine = λ k a h t. absurd (false≢true (sym (none_credited p c.if1.true k h) ∙ t)) }),
+      changed-one p ◌-◌ by_none c.if-to-eq-NOWHERE.true,
+      (one_long p ◌-◌ by_none, record { inside = omega arith; fine = λ k a h t. absurd (false≢true (sym (none_credited p c.if-to-eq-NOWHERE.true k h) ∙ t)) }),
     )
 
-returns-2 : tie.Need-returns-2
+returns-2 : tie.Need-returns-then-has-figures
 returns-2 c =
     let l = below (credited c.before) in
     let p = spot (entry (credited c.before).before) in (
@@ -60,16 +60,16 @@ returns-2 c =
       (both_long p ◌-◌ by_none, record { inside = omega (arith, (to_leg p l).0); fine = λ k a h t. absurd (none_behind p k a h t) }),
     )
 
-returns-3 : tie.Need-returns-3
+returns-3 : tie.Need-returns
 returns-3 c =
     let l = below (credited c.before) in
     let p = spot (entry (credited c.before).before) in (
       changed-two p ◌-◌ by_none l,
-      (both_long p ◌-◌ by_none, record { inside = omega arith; fine = λ k a h t. credited_fine p ◌-◌ by_none l (le-ltb _ _ c.if2.false) k h t }),
+      (both_long p ◌-◌ by_none, record { inside = omega arith; fine = λ k a h t. credited_fine p ◌-◌ by_none l (le-ltb _ _ c.if-has-figures.false) k h t }),
     )
 
-pub drop-trade-spec : {M : Type 1} → statement M
-drop-trade-spec =
+pub drop_trade_spec : {M : Type 1} → statement M
+drop_trade_spec =
     tie.close
     (tie.spec
     (λ c. omega (arith, c.requires.0.size)) (λ c. omega (arith, c.requires.0.size)) (λ c. omega (arith, c.before.requires.0.size, c.before.requires.0.legs_long))
@@ -77,10 +77,11 @@ drop-trade-spec =
     (λ c. omega (arith, c.before.before.requires.0.size)) (λ c. omega (arith, c.before.before.requires.0.size))
     (λ c. let s = c.before.before.before in omega (arith, s.requires.0.size, s.requires.1.long))
     (λ c. omega (arith, from_low (spot c.before.before.before))) (λ c. omega (arith, from_low (spot c.before.before.before)))
-    (λ c. omega (arith, from_low (spot (entry c)), (entry c).requires.0.figures_long)) (λ c. omega (arith, owes-room (entry c)))
+    (λ c. let s = c.before.before.before.before in omega (arith, from_low (spot s), s.requires.0.figures_long))
+    (λ c. omega (arith, owes-room (entry c)))
     (λ c. omega (arith, from_low (spot (entry c)))) (λ c. omega (arith, from_low (spot (entry c))))
     (λ c. omega (arith, from_low (spot (entry c)), (entry c).requires.0.figures_long)) (λ c. search rules) returns
-    (λ c. omega (arith, below c)) (λ c. omega (arith, below c.before, stored c)) (λ c. omega (arith, has_room c.before))
-    (λ c. omega (arith, below c.before)) (λ c. omega (arith, below c.before, stored c)) (λ c. omega (arith, below c.before))
-    (λ c. omega (arith, below c.before)) (λ c. omega (arith, below (credited c), stored-both c)) (λ c. omega (arith, below (credited c.before)))
+    (λ c. omega (arith, below c)) (λ c. omega (arith, below c.before, stored (entry c.before.before))) (λ c. omega (arith, has_room c.before))
+    (λ c. omega (arith, below c.before)) (λ c. omega (arith, below c.before, stored (entry c.before.before))) (λ c. omega (arith, below c.before))
+    (λ c. omega (arith, below c.before)) (λ c. omega (arith, below c.before.before, stored-both c.before.before)) (λ c. omega (arith, below (credited c.before)))
     (λ c. search rules) returns-2 (λ c. search rules) returns-3)

@@ -9,7 +9,7 @@ use Rattle.legs.proofs.figures.fits.Tie as tie
 
 -- ---- places
 
-abbrev entry : tie.After-shared-slice-known4 → tie.Start
+abbrev entry : tie.After-shared_slice_known-4-1 → tie.Start
 entry c = c.before.before.before.before
 
 spot : (s : tie.Start) → Spot s.args.n s.args.legs.now s.args.slots.now s.args.figures.now s.args.j
@@ -19,17 +19,17 @@ spot s = record { size = s.requires.0.size; long = s.requires.0.figures_long; sl
 room : (s : tie.Start) → owes_at s.args.figures.now (has_at s.args.slots.now s.args.j) + number_at s.args.legs.now s.args.j < 2 ^ 64
 room s = owes_fits (spot s) (λ x m. x + m < 2 ^ 64) s.requires.3.owes
 
-enough : tie.Need-returns
-enough c = covered (spot (entry c.before)) (omega (arith, c.if1.true))
+enough : tie.Need-returns-then-owes-figures
+enough c = covered (spot (entry c.before)) (omega (arith, c.if-owes-figures.true))
 
-back : tie.Need-returns-2
+back : tie.Need-returns
 back c =
     let e = c.before.before in
     let s = entry e.before in
-    brings-back (spot s) (omega (arith, e.if1.false)) s.pre.4
+    brings-back (spot s) (omega (arith, e.if-owes-figures.false)) s.requires.4
 
-pub fits-spec : {M : Type 1} → statement M
-fits-spec =
+pub fits_spec : {M : Type 1} → statement M
+fits_spec =
     tie.close
     (tie.spec
     (λ c. search rules) (λ c. search rules)

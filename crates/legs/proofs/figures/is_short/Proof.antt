@@ -10,8 +10,8 @@ returns c =
     let a = s.args in
     rw (has-viewed a.slots.now a.figures.now a.i s.requires.2, owes_viewed a.slots.now a.figures.now a.i s.requires.2)
 
-pub is-short-spec : {M : Type 1} → statement M
-is-short-spec =
+pub is_short_spec : {M : Type 1} → statement M
+is_short_spec =
     tie.close
     (tie.spec (λ c. search rules) (λ c. search rules) (λ c. search rules) (λ c. search rules) (λ c. search rules) (λ c. search rules) (λ c. search rules)
     returns)

@@ -19,97 +19,97 @@ test marks held funds k = is_on marks k && (short_at held k || short_at funds k)
 by : (x y z a b c : Bool) → x ≡ a → y ≡ b → z ≡ c → (x && (y || z)) ≡ (a && (b || c))
 by x y z a b c p q r = rw (p, q, r)
 
-abbrev invariant-loop : tie.invariant-loop
+abbrev invariant-loop : tie.invariant-loop-i
 invariant-loop held held_at funds funds-at marks n i₀ i =
     (i ≤ n) × (last_below (test marks (viewed held_at held) (viewed funds-at funds)) n ≡ last_below (test marks (viewed held_at held) (viewed funds-at funds)) i)
 
-abbrev decreases-loop : tie.decreases-loop
+abbrev decreases-loop : tie.decreases-loop-i
 decreases-loop held held_at funds funds-at marks n i₀ i = i
 
 -- ---- places
 
-abbrev entry : tie.At-loop invariant-loop decreases-loop → tie.Start invariant-loop decreases-loop
+abbrev entry : tie.At-loop-i invariant-loop decreases-loop → tie.Start invariant-loop decreases-loop
 entry l = l.before.before.before.before.before
 
-abbrev turn : tie.Then1 invariant-loop decreases-loop → tie.In-loop invariant-loop decreases-loop
+abbrev turn : tie.Then-is_on invariant-loop decreases-loop → tie.In-loop-i invariant-loop decreases-loop
 turn c = c.before.before
 
 -- where the shares were asked, once they are not short
-abbrev shares : tie.Else2 invariant-loop decreases-loop → tie.After-is-short invariant-loop decreases-loop
+abbrev shares : tie.Else-is_short invariant-loop decreases-loop → tie.After-is_short invariant-loop decreases-loop
 shares c = c.before
 
 abbrev held_in : tie.Start invariant-loop decreases-loop → List ℕ
 held_in s = viewed s.args.held_at.now s.args.held.now
 
 abbrev funds_in : tie.Start invariant-loop decreases-loop → List ℕ
-funds_in s = viewed s.args.funds-at.now s.args.funds.now
+funds_in s = viewed s.args.funds_at.now s.args.funds.now
 
-abbrev tested : tie.In-loop invariant-loop decreases-loop → ℕ → Bool
+abbrev tested : tie.In-loop-i invariant-loop decreases-loop → ℕ → Bool
 tested t = let s = entry t.before in test s.args.marks (held_in s) (funds_in s)
 
-inside : (t : tie.In-loop invariant-loop decreases-loop) → t.before.loop.i - 1 < (entry t.before).args.n
-inside t = omega (arith, t.before.loop.invariant.0, t.loop-test.true)
+inside : (t : tie.In-loop-i invariant-loop decreases-loop) → t.before.loop-i.i - 1 < (entry t.before).args.n
+inside t = omega (arith, t.before.loop-i.invariant.0, t.loop-i-test.true)
 
 -- what the mark, the shares and the cash are asked decides
-marked : (c : tie.Then1 invariant-loop decreases-loop) → is_on (entry (turn c).before).args.marks ((turn c).before.loop.i - 1) ≡ true
-marked c = sym c.before.is-on.ensures ∙ c.if1.true
+marked : (c : tie.Then-is_on invariant-loop decreases-loop) → is_on (entry (turn c).before).args.marks ((turn c).before.loop-i.i - 1) ≡ true
+marked c = sym c.before.is_on.ensures ∙ c.if-is_on.true
 
 passes :
-    (t : tie.In-loop invariant-loop decreases-loop) → tested t (t.before.loop.i - 1) ≡ true
-    → last_below (tested t) (entry t.before).args.n ≡ At (t.before.loop.i - 1)
-passes t e = t.before.loop.invariant.1 ∙ last_here (tested t) t.before.loop.i t.loop-test.true e
+    (t : tie.In-loop-i invariant-loop decreases-loop) → tested t (t.before.loop-i.i - 1) ≡ true
+    → last_below (tested t) (entry t.before).args.n ≡ At (t.before.loop-i.i - 1)
+passes t e = t.before.loop-i.invariant.1 ∙ last_here (tested t) t.before.loop-i.i t.loop-i-test.true e
 
 fails :
-    (t : tie.In-loop invariant-loop decreases-loop) → tested t (t.before.loop.i - 1) ≡ false
-    → last_below (tested t) (entry t.before).args.n ≡ last_below (tested t) (t.before.loop.i - 1)
-fails t e = t.before.loop.invariant.1 ∙ last_before (tested t) t.before.loop.i t.loop-test.true e
+    (t : tie.In-loop-i invariant-loop decreases-loop) → tested t (t.before.loop-i.i - 1) ≡ false
+    → last_below (tested t) (entry t.before).args.n ≡ last_below (tested t) (t.before.loop-i.i - 1)
+fails t e = t.before.loop-i.invariant.1 ∙ last_before (tested t) t.before.loop-i.i t.loop-i-test.true e
 
-returns : tie.Need-returns invariant-loop decreases-loop
+returns : tie.Need-returns-then-is_short invariant-loop decreases-loop
 returns c =
     let m = c.before.before in
     let t = turn m in
-    let funds = short_at (funds_in (entry t.before)) (t.before.loop.i - 1) in
-    sym (passes t (by _ _ funds true true _ (marked m) (sym c.before.is-short.ensures ∙ c.if2.true) refl))
+    let funds = short_at (funds_in (entry t.before)) (t.before.loop-i.i - 1) in
+    sym (passes t (by _ _ funds true true _ (marked m) (sym c.before.is_short.ensures ∙ c.if-is_short.true) refl))
 
-returns-2 : tie.Need-returns-2 invariant-loop decreases-loop
+returns-2 : tie.Need-returns-then-is_short-2 invariant-loop decreases-loop
 returns-2 c =
     let o = c.before.before in
     let m = (shares o).before in
     sym (passes (turn m)
-    (by _ _ _ true false true (marked m) (sym (shares o).is-short.ensures ∙ o.if2.false) (sym c.before.is-short2.ensures ∙ c.if3.true)))
+    (by _ _ _ true false true (marked m) (sym (shares o).is_short.ensures ∙ o.if-is_short.false) (sym c.before.is_short-then-is_on.ensures ∙ c.if-is_short-2.true)))
 
-loop-again : tie.Need-loop-preserved invariant-loop decreases-loop
+loop-again : tie.Need-loop-i-preserved-else-is_short-2 invariant-loop decreases-loop
 loop-again c =
     let o = c.before.before in
     let m = (shares o).before in (
       omega arith,
       fails (turn m)
-          (by _ _ _ true false false (marked m) (sym (shares o).is-short.ensures ∙ o.if2.false) (sym c.before.is-short2.ensures ∙ c.if3.false)),
+          (by _ _ _ true false false (marked m) (sym (shares o).is_short.ensures ∙ o.if-is_short.false) (sym c.before.is_short-then-is_on.ensures ∙ c.if-is_short-2.false)),
     )
 
-loop-again-2 : tie.Need-loop-preserved-2 invariant-loop decreases-loop
+loop-again-2 : tie.Need-loop-i-preserved invariant-loop decreases-loop
 loop-again-2 c =
     let t = c.before.before in
     let s = entry t.before in
-    let i = t.before.loop.i - 1 in
-    (omega arith, fails t (by _ (short_at (held_in s) i) (short_at (funds_in s) i) false _ _ (sym c.before.is-on.ensures ∙ c.if1.false) refl refl))
+    let i = t.before.loop-i.i - 1 in
+    (omega arith, fails t (by _ (short_at (held_in s) i) (short_at (funds_in s) i) false _ _ (sym c.before.is_on.ensures ∙ c.if-is_on.false) refl refl))
 
-returns-3 : tie.Need-returns-3 invariant-loop decreases-loop
+returns-3 : tie.Need-returns invariant-loop decreases-loop
 returns-3 c =
     let s = entry c.before in
-    let l = c.before.loop in
+    let l = c.before.loop-i in
     sym (l.invariant.1 ∙ last_nowhere (test s.args.marks (held_in s) (funds_in s)) l.i (omega arith))
 
-pub last-short-spec : {M : Type 1} → statement M
-last-short-spec =
+pub last_short_spec : {M : Type 1} → statement M
+last_short_spec =
     tie.close
-    (tie.spec invariant-loop decreases-loop (λ c. (omega arith, refl)) (λ c. omega arith) (λ c κs. omega (arith, (entry c.before).pre.2))
+    (tie.spec invariant-loop decreases-loop (λ c. (omega arith, refl)) (λ c. omega arith) (λ c κs. omega (arith, (entry c.before).requires.2))
     (λ c κs.
     let t = turn c in
     let s = entry t.before in
-    (s.pre.0, s.pre.3.long, omega (arith, inside t, s.pre.2), s.pre.3.low _ (inside t))) returns
+    (s.requires.0, s.requires.3.long, omega (arith, inside t, s.requires.2), s.requires.3.low _ (inside t))) returns
     (λ c κs.
     let t = turn (shares c).before in
     let s = entry t.before in
-    (s.pre.1, s.pre.4.long, omega (arith, inside t, s.pre.2), s.pre.4.low _ (inside t)))
+    (s.requires.1, s.requires.4.long, omega (arith, inside t, s.requires.2), s.requires.4.low _ (inside t)))
     returns-2 (λ c. omega arith) loop-again (λ c. omega arith) loop-again-2 returns-3)
