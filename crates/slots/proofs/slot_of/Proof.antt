@@ -63,4 +63,4 @@ slot_of_spec =
     (tie.spec invariant-loop decreases-loop (λ c κs. search rules) (λ c. omega (arith, c.bucket_of-bucket.ensures.1)) (λ c. omega (arith, c.bucket_of-bucket.ensures.1))
     (λ c. omega (arith, c.before.bucket_of-bucket.ensures.1, c.before.before.before.before.requires.2.long)) loop-holds (λ c. omega (arith, low c))
     (λ c. omega (arith, low c.before, (entry c.before.before).requires.0)) returns (λ c. omega (arith, low c.before.before))
-    (λ c. omega (arith, low (turn c), (entry (turn c).before).requires.2.long)) (λ c. (step c).1) (λ c. (step c).0) returns-2)
+    (λ c. let t = c.before.before.before in omega (arith, low t, (entry t.before).requires.2.long)) (λ c. (step c).1) (λ c. (step c).0) returns-2)
