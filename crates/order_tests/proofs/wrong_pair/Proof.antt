@@ -65,7 +65,7 @@ returns-9 c =
 returns-10 : tie.Need-returns-in_default
 unfolding wrong_pair wrong_types
 returns-10 c =
-        rw (
+    rw (
       not_arm (3 ∷ 13 ∷ []) _ c.in_default.in_default-own.rest.0.0.0.0.0.0.0.0.1,
       not_arm (4 ∷ 12 ∷ []) _ c.in_default.in_default-own.rest.0.0.0.0.0.0.0.1,
       not_arm (5 ∷ 14 ∷ []) _ c.in_default.in_default-own.rest.0.0.0.0.0.0.1,

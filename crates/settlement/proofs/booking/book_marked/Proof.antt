@@ -16,19 +16,19 @@ use Rattle.settlement.proofs.booking.book_marked.Tie as tie
 
 -- ---- places
 
-abbrev entry : tie.After-credit-marked → tie.Start
+abbrev entry : tie.After-credit_marked → tie.Start
 entry c = c.before.before.before
 
-abbrev credited : tie.After-debit-marked → tie.After-credit-marked
+abbrev credited : tie.After-debit_marked → tie.After-credit_marked
 credited c = c.before.before.before.before
 
-debit-marked-requires : tie.Need-debit-marked-requires
+debit-marked-requires : tie.Need-debit_marked-requires
 unfolding put_holdings
 debit-marked-requires c κs =
     let f = c.before.before.before in
     let s = entry f in
-    let m = f.credit-marked.ensures in
-    let there = covered (ledger_of s.args.book.now) s.args.marks s.pre.1 s.pre.2 in
+    let m = f.credit_marked.ensures in
+    let there = covered (ledger_of s.args.book.now) s.args.marks s.requires.1 s.requires.2 in
     (m.stored, subst (λ (x : Ledger). Covered x (marked_of s.args.marks x.waiting)) (sym m.ledger) there)
 
 returns : tie.Need-returns
@@ -39,10 +39,10 @@ returns c =
     let b = ledger_of s.args.book.now in
     let trades = with_mark (marked_of s.args.marks b.waiting) in
     means_so _ _ _
-    (next (λ x. put_holdings (debits (legs (with_mark (marked_of s.args.marks x.waiting))) x.holdings) x) (credited k).credit-marked.ensures
-    k.debit-marked.ensures)
+    (next (λ x. put_holdings (debits (legs (with_mark (marked_of s.args.marks x.waiting))) x.holdings) x) (credited k).credit_marked.ensures
+    k.debit_marked.ensures)
     -- trades change no held count
     (ap (λ (h : Holdings). put_holdings h b) (sym (legs-inside trades (debits (legs trades) (credits (legs trades) b.holdings)))))
 
-pub book-marked-spec : {M : Type 1} → statement M
-book-marked-spec = tie.close (tie.spec (λ c κs. search rules) debit-marked-requires (λ c. search rules) returns)
+pub book_marked_spec : {M : Type 1} → statement M
+book_marked_spec = tie.close (tie.spec (λ c κs. search rules) debit-marked-requires (λ c. search rules) returns)

@@ -17,10 +17,10 @@ use Rattle.settlement.proofs.booking.credit_trade.Tie as tie
 -- ---- places
 
 abbrev entry : tie.After-credit → tie.Start
-entry c = c.before.before.before.before
+entry c = c.before.before.before.before.before
 
-abbrev first : tie.After-credit-cash → tie.After-credit
-first c = c.before.before.before.before
+abbrev first : tie.After-credit_cash → tie.After-credit
+first c = c.before.before.before.before.before
 
 credit-requires : tie.Need-credit-requires
 credit-requires c κs =
@@ -28,7 +28,7 @@ credit-requires c κs =
     let h = (ledger_of s.args.book.now).holdings in
     let can = s.requires.1 in (
       s.requires.0,
-      subst (λ (a : Account). CreditFits a (h.balance a) h.accounts s.args.trade.quantity.0) (sym c.buyer-of.ensures)
+      subst (λ (a : Account). CreditFits a (h.balance a) h.accounts s.args.trade.quantity.0) (sym c.buyer_of.ensures)
           (record { named = can.bookable.buys; some = can.bookable.some; word = can.shares; room = λ e. can.room }),
     )
 
@@ -36,16 +36,16 @@ credit-requires c κs =
 shares :
     (c : tie.After-credit)
     → (let a = (entry c).args in HoldingsBecome (credit (account (buyer a.trade)) a.trade.quantity.0) a.book.now c.credit.new.0)
-shares c = rw c.before.buyer-of.ensures at c.credit.ensures
+shares c = rw c.before.buyer_of.ensures at c.credit.ensures
 
-credit-cash-requires : tie.Need-credit-cash-requires
+credit-cash-requires : tie.Need-credit_cash-requires
 unfolding credit put_balance
 credit-cash-requires c κs =
     let f = c.before.before.before in
-    let s = entry f in
+    let s = entry f.before in
     let t = s.args.trade in
     let h = ap (λ (x : Holdings). x.cash t.debited.member t.currency) (holdings_now (ledger_of s.args.book.now) _ _ (shares f)) in
-    ((shares f).stored, s.pre.1.bookable.paid, omega (arith, h, s.pre.1.cash))
+    ((shares f).stored, s.requires.1.bookable.paid, omega (arith, h, s.requires.1.cash))
 
 returns : tie.Need-returns
 unfolding credits legs
@@ -56,7 +56,7 @@ returns c =
     let b = ledger_of s.args.book.now in
     then_holdings b _ (credit (account (buyer t)) t.quantity.0 b.holdings) (shares (first k))
     (credit (cash_of t.debited.member t.currency) t.amount.0) _
-    k.credit-cash.ensures
+    k.credit_cash.ensures
 
-pub credit-trade-spec : {M : Type 1} → statement M
-credit-trade-spec = tie.close (tie.spec (λ c κs. search rules) credit-requires credit-cash-requires (λ c. search rules) returns)
+pub credit_trade_spec : {M : Type 1} → statement M
+credit_trade_spec = tie.close (tie.spec (λ c κs. search rules) credit-requires credit-cash-requires (λ c. search rules) returns)

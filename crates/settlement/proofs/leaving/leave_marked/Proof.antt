@@ -13,47 +13,47 @@ use Rattle.settlement.proofs.Staying.{Staying, staying-none, staying-off, stayin
 use Rattle.settlement.proofs.leaving.leave_marked.Statement.{statement}
 use Rattle.settlement.proofs.leaving.leave_marked.Tie as tie
 
-abbrev invariant-loop : tie.invariant-loop
+abbrev invariant-loop : tie.invariant-loop-i
 invariant-loop book₀ marks n j₀ i₀ book j i = (i ≤ n) × Staying (ledger_of book₀) marks book j i
 
-abbrev decreases-loop : tie.decreases-loop
+abbrev decreases-loop : tie.decreases-loop-i
 decreases-loop book₀ marks n j₀ i₀ book j i = n - i
 
 -- ---- places
 
-abbrev entry : tie.At-loop invariant-loop decreases-loop → tie.Start invariant-loop decreases-loop
-entry l = l.before.before.before.before
+abbrev entry : tie.At-loop-i invariant-loop decreases-loop → tie.Start invariant-loop decreases-loop
+entry l = l.before.before.before
 
-abbrev turn : tie.After-item-at-arg invariant-loop decreases-loop → tie.In-loop invariant-loop decreases-loop
+abbrev turn : tie.After-item-at-arg invariant-loop decreases-loop → tie.In-loop-i invariant-loop decreases-loop
 turn c = c.before.before.before
 
-abbrev moved : tie.After-slice-known2 invariant-loop decreases-loop → tie.After-item-at-arg invariant-loop decreases-loop
+abbrev moved : tie.After-slice_known-then-not-is_on-1 invariant-loop decreases-loop → tie.After-item-at-arg invariant-loop decreases-loop
 moved c = c.before.before.before.before.before
 
-abbrev cut : tie.After-keep-first invariant-loop decreases-loop → tie.After-loop invariant-loop decreases-loop
+abbrev cut : tie.After-keep_first invariant-loop decreases-loop → tie.After-loop-i invariant-loop decreases-loop
 cut c = c.before.before
 
-abbrev ledger : tie.At-loop invariant-loop decreases-loop → Ledger
+abbrev ledger : tie.At-loop-i invariant-loop decreases-loop → Ledger
 ledger l = ledger_of (entry l).args.book.now
 
 -- i is a place of the waiting list
-there : (t : tie.In-loop invariant-loop decreases-loop) → t.before.loop.i < length (ledger t.before).waiting
-there t = omega (arith, t.loop-test.true, t.before.before.items.ensures)
+there : (t : tie.In-loop-i invariant-loop decreases-loop) → t.loop-i.i < length (ledger t.before).waiting
+there t = omega (arith, t.loop-i-test.true, t.items-n.ensures)
 
-put-item-requires : tie.Need-put-item-requires invariant-loop decreases-loop
+put-item-requires : tie.Need-put_item-requires invariant-loop decreases-loop
 put-item-requires c κs =
     let t = turn c.before.before in
-    let v = t.before.loop.inv.1 in
+    let v = t.loop-i.invariant.1 in
     (v.means.stored, omega (arith, there t, v.packed.behind, v.packed.long))
 
-loop-again : tie.Need-loop-preserved invariant-loop decreases-loop
+loop-again : tie.Need-loop-i-preserved invariant-loop decreases-loop
 loop-again c =
     let t = c.before.before in
     let h = t.before in
-    let l = h.loop in
+    let l = h.loop-i in
     let b = ledger h in
     let marks = (entry h).args.marks in
-    let test = sym c.before.is-on.ensures in
+    let test = sym c.is_on.ensures in
     ⊎_elim
     (λ w. (
       omega arith,
@@ -61,30 +61,30 @@ loop-again c =
           (staying-on b marks l.book l.j l.i l.invariant.1 (test ∙ not-true _ w.0.taken) (there t) _ (w.2.ensures no_item) _ w.4.ensures),
     ))
     (λ w. (omega arith, rw (w.1, w.2) (staying-off b marks l.book l.j l.i l.invariant.1 (test ∙ not-false _ w.0.left))))
-    c.if1.branch
+    c.if-not-is_on.branch
 
-keep-first-requires : tie.Need-keep-first-requires invariant-loop decreases-loop
+keep-first-requires : tie.Need-keep_first-requires invariant-loop decreases-loop
 keep-first-requires c κs =
-    let h = c.before.before in
-    let v = h.loop.invariant in
-    (v.1.means.stored, omega (arith, v.0, h.before.items.ensures, v.1.packed.behind, v.1.packed.long))
+    let h = c in
+    let v = h.loop-i.invariant in
+    (v.1.means.stored, omega (arith, v.0, h.items-n.ensures, v.1.packed.behind, v.1.packed.long))
 
 returns : tie.Need-returns invariant-loop decreases-loop
 returns c =
     let k = c.before.before in
     let h = (cut k).before in
-    let l = h.loop in
-    staying-done (ledger h) (entry h).args.marks l.book l.j l.i l.inv.1
-    (omega (arith, (cut k).loop-test.false, h.before.items.ensures)) _ k.keep-first.ensures
+    let l = h.loop-i in
+    staying-done (ledger h) (entry h).args.marks l.book l.j l.i l.invariant.1
+    (omega (arith, (cut k).loop-i-test.false, h.items-n.ensures)) _ k.keep_first.ensures
 
-pub leave-marked-spec : {M : Type 1} → statement M
-leave-marked-spec =
+pub leave_marked_spec : {M : Type 1} → statement M
+leave_marked_spec =
     tie.close
     (tie.spec invariant-loop decreases-loop (λ c κs. search rules)
-    (λ c. let s = c.before.before.before in (omega arith, staying-none s.args.marks s.args.book.now s.requires.0))
-    (λ c κs. omega (arith, there c, (entry c.before).pre.1))
-    (λ c κs. let t = turn c in let v = t.before.loop.inv.1 in (v.means.stored, omega (arith, there t, v.packed.long)))
+    (λ c. let s = c in (omega arith, staying-none s.args.marks s.args.book.now s.requires.0))
+    (λ c κs. omega (arith, there c, (entry c.before).requires.1))
+    (λ c κs. let t = turn c in let v = t.loop-i.invariant.1 in (v.means.stored, omega (arith, there t, v.packed.long)))
     put-item-requires
-    (λ c. let t = turn (moved c) in omega (arith, there t, t.before.loop.inv.1.packed.behind, (entry t.before).pre.1))
+    (λ c. let t = turn (moved c) in omega (arith, there t, t.loop-i.invariant.1.packed.behind, (entry t.before).requires.1))
     (λ c. omega arith) (λ c. omega arith) loop-again keep-first-requires
-    (λ c. let k = c.before.before in k.keep-first.ensures.stored.long ∙ sym (entry (cut k).before).pre.0.long) returns)
+    (λ c. let k = c.before.before in k.keep_first.ensures.stored.long ∙ sym (entry (cut k).before).requires.0.long) returns)

@@ -16,62 +16,62 @@ use Rattle.settlement.proofs.Writing.{trade-fits, Written, written_none, written
 use Rattle.settlement.proofs.postings.write_marked.Statement.{statement}
 use Rattle.settlement.proofs.postings.write_marked.Tie as tie
 
-abbrev invariant-loop : tie.invariant-loop
+abbrev invariant-loop : tie.invariant-loop-i
 invariant-loop area₀ book marks n at₀ i₀ area at i = (i ≤ n) × Written (ledger_of book) marks area₀ area at i
 
-abbrev decreases-loop : tie.decreases-loop
+abbrev decreases-loop : tie.decreases-loop-i
 decreases-loop area₀ book marks n at₀ i₀ area at i = n - i
 
 -- ---- places
 
-abbrev entry : tie.At-loop invariant-loop decreases-loop → tie.Start invariant-loop decreases-loop
+abbrev entry : tie.At-loop-i invariant-loop decreases-loop → tie.Start invariant-loop decreases-loop
 entry l = l.before.before.before.before
 
-abbrev turn : tie.After-item-at invariant-loop decreases-loop → tie.In-loop invariant-loop decreases-loop
+abbrev turn : tie.After-item_at-trade invariant-loop decreases-loop → tie.In-loop-i invariant-loop decreases-loop
 turn c = c.before.before.before
 
-abbrev written : tie.After-slice-known2 invariant-loop decreases-loop → tie.After-item-at invariant-loop decreases-loop
+abbrev written : tie.After-slice_known-then-is_on-1 invariant-loop decreases-loop → tie.After-item_at-trade invariant-loop decreases-loop
 written c = c.before.before.before.before
 
-abbrev ledger : tie.At-loop invariant-loop decreases-loop → Ledger
+abbrev ledger : tie.At-loop-i invariant-loop decreases-loop → Ledger
 ledger l = ledger_of (entry l).args.book.now
 
 -- i is a place of the waiting list, and there is room for a trade's rows
-there : (t : tie.In-loop invariant-loop decreases-loop) → t.before.loop.i < length (ledger t.before).waiting
-there t = omega (arith, t.loop-test.true, t.before.before.items.ensures)
+there : (t : tie.In-loop-i invariant-loop decreases-loop) → t.before.loop-i.i < length (ledger t.before).waiting
+there t = omega (arith, t.loop-i-test.true, t.before.before.items-n.ensures)
 
-room : (t : tie.In-loop invariant-loop decreases-loop) → t.before.loop.at + 64 ≤ length (entry t.before).args.area.now
+room : (t : tie.In-loop-i invariant-loop decreases-loop) → t.before.loop-i.at + 64 ≤ length (entry t.before).args.area.now
 room t =
     let h = t.before in
     let s = entry h in
-    let l = h.loop in
-    written-fits (ledger h) s.args.marks s.args.area.now l.area l.at l.i l.invariant.1 (omega (arith, there t, s.pre.2.size)) s.pre.0
+    let l = h.loop-i in
+    written-fits (ledger h) s.args.marks s.args.area.now l.area l.at l.i l.invariant.1 (omega (arith, there t, s.requires.2.size)) s.requires.0
 
-long : (h : tie.At-loop invariant-loop decreases-loop) → length h.loop.area ≡ length (entry h).args.area.now
+long : (h : tie.At-loop-i invariant-loop decreases-loop) → length h.loop-i.area ≡ length (entry h).args.area.now
 long h =
-    let l = h.loop in
+    let l = h.loop-i in
     written-long (ledger h) (entry h).args.marks (entry h).args.area.now l.area l.at l.i l.invariant.1
 
 part-long : (xs : List ℕ) (at n : ℕ) → length xs ≡ n → at + 64 ≤ n → 64 ≤ length (take (length xs - at) (drop at xs))
 part-long xs at n e l = simp (length-take-le (length xs - at) (drop at xs) (simp length-drop (omega arith))) (omega arith)
 
-write-trade-requires : tie.Need-write-trade-requires invariant-loop decreases-loop
+write-trade-requires : tie.Need-write_trade-requires invariant-loop decreases-loop
 write-trade-requires c κs =
     let t = turn c.before in
     let h = t.before in
-    let l = h.loop in (
+    let l = h.loop-i in (
       part-long l.area l.at _ (long h) (room t),
-      subst TradeInRange (sym (c.before.item-at.ensures no_item)) (trade-fits _ ((entry h).pre.2.bookable l.i (there t))),
+      subst TradeInRange (sym (c.before.item_at-trade.ensures no_item)) (trade-fits _ ((entry h).requires.2.bookable l.i (there t))),
     )
 
-loop-again : tie.Need-loop-preserved invariant-loop decreases-loop
+loop-again : tie.Need-loop-i-preserved invariant-loop decreases-loop
 loop-again c =
     let t = c.before.before in
     let h = t.before in
-    let l = h.loop in
+    let l = h.loop-i in
     let b = ledger h in
     let a = (entry h).args in
-    let test = sym c.before.is-on.ensures in
+    let test = sym c.before.is_on.ensures in
     ⊎_elim
     (λ w. (
       omega arith,
@@ -80,21 +80,21 @@ loop-again c =
           (w.1.ensures no_item) _ w.3.ensures),
     ))
     (λ w. (omega arith, rw (w.1, w.2) (written-off b a.marks a.area.now l.area l.at l.i l.invariant.1 (test ∙ w.0.left))))
-    c.if1.branch
+    c.if-is_on.branch
 
 returns : tie.Need-returns invariant-loop decreases-loop
 returns c =
     let h = c.before in
-    let l = h.loop in
+    let l = h.loop-i in
     written-done (ledger h) (entry h).args.marks (entry h).args.area.now l.area l.at l.i l.invariant.1
-    (omega (arith, c.loop-test.false, h.before.items.ensures))
+    (omega (arith, c.loop-i-test.false, h.before.items-n.ensures))
 
-pub write-marked-spec : {M : Type 1} → statement M
-write-marked-spec =
+pub write_marked_spec : {M : Type 1} → statement M
+write_marked_spec =
     tie.close
     (tie.spec invariant-loop decreases-loop (λ c κs. search rules)
     (λ c. let s = c.before.before.before in (omega arith, written_none (ledger_of s.args.book.now) s.args.marks s.args.area.now))
-    (λ c κs. omega (arith, there c, (entry c.before).pre.2.size)) (λ c κs. let t = c.before.before in ((entry t.before).pre.1, there t))
+    (λ c κs. omega (arith, there c, (entry c.before).requires.2.size)) (λ c κs. let t = c.before.before in ((entry t.before).requires.1, there t))
     (λ c. omega (arith, room (turn c), long (turn c).before)) (λ c. omega (arith, room (turn c), long (turn c).before))
     (λ c. omega (arith, room (turn c), long (turn c).before)) write-trade-requires (λ c. omega (arith, room (turn (written c))))
     (λ c. omega arith) (λ c. omega arith) loop-again (λ c. long c.before) returns)
