@@ -1,11 +1,12 @@
 -- The rows are balances put one after the other into the holdings of the fresh book: so their number is that of the accounts with a balance. Assumes nothing.
+use Rattle.std.specs.Prelude.{if◌then◌else◌}
 use Prim.Native.Nat.{ℕ, zero, suc, ◌+◌, ◌-◌, ◌^◌, ◌≤◌, ◌<◌}
 use native.Mathlib.Omega.{arith}
 use mathlib.Core.Bool.{Bool, true, false}
 use mathlib.Core.List.{List, []}
 use mathlib.Core.Path.{◌≡◌, refl, sym, ap, ◌∙◌, fun_ext}
 use borrow.Author.Tests.{eqb-true, ne_eqb, ltb-true}
-use Rattle.plain.specs.Lists.{if◌then◌else◌, ◌is◌, ◌below◌, sum_below}
+use Rattle.plain.specs.Lists.{◌is◌, ◌below◌, sum_below}
 use Rattle.plain.proofs.Sums.{sum-none, sum-suc, sum-least}
 use Rattle.rulebook.specs.Ledger.{Holdings, fresh, counted, put_balance, same_account}
 use Rattle.rulebook.specs.Premise.{account_count}

@@ -1,4 +1,5 @@
 -- What the accounts hold once a row is put: the map, their number, and what is kept true. Assumes nothing.
+use Rattle.std.specs.Prelude.{if◌then◌else◌}
 use Prim.Native.Nat.{ℕ, ◌+◌, ◌-◌, ◌^◌, ◌≤◌, ◌<◌}
 use native.Mathlib.Omega.{arith}
 use mathlib.Core.Bool.{Bool, true, false}
@@ -7,7 +8,7 @@ use mathlib.Core.Logic.{◌≢◌}
 use mathlib.Core.Path.{◌≡◌, refl, sym, ap, ◌∙◌, fun_ext}
 use lib.ListN.{set}
 use borrow.Author.Tests.{eq-eqb, ne_eqb, eqb-true, lt-ltb}
-use Rattle.plain.specs.Lists.{if◌then◌else◌, ◌is◌, ◌below◌, sum_below}
+use Rattle.plain.specs.Lists.{◌is◌, ◌below◌, sum_below}
 use Rattle.plain.proofs.Sums.{sum-none, sum_one}
 use Rattle.rulebook.specs.Ledger.{Holdings, counted, put_balance, same_account}
 use Rattle.rulebook.specs.Movements.{credit, debit}

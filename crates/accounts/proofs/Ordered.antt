@@ -1,11 +1,12 @@
 -- The accounts by their keys: the least key of the words is that of the first account that is not empty. Assumes nothing.
+use Rattle.std.specs.Prelude.{if◌then◌else◌}
 use Prim.Native.Nat.{ℕ, ◌^◌, ◌≤◌, ◌<◌}
 use native.Mathlib.Omega.{arith}
 use mathlib.Core.Bool.{Bool, true, false, not}
 use mathlib.Core.List.{List}
 use mathlib.Core.Path.{◌≡◌, refl, sym, ap, ◌∙◌}
 use borrow.Author.Tests.{eq-eqb, ne_eqb}
-use Rattle.plain.specs.Lists.{if◌then◌else◌, ◌is◌, ◌is_not◌}
+use Rattle.plain.specs.Lists.{◌is◌, ◌is_not◌}
 use Rattle.plain.proofs.Sums.{sum-none}
 use Rattle.words.specs.Tables.{rows, key_at, sum_of, value_of}
 use Rattle.words.specs.Order.{Next, NextKey, RowOf}

@@ -1,5 +1,6 @@
 -- What a store to the accounts' words does to every sum over the rows: a balance is stored, an account is opened, an account is removed.
 -- Assumes nothing.
+use Rattle.std.specs.Prelude.{if◌then◌else◌}
 use Prim.Native.Nat.{ℕ, ◌+◌, ◌-◌, ◌≤◌, ◌<◌}
 use native.Mathlib.Omega.{arith}
 use mathlib.Core.Bool.{Bool, true, false}
@@ -9,7 +10,7 @@ use mathlib.Core.Path.{◌≡◌, refl, sym, ap, ◌∙◌}
 use lib.ListN.{length, set, length-set}
 use lib.Seq.{get_or-set_same, get_or-set_other}
 use borrow.Author.Tests.{ne_eqb, eqb-false}
-use Rattle.plain.specs.Lists.{if◌then◌else◌, ◌is◌, sum_below}
+use Rattle.plain.specs.Lists.{◌is◌, sum_below}
 use Rattle.plain.proofs.Sums.{sum-change, sum-least}
 use Rattle.rulebook.specs.Ledger.{counted}
 use Rattle.rulebook.proofs.Sizes.{counted-some, counted_none}

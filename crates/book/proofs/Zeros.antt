@@ -1,4 +1,5 @@
 -- The zero words are stored right and mean the fresh ledger but for its rate. Assumes nothing.
+use Rattle.std.specs.Prelude.{if◌then◌else◌}
 use Prim.Native.Nat.{ℕ, zero, suc, ◌+◌, ◌<◌}
 use native.Mathlib.Numerals.{add-one}
 use native.Mathlib.Omega.{arith}
@@ -7,7 +8,7 @@ use mathlib.Core.List.{List, [], ◌∷◌, ◌++◌}
 use mathlib.Core.Path.{◌≡◌, refl, ap, sym, ◌∙◌, subst, fun_ext}
 use lib.ListN.{length, get_or, set, take, replicate, replicate-append-replicate}
 use lib.Seq.{take-suc-set}
-use Rattle.plain.specs.Lists.{if◌then◌else◌, sum_below}
+use Rattle.plain.specs.Lists.{sum_below}
 use Rattle.rulebook.specs.Ledger.{first_rate, no_request, fresh, put_rate}
 use Rattle.rulebook.specs.declared.Account.{Account}
 use Rattle.rulebook.specs.declared.Request.{Request}

@@ -1,9 +1,10 @@
 -- A movement between two accounts may be debited first: the book is the same, and a full one has room for the account that is opened. Assumes nothing.
+use Rattle.std.specs.Prelude.{if◌then◌else◌}
 use Prim.Native.Nat.{ℕ, ◌+◌, ◌-◌, ◌≤◌, ◌^◌}
 use mathlib.Core.Path.{◌≡◌, refl, sym, ap, ◌∙◌}
 use mathlib.Core.Bool.{Bool, true, false, false≢true}
 use native.Mathlib.Omega.{arith}
-use Rattle.plain.specs.Lists.{if◌then◌else◌, sum_below}
+use Rattle.plain.specs.Lists.{sum_below}
 use Rattle.rulebook.specs.Ledger.{Holdings, same_account, counted, put_balance}
 use Rattle.rulebook.specs.Movements.{account, credit, debit}
 use Rattle.rulebook.specs.Premise.{account_count}

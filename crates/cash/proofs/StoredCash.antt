@@ -1,4 +1,5 @@
 -- A member's cash is stored: what every member has then. Assumes nothing.
+use Rattle.std.specs.Prelude.{if◌then◌else◌}
 use Prim.Native.Nat.{ℕ, ◌+◌, ◌-◌, ◌*◌, ◌≤◌, ◌<◌}
 use native.Mathlib.Omega.{arith}
 use mathlib.Core.Bool.{Bool, true, false, ◌&&◌}
@@ -7,7 +8,7 @@ use mathlib.Core.Path.{◌≡◌, refl, sym, ap, ◌∙◌, fun_ext}
 use lib.ListN.{length, get_or, set}
 use lib.Seq.{get_or-set_same, get_or-set_other}
 use borrow.Author.Tests.{le-leb, leb-true, eqb-true, eqb-false}
-use Rattle.plain.specs.Lists.{if◌then◌else◌, ◌is◌, ◌at_most◌, within, sum_below}
+use Rattle.plain.specs.Lists.{◌is◌, ◌at_most◌, within, sum_below}
 use Rattle.plain.proofs.Tests.{both}
 use Rattle.plain.proofs.Sums.{sum-last, sum-grows}
 use Rattle.rulebook.specs.Ledger.{Holdings, put_cash}

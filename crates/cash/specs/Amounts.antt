@@ -1,6 +1,6 @@
 -- The cash words as what each member has in each currency.
-use Rattle.std.specs.Prelude.{ℕ, ◌+◌, ◌-◌, ◌*◌, Bool, ◌&&◌, List, get_or}
-use Rattle.plain.specs.Lists.{if◌then◌else◌, within, sum_below}
+use Rattle.std.specs.Prelude.{if◌then◌else◌, ℕ, ◌+◌, ◌-◌, ◌*◌, Bool, ◌&&◌, List, get_or}
+use Rattle.plain.specs.Lists.{within, sum_below}
 use Rattle.rulebook.specs.Ledger.{Holdings}
 
 -- where a member's cash in a currency stands

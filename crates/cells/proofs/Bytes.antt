@@ -1,4 +1,5 @@
 -- A walk over the bytes of a cell, one place after the other: over blanks, over digits. Assumes nothing.
+use Rattle.std.specs.Prelude.{if◌then◌else◌}
 use Prim.Native.Nat.{ℕ, suc, ◌+◌, ◌-◌, ◌*◌, ◌^◌, ◌≤◌, ◌<◌}
 use native.Mathlib.Omega.{arith}
 use mathlib.Core.Bool.{Bool, true, false, not}
@@ -8,7 +9,7 @@ use borrow.Author.Tests.{eq-eqb, ne_eqb, eqb-true, eqb-false, lt-ltb, le-ltb}
 use native.Mathlib.Decide.{ℕ_discrete}
 use lib.Dec.{eqb, ltb, leb-suc-suc}
 use lib.ListN.{length, get_or, take, drop, length-drop, drop_of_length-le}
-use Rattle.plain.specs.Lists.{if◌then◌else◌, ◌below◌, ◌one_of◌, within}
+use Rattle.plain.specs.Lists.{◌below◌, ◌one_of◌, within}
 use Rattle.text.specs.Parts.{up_to}
 use lib.Seq.{take-suc, take_all}
 use Rattle.cells.specs.Kinds.{too_large, quoted}

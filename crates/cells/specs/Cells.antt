@@ -1,6 +1,6 @@
 -- Bytes to lines, a line to cells, a cell to a number.
-use Rattle.std.specs.Prelude.{ℕ, ◌+◌, ◌-◌, ◌*◌, ◌^◌, Bool, not, ◌||◌, List, [], ◌∷◌, length}
-use Rattle.plain.specs.Lists.{if◌then◌else◌, ◌is◌, ◌below◌, ◌one_of◌, within}
+use Rattle.std.specs.Prelude.{if◌then◌else◌, ℕ, ◌+◌, ◌-◌, ◌*◌, ◌^◌, Bool, not, ◌||◌, List, [], ◌∷◌, length}
+use Rattle.plain.specs.Lists.{◌is◌, ◌below◌, ◌one_of◌, within}
 use Rattle.text.specs.Parts.{line_feed, up_to, joined, split}
 use Rattle.cells.specs.Kinds.{empty_cell, not_aNumber, too_large, quoted}
 use Rattle.cells.specs.declared.Number.{Number}

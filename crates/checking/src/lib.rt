@@ -1,8 +1,8 @@
 // What the stages of the checking order share.
 #![tactic(auto)]
 
-ghost use Rattle.std.specs.Prelude.{◌≡◌};
-ghost use Rattle.plain.specs.Lists.{if◌then◌else◌, within};
+ghost use Rattle.std.specs.Prelude.{if◌then◌else◌, ◌≡◌};
+ghost use Rattle.plain.specs.Lists.{within};
 
 // A refusal's number where its test applies, else what the later tests give. A stage puts its last test first.
 pub fn refuse(number: u64, applies: bool, later: u64) -> u64

@@ -1,6 +1,6 @@
 -- Pay-ins with which nothing is short over a list of trades.
-use Rattle.std.specs.Prelude.{ℕ, ◌+◌, ◌≤◌, Bool, true, not, ◌||◌, List, ◌≡◌}
-use Rattle.plain.specs.Lists.{if◌then◌else◌, ◌is_not◌, ◌below◌, some}
+use Rattle.std.specs.Prelude.{if◌then◌else◌, ℕ, ◌+◌, ◌≤◌, Bool, true, not, ◌||◌, List, ◌≡◌}
+use Rattle.plain.specs.Lists.{◌is_not◌, ◌below◌, some}
 use Rattle.rulebook.specs.declared.Account.{Account}
 use Rattle.rulebook.specs.declared.Item.{Item}
 use Rattle.rulebook.specs.Ledger.{Holdings, cash_total}

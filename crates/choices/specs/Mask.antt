@@ -1,6 +1,6 @@
 -- A choice of the due trades by a mask over the waiting list: which masks are good, and what is left by one.
-use Rattle.std.specs.Prelude.{ℕ, zero, suc, ◌+◌, ◌/◌, ◌%◌, ◌^◌, Bool, true, false, not, ◌&&◌, List, [], ◌∷◌, ◌++◌, map, ◌≡◌}
-use Rattle.plain.specs.Lists.{if◌then◌else◌, ◌is◌, some, total, Each}
+use Rattle.std.specs.Prelude.{if◌then◌else◌, ℕ, zero, suc, ◌+◌, ◌/◌, ◌%◌, ◌^◌, Bool, true, false, not, ◌&&◌, List, [], ◌∷◌, ◌++◌, map, ◌≡◌}
+use Rattle.plain.specs.Lists.{◌is◌, some, total, Each}
 use Rattle.rulebook.specs.declared.Item.{Item}
 use Rattle.rulebook.specs.Ledger.{Holdings}
 use Rattle.rulebook.specs.Shortfall.{Shortfall, NothingShort, shortfall, any_short}

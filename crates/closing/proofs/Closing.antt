@@ -1,4 +1,5 @@
 -- What close does with one item more: those kept, the notices and the counts. Assumes nothing.
+use Rattle.std.specs.Prelude.{if◌then◌else◌}
 use Prim.Native.Nat.{ℕ, zero, suc, ◌+◌, ◌*◌, ◌≤◌}
 use native.Mathlib.Omega.{arith}
 use mathlib.Core.Bool.{Bool, true, false, not}
@@ -6,7 +7,7 @@ use mathlib.Core.List.{List, [], ◌∷◌, ◌++◌, map, map-append, append-ni
 use mathlib.Core.Path.{◌≡◌, refl, ap, ◌∙◌}
 use borrow.Author.Tests.{ne_eqb}
 use lib.ListN.{length, length-append, length-map}
-use Rattle.plain.specs.Lists.{if◌then◌else◌, ◌is◌, ◌at_most◌, ◌one_of◌, total, keep}
+use Rattle.plain.specs.Lists.{◌is◌, ◌at_most◌, ◌one_of◌, total, keep}
 use Rattle.plain.proofs.Lists.{keep-length, total-append}
 use Rattle.rulebook.specs.Waiting.{sides_of, sides, unmarked, with_state}
 use Rattle.rulebook.specs.Close.{close_kind, leaves, deleted_at_close, suspended_at_close, close_notice}

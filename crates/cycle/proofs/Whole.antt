@@ -1,11 +1,12 @@
 -- The whole cycle: what its parts leave is the rulebook's outcome. Assumes nothing.
+use Rattle.std.specs.Prelude.{if◌then◌else◌}
 use Prim.Native.Nat.{ℕ, ◌-◌, ◌^◌, ◌≤◌, ◌<◌}
 use native.Mathlib.Omega.{arith}
 use mathlib.Core.Bool.{Bool, true, false}
 use mathlib.Core.List.{List, [], ◌∷◌, map}
 use mathlib.Core.Path.{◌≡◌, refl, sym, ap, ap₂, ◌∙◌}
 use lib.ListN.{length}
-use Rattle.plain.specs.Lists.{if◌then◌else◌, ◌is◌}
+use Rattle.plain.specs.Lists.{◌is◌}
 use Rattle.rulebook.specs.Ledger.{Ledger, put_day, put_waiting, cycle_sent}
 use Rattle.rulebook.specs.Rows.{rows_bytes}
 use Rattle.rulebook.specs.Waiting.{with_sent}

@@ -1,4 +1,5 @@
 -- Each form's window, by tests of its number; the next cycle's minute. Assumes nothing.
+use Rattle.std.specs.Prelude.{if◌then◌else◌}
 use Prim.Native.Nat.{ℕ, zero, suc}
 use mathlib.Core.Path.{◌≡◌, refl, sym, ap, ◌∙◌}
 use mathlib.Core.Bool.{Bool, true, false, ◌||◌}
@@ -6,7 +7,7 @@ use mathlib.Core.List.{List, [], ◌∷◌}
 use native.Mathlib.Omega.{arith}
 use borrow.Author.Tests.{ne_eqb}
 use lib.ListN.{get_or}
-use Rattle.plain.specs.Lists.{if◌then◌else◌, ◌is◌, within}
+use Rattle.plain.specs.Lists.{◌is◌, within}
 use Rattle.plain.proofs.Lists.{◌and◌}
 use Rattle.rulebook.specs.Windows.{by_kind, office_end, cycle_minutes, payment_hours}
 use Rattle.rulebook.specs.Forms.{forms, window_of}

@@ -1,6 +1,6 @@
 -- Parts of a form's window.
-use Rattle.std.specs.Prelude.{ℕ, length}
-use Rattle.plain.specs.Lists.{if◌then◌else◌, ◌is◌}
+use Rattle.std.specs.Prelude.{if◌then◌else◌, ℕ, length}
+use Rattle.plain.specs.Lists.{◌is◌}
 use Rattle.rulebook.specs.Windows.{by_kind, office_end, cycle_minutes, all_run}
 use Rattle.rulebook.specs.declared.Day.{Day}
 

@@ -1,6 +1,6 @@
 -- Calls, reader and writer over the words that a C program lends.
-use Rattle.std.specs.Prelude.{ℕ, List, ◌≡◌, length, take}
-use Rattle.plain.specs.Lists.{if◌then◌else◌, ◌is_not◌}
+use Rattle.std.specs.Prelude.{if◌then◌else◌, ℕ, List, ◌≡◌, length, take}
+use Rattle.plain.specs.Lists.{◌is_not◌}
 use Rattle.rulebook.specs.Record.{read_of, read_number, order_of, written_of, written_number, area_written, fields_of}
 use Rattle.rulebook.specs.Call.{call_of, answer_number}
 use Rattle.rulebook.specs.declared.Answer.{Answer}

@@ -1,4 +1,5 @@
 -- A walk meets the records of the file, each in its turn, and ends behind the last. Assumes nothing.
+use Rattle.std.specs.Prelude.{if◌then◌else◌}
 use Prim.Native.Nat.{ℕ, zero, suc, ◌+◌, ◌-◌, ◌*◌, ◌/◌, ◌≤◌, ◌<◌}
 use native.Mathlib.Omega.{arith}
 use mathlib.Core.Bool.{Bool, true, false}
@@ -7,7 +8,7 @@ use mathlib.Core.Path.{◌≡◌, refl, sym, ap, ◌∙◌}
 use lib.ListN.{length, take, drop, length-drop, length-append}
 use lib.Seq.{take_all, drop-drop, take-append-le, drop-append-le}
 use borrow.Author.Tests.{ltb-true, ltb-false}
-use Rattle.plain.specs.Lists.{if◌then◌else◌, ◌below◌}
+use Rattle.plain.specs.Lists.{◌below◌}
 use Rattle.file.specs.Records.{parts, records_of, end_of, next_at, found, walk}
 use Rattle.file.specs.declared.Cursor.{Cursor}
 use Rattle.file.specs.declared.Next.{Next}

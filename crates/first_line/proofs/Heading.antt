@@ -1,4 +1,5 @@
 -- The column of a field, a byte-order mark, and the columns of a first line, one after the other. Assumes nothing.
+use Rattle.std.specs.Prelude.{if◌then◌else◌}
 use Prim.Native.Nat.{ℕ, ◌+◌, ◌-◌, ◌≤◌, ◌<◌}
 use native.Mathlib.Omega.{arith}
 use native.Mathlib.Numerals.{add-one}
@@ -9,7 +10,7 @@ use borrow.Author.Tests.{eq-eqb, ne_eqb, lt-leb, le-leb}
 use lib.ListN.{length, get_or, take, drop, set, length-set, drop_of_length-le}
 use lib.Seq.{take-suc-set, length-take-le, get_or-take, get_or-set_same, get_or-set_other, take_all}
 use native.Mathlib.Decide.{ℕ_discrete}
-use Rattle.plain.specs.Lists.{◌one_of◌, if◌then◌else◌, ◌is◌}
+use Rattle.plain.specs.Lists.{◌one_of◌, ◌is◌}
 use Rattle.text.specs.Parts.{up_to}
 use Rattle.text.proofs.Cutting.{parts_from, parts_none, one_part, here, other_length}
 use Rattle.names.specs.Numbers.{field_place}

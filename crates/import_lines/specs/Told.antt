@@ -1,7 +1,7 @@
 -- The line that is told of a refused table (RULES 15.9).
-use Rattle.std.specs.Prelude.{ℕ, ◌-◌, List, [], ◌∷◌, ◌++◌, map, get_or, take}
+use Rattle.std.specs.Prelude.{if◌then◌else◌, ℕ, ◌-◌, List, [], ◌∷◌, ◌++◌, map, get_or, take}
 use Prim.Native.String.{String}
-use Rattle.plain.specs.Lists.{if◌then◌else◌, ◌is◌, ◌below◌, within}
+use Rattle.plain.specs.Lists.{◌is◌, ◌below◌, within}
 use Rattle.rulebook.specs.Names.{name_from1, field_name}
 use Rattle.text.specs.Text.{text}
 use Rattle.text.specs.Parts.{line_feed}

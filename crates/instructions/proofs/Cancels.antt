@@ -1,11 +1,12 @@
 -- Form 15 by the place of the item that waits under the sender's reference. Assumes nothing.
+use Rattle.std.specs.Prelude.{if◌then◌else◌}
 use Prim.Native.Nat.{ℕ, ◌*◌}
 use native.Mathlib.Omega.{arith}
 use mathlib.Core.Bool.{Bool, true, false, not, false≢true}
 use mathlib.Core.List.{List, [], ◌∷◌, ◌++◌, map}
 use mathlib.Core.Path.{◌≡◌, refl, sym, ap, subst, ◌∙◌}
 use lib.ListN.{length, get_or, set, drop}
-use Rattle.plain.specs.Lists.{if◌then◌else◌, ◌is◌}
+use Rattle.plain.specs.Lists.{◌is◌}
 use Rattle.rulebook.specs.Ledger.{Ledger, put_waiting}
 use Rattle.rulebook.specs.Premise.{today}
 use Rattle.rulebook.specs.Waiting.{sides_of, sides, sender_of, sent_by, with_state, marked, both_marked, marking, cancelled, staying}

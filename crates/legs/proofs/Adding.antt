@@ -1,11 +1,12 @@
 -- The legs of all marked trades, as a loop adds them to the figures one by one. Assumes nothing.
+use Rattle.std.specs.Prelude.{if◌then◌else◌}
 use Prim.Native.Nat.{ℕ, ◌+◌, ◌<◌}
 use native.Mathlib.Omega.{arith}
 use mathlib.Core.Bool.{Bool, true, false}
 use mathlib.Core.List.{List}
 use mathlib.Core.Path.{◌≡◌, ap, ◌∙◌}
 use lib.ListN.{length}
-use Rattle.plain.specs.Lists.{if◌then◌else◌, sum_below}
+use Rattle.plain.specs.Lists.{sum_below}
 use Rattle.plain.proofs.Sums.{sum-last, sum-grows}
 use Rattle.legs.specs.Figures.{has_at, owes_at, brings, takes, brings_all, takes_all, Figures, Room, RoomAll}
 

@@ -1,4 +1,5 @@
 -- The figures after one leg is added or taken away: a store changes those of all legs that debit the same. Whether it can be added. Assumes nothing.
+use Rattle.std.specs.Prelude.{if◌then◌else◌}
 use Prim.Native.Nat.{ℕ, ◌+◌, ◌≤◌, ◌<◌}
 use native.Mathlib.Omega.{arith}
 use mathlib.Core.Bool.{Bool, true, false, not}
@@ -7,7 +8,7 @@ use mathlib.Core.Path.{◌≡◌, refl, sym, ap, ◌∙◌}
 use borrow.Author.Tests.{eq-eqb, eqb-true, lt-ltb, le-ltb, ltb-false}
 use lib.ListN.{length, set, length-set}
 use lib.Seq.{get_or-set_same}
-use Rattle.plain.specs.Lists.{if◌then◌else◌, ◌is◌, ◌below◌}
+use Rattle.plain.specs.Lists.{◌is◌, ◌below◌}
 use Rattle.legs.specs.Figures.{OWES, from_at, to_at, number_at, has_at, owes_at, brings, takes, Figures, short_at, short_with}
 use Rattle.legs.specs.Slots.{Slots, viewed}
 use Rattle.legs.proofs.Slotted as slotted

@@ -1,4 +1,5 @@
 -- The waiting list with marks on the items that pass a test, and marks that a loop sets one by one. Assumes nothing.
+use Rattle.std.specs.Prelude.{if◌then◌else◌}
 use Prim.Native.Nat.{ℕ, ◌+◌, ◌≤◌, ◌<◌}
 use native.Mathlib.Omega.{arith}
 use mathlib.Core.Bool.{Bool, true, false, not}
@@ -8,7 +9,7 @@ use mathlib.Core.Path.{◌≡◌, refl, sym, ap, ◌∙◌}
 use lib.ListN.{length}
 use borrow.Author.Count.{below_more}
 use borrow.Author.Tests.{eq-eqb, ne_eqb}
-use Rattle.plain.specs.Lists.{if◌then◌else◌, ◌is◌}
+use Rattle.plain.specs.Lists.{◌is◌}
 use Rattle.rulebook.specs.declared.Item.{Item}
 use Rattle.words.proofs.Places.{from_map}
 use Rattle.marks.specs.Marks.{item_in, is_on, marked_of}

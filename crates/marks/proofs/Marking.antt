@@ -1,4 +1,5 @@
 -- The waiting list with its marks, by places: sums over it, and how many are marked. Assumes nothing.
+use Rattle.std.specs.Prelude.{if◌then◌else◌}
 use Prim.Native.Nat.{ℕ, zero, suc, ◌+◌, ◌*◌, ◌^◌, ◌≤◌, ◌<◌}
 use native.Mathlib.Decide.{ℕ_discrete}
 use native.Mathlib.Omega.{arith}
@@ -8,7 +9,7 @@ use mathlib.Core.Logic.{◌≢◌}
 use mathlib.Core.Path.{◌≡◌, refl, sym, ap, ◌∙◌}
 use lib.ListN.{length, length-map, get_or}
 use lib.Seq.{ext_get_or}
-use Rattle.plain.specs.Lists.{if◌then◌else◌, total, some, keep, sum_below}
+use Rattle.plain.specs.Lists.{total, some, keep, sum_below}
 use Rattle.plain.proofs.Sums.{sum-change}
 use Rattle.rulebook.specs.declared.Item.{Item}
 use Rattle.words.specs.Places.{list_from}

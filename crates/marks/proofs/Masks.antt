@@ -1,4 +1,5 @@
 -- A mask's bits: none in 0, where two masks differ, what a flip does, the first that is set; masks with the same bits are the same. Assumes nothing.
+use Rattle.std.specs.Prelude.{if◌then◌else◌}
 use Prim.Native.Nat.{ℕ, zero, suc, ◌+◌, ◌-◌, ◌*◌, ◌/◌, ◌%◌, ◌^◌, ◌≤◌, ◌<◌}
 use native.Mathlib.Omega.{arith}
 use native.Mathlib.Nat.{zero-div, lt_of_lt_of_le}
@@ -9,7 +10,7 @@ use lib.Pow.{pow_mono, shr-shr, shr_lt, shr_mono, shl-shr, shl_exact}
 use lib.Bits.{bit_xor, xor_shr, xor_mod}
 use lib.Count.{count_leading_zeros, leading_top}
 use borrow.Author.Tests.{eq-eqb, ne_eqb}
-use Rattle.plain.specs.Lists.{if◌then◌else◌, ◌is◌}
+use Rattle.plain.specs.Lists.{◌is◌}
 use Rattle.marks.specs.Marks.{is_on, First}
 
 pub none_on : (k : ℕ) → is_on 0 k ≡ false

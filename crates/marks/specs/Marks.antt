@@ -1,6 +1,6 @@
 -- Marks on a waiting list's items: a mask of 64 bits, the first item's the most significant.
-use Rattle.std.specs.Prelude.{ℕ, ◌-◌, ◌*◌, ◌/◌, ◌%◌, ◌^◌, ◌<◌, Bool, true, false, not, List, ◌++◌, map, ◌≡◌, length, get_or, drop}
-use Rattle.plain.specs.Lists.{if◌then◌else◌, ◌is◌, total, keep, sum_below}
+use Rattle.std.specs.Prelude.{if◌then◌else◌, ℕ, ◌-◌, ◌*◌, ◌/◌, ◌%◌, ◌^◌, ◌<◌, Bool, true, false, not, List, ◌++◌, map, ◌≡◌, length, get_or, drop}
+use Rattle.plain.specs.Lists.{◌is◌, total, keep, sum_below}
 use Rattle.rulebook.specs.Cycle.{legs}
 use Rattle.rulebook.specs.Rows.{Row, posting_rows, rows_bytes}
 use Rattle.rulebook.specs.declared.Item.{Item}

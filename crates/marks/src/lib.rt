@@ -1,8 +1,8 @@
 // Marks on the items of a waiting list: a mask of 64 bits, the first item's the most significant.
 #![tactic(auto)]
 
-ghost use Rattle.std.specs.Prelude.{◌≡◌, not, ℕ, ◌<◌, ◌≤◌};
-ghost use Rattle.plain.specs.Lists.{if◌then◌else◌, ◌is◌};
+ghost use Rattle.std.specs.Prelude.{if◌then◌else◌, ◌≡◌, not, ℕ, ◌<◌, ◌≤◌};
+ghost use Rattle.plain.specs.Lists.{◌is◌};
 ghost use Rattle.marks.specs.Marks.{is_on, First, count_on};
 
 // One word.

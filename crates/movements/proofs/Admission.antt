@@ -1,11 +1,12 @@
 -- A new security goes last, and all of it is moved outside: it goes last with its outside count. Assumes nothing.
+use Rattle.std.specs.Prelude.{if◌then◌else◌}
 use Prim.Native.Nat.{ℕ, ◌+◌}
 use native.Mathlib.Omega.{arith}
 use mathlib.Core.Bool.{Bool, true, false, true≢false}
 use mathlib.Core.List.{List, [], ◌∷◌, ◌++◌, map}
 use mathlib.Core.Path.{◌≡◌, refl, ap, ◌∙◌}
 use borrow.Author.Tests.{eq-eqb}
-use Rattle.plain.specs.Lists.{if◌then◌else◌, ◌is◌, some, total}
+use Rattle.plain.specs.Lists.{◌is◌, some, total}
 use Rattle.rulebook.specs.Ledger.{Holdings, admitted, outside_of, put_outside, put_securities, new_security, with_outside}
 use Rattle.rulebook.specs.Movements.{credit, type91}
 use Rattle.rulebook.specs.declared.Security.{Security}

@@ -1,6 +1,6 @@
 -- The field and the form that a name means.
-use Rattle.std.specs.Prelude.{ℕ, suc, List, map, length}
-use Rattle.plain.specs.Lists.{if◌then◌else◌, ◌below◌}
+use Rattle.std.specs.Prelude.{if◌then◌else◌, ℕ, suc, List, map, length}
+use Rattle.plain.specs.Lists.{◌below◌}
 use Rattle.rulebook.specs.Forms.{forms}
 use Rattle.rulebook.specs.Names.{field_names}
 use Rattle.text.specs.Text.{text}

@@ -1,11 +1,12 @@
 -- Rounds and passes by marks are those of the selection, where each trade goes by itself. Assumes nothing.
+use Rattle.std.specs.Prelude.{if◌then◌else◌}
 use mathlib.Core.Path.{◌≡◌, refl, sym, ap, ap₂, subst, ◌∙◌}
 use mathlib.Core.Bool.{Bool, true, false, ◌&&◌, ◌||◌, or-false}
 use mathlib.Core.List.{List, [], ◌∷◌, map}
 use Prim.Native.Nat.{ℕ, zero, suc, ◌+◌}
 use native.Mathlib.Omega.{arith}
 use lib.ListN.{length, length-map}
-use Rattle.plain.specs.Lists.{if◌then◌else◌, some}
+use Rattle.plain.specs.Lists.{some}
 use Rattle.rulebook.specs.Ledger.{Ledger, Holdings}
 use Rattle.rulebook.specs.Shortfall.{NothingShort, debits_short, any_short}
 use Rattle.rulebook.specs.Selection.{Standing, Entry, not_due, taken, left, is_taken, is_left, trades_in, drops, drop_last, rounds, dropping, passes}

@@ -1,4 +1,5 @@
 -- The figures of shares, or of cash, under marks: all marked legs added, one added, one taken away; what is short by them. Assumes nothing.
+use Rattle.std.specs.Prelude.{if◌then◌else◌}
 use Prim.Native.Nat.{ℕ, ◌+◌, ◌-◌, ◌*◌, ◌^◌, ◌≤◌, ◌<◌}
 use native.Mathlib.Omega.{arith}
 use mathlib.Core.Bool.{Bool, true, false, not}
@@ -7,7 +8,7 @@ use mathlib.Core.Logic.{◌≢◌}
 use mathlib.Core.Path.{◌≡◌, refl, sym, ap, ◌∙◌}
 use borrow.Author.Tests.{eq-eqb, ne_eqb, ltb-true, ltb-false}
 use lib.ListN.{length}
-use Rattle.plain.specs.Lists.{if◌then◌else◌, ◌is_not◌, ◌below◌, total}
+use Rattle.plain.specs.Lists.{◌is_not◌, ◌below◌, total}
 use Rattle.plain.proofs.Lists.{total-append}
 use Rattle.plain.proofs.Sums.{sum_same, sum-least}
 use Rattle.rulebook.specs.Ledger.{Ledger}

@@ -1,4 +1,5 @@
 -- Pass after pass, as code makes them, until one gives no mark back. Assumes nothing.
+use Rattle.std.specs.Prelude.{if◌then◌else◌}
 use Prim.Native.Nat.{ℕ, zero, suc, ◌+◌, ◌-◌, ◌^◌, ◌≤◌, ◌<◌}
 use native.Mathlib.Omega.{arith}
 use mathlib.Core.Bool.{Bool, true, false, false≢true}
@@ -7,7 +8,7 @@ use mathlib.Core.Path.{◌≡◌, refl, sym, ap, subst, ◌∙◌}
 use borrow.Author.Tests.{eq-eqb, ne_eqb, ltb-true, ltb-false}
 use lib.Dec.{ltb}
 use lib.ListN.{length, get_or}
-use Rattle.plain.specs.Lists.{if◌then◌else◌, total}
+use Rattle.plain.specs.Lists.{total}
 use Rattle.rulebook.specs.Ledger.{Ledger}
 use Rattle.rulebook.specs.Selection.{Standing, Entry, not_due, taken, left, trades_in, count_left, one_pass, passes}
 use Rattle.rulebook.specs.Selected.{Spot, spot}

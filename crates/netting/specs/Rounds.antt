@@ -1,6 +1,6 @@
 -- The rounds of a selection, by marks on the waiting list.
-use Rattle.std.specs.Prelude.{ℕ, zero, suc, Bool, false, ◌&&◌, List, [], ◌∷◌}
-use Rattle.plain.specs.Lists.{if◌then◌else◌, some}
+use Rattle.std.specs.Prelude.{if◌then◌else◌, ℕ, zero, suc, Bool, false, ◌&&◌, List, [], ◌∷◌}
+use Rattle.plain.specs.Lists.{some}
 use Rattle.rulebook.specs.Ledger.{Holdings}
 use Rattle.rulebook.specs.Shortfall.{debits_short, any_short}
 use Rattle.rulebook.specs.Selection.{Entry, is_taken}

@@ -1,11 +1,12 @@
 -- A line's order, and its record. Assumes nothing.
+use Rattle.std.specs.Prelude.{if◌then◌else◌}
 use Prim.Native.Nat.{ℕ, ◌≤◌}
 use mathlib.Core.Bool.{Bool, true, false}
 use mathlib.Core.List.{List, ◌++◌}
 use mathlib.Core.Path.{◌≡◌, refl, sym, ap, ◌∙◌}
 use borrow.Author.Tests.{le-ltb}
 use lib.ListN.{length, drop}
-use Rattle.plain.specs.Lists.{if◌then◌else◌, ◌is◌, first}
+use Rattle.plain.specs.Lists.{◌is◌, first}
 use Rattle.rulebook.specs.Record.{order_of, fields_of, field_tests, record_of, write_refusal, written_of, area_written}
 use Rattle.rulebook.specs.declared.Order.{Order}
 use Rattle.rulebook.specs.declared.Written.{Written}

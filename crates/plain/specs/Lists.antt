@@ -1,12 +1,7 @@
 -- Plain words for tests on numbers, a few operations on lists, and sums.
-use Rattle.std.specs.Prelude.{ℕ, zero, suc, ◌+◌, Bool, true, false, not, ◌||◌, ◌&&◌, List, [], ◌∷◌, leb, ltb, eqb}
+use Rattle.std.specs.Prelude.{ℕ, zero, suc, ◌+◌, Bool, true, false, not, ◌||◌, ◌&&◌, List, [], ◌∷◌, leb, ltb, eqb, if◌then◌else◌}
 
 infix 50 ◌is◌ ◌is_not◌ ◌below◌ ◌at_most◌ ◌one_of◌
-infix 20 if◌then◌else◌
-abbrev pub if◌then◌else◌ {ℓ} : {A : Type ℓ} → Bool → A → A → A
-if◌then◌else◌ true a b = a
-if◌then◌else◌ false a b = b
-
 abbrev pub ◌is◌ : ℕ → ℕ → Bool
 ◌is◌ m n = eqb m n
 

@@ -1,11 +1,12 @@
 -- A request goes last, and a request ends: what is open then, and what is kept true. Assumes nothing.
+use Rattle.std.specs.Prelude.{if◌then◌else◌}
 use Prim.Native.Nat.{ℕ, ◌+◌, ◌-◌, ◌/◌, ◌^◌, ◌≤◌, ◌<◌}
 use native.Mathlib.Omega.{arith}
 use mathlib.Core.List.{List, [], ◌∷◌}
 use mathlib.Core.Path.{◌≡◌, refl, sym, ap, ◌∙◌}
 use lib.ListN.{length, get_or}
 use borrow.Author.Tests.{ne_eqb, le-ltb}
-use Rattle.plain.specs.Lists.{if◌then◌else◌, ◌is◌, ◌below◌}
+use Rattle.plain.specs.Lists.{◌is◌, ◌below◌}
 use Rattle.rulebook.specs.Ledger.{no_request, counted, put_request}
 use Rattle.rulebook.specs.declared.Request.{Request}
 use Rattle.rulebook.proofs.Sizes.{counted-some, counted_none}

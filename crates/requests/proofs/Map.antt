@@ -1,4 +1,5 @@
 -- What is asked, by the place that a search answers, and what the words mean once the row of a key has other words. Assumes nothing.
+use Rattle.std.specs.Prelude.{if◌then◌else◌}
 use Prim.Native.Nat.{ℕ, ◌+◌, ◌-◌, ◌/◌, ◌^◌, ◌≤◌, ◌<◌}
 use native.Mathlib.Omega.{arith}
 use mathlib.Core.Bool.{Bool, true, false, ◌&&◌}
@@ -6,7 +7,7 @@ use mathlib.Core.List.{List}
 use mathlib.Core.Path.{◌≡◌, refl, ap, fun_ext}
 use lib.ListN.{get_or}
 use borrow.Author.Tests.{ltb-false}
-use Rattle.plain.specs.Lists.{if◌then◌else◌, ◌is◌, ◌below◌}
+use Rattle.plain.specs.Lists.{◌is◌, ◌below◌}
 use Rattle.plain.proofs.Sums.{sum-least}
 use Rattle.rulebook.specs.Ledger.{no_request, counted, put_request}
 use Rattle.rulebook.specs.declared.Request.{Request}

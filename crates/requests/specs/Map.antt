@@ -1,6 +1,6 @@
 -- The words as a map from member and reference to request, and what is kept true of them.
-use Rattle.std.specs.Prelude.{ℕ, ◌^◌, ◌≤◌, List, [], ◌∷◌, ◌≡◌, length}
-use Rattle.plain.specs.Lists.{if◌then◌else◌, ◌below◌}
+use Rattle.std.specs.Prelude.{if◌then◌else◌, ℕ, ◌^◌, ◌≤◌, List, [], ◌∷◌, ◌≡◌, length}
+use Rattle.plain.specs.Lists.{◌below◌}
 use Rattle.rulebook.specs.Ledger.{Requests, no_request}
 use Rattle.rulebook.specs.declared.Request.{Request}
 use Rattle.words.specs.Tables.{rows, sum_of, value_of, KeysOnce, with_row, without_row}

@@ -1,4 +1,5 @@
 -- Sums over the fixed items, place by place; what an account offers by those sums. Assumes nothing.
+use Rattle.std.specs.Prelude.{if◌then◌else◌}
 use Prim.Native.Nat.{ℕ, suc, ◌+◌, ◌-◌, ◌*◌, ◌≤◌, ◌<◌, ◌^◌}
 use mathlib.Core.Path.{◌≡◌, refl}
 use mathlib.Core.Bool.{Bool, true, false}
@@ -7,7 +8,7 @@ use native.Mathlib.Numerals.{add-one}
 use native.Mathlib.Omega.{arith}
 use lib.ListN.{length, get_or, drop, drop_of_length-le}
 use lib.Seq.{drop-cons}
-use Rattle.plain.specs.Lists.{if◌then◌else◌, total, Each}
+use Rattle.plain.specs.Lists.{total, Each}
 use Rattle.plain.proofs.Lists.{each_so}
 use Rattle.rulebook.specs.Ledger.{Ledger, same_account}
 use Rattle.rulebook.specs.Movements.{account}

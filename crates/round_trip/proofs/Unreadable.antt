@@ -1,4 +1,5 @@
 -- A table with a line of a record that does not read is refused. Assumes nothing.
+use Rattle.std.specs.Prelude.{if◌then◌else◌}
 use Prim.Native.Nat.{ℕ, suc, ◌-◌, ◌≤◌, ◌<◌}
 use native.Mathlib.Omega.{arith}
 use lib.Dec.{lit≤}
@@ -6,7 +7,7 @@ use lib.ListN.{length, replicate}
 use mathlib.Core.Bool.{Bool, true, false}
 use mathlib.Core.List.{List, [], ◌∷◌, ◌++◌, append_assoc}
 use mathlib.Core.Path.{◌≡◌, refl, sym, ap, ◌∙◌}
-use Rattle.plain.specs.Lists.{if◌then◌else◌, ◌is◌, ◌is_not◌, some, first}
+use Rattle.plain.specs.Lists.{◌is◌, ◌is_not◌, some, first}
 use Rattle.plain.proofs.Lists.{each_none}
 use Rattle.rulebook.specs.Names.{field_names, refusal_names, name_from1}
 use Rattle.rulebook.specs.Record.{no_form, unused_not_zero, used_out_of_range, fields_of, fields_in, order_of, field_tests, read_of, read_refusal, write_refusal}

@@ -1,6 +1,6 @@
 -- The lines of rows (RULES 17.4, 17.5): what a posting row and a notice say in words.
-use Rattle.std.specs.Prelude.{ℕ, ◌/◌, ◌%◌, List, [], ◌∷◌, ◌++◌}
-use Rattle.plain.specs.Lists.{if◌then◌else◌, ◌is◌}
+use Rattle.std.specs.Prelude.{if◌then◌else◌, ℕ, ◌/◌, ◌%◌, List, [], ◌∷◌, ◌++◌}
+use Rattle.plain.specs.Lists.{◌is◌}
 use Rattle.rulebook.specs.declared.Notice.{Notice}
 use Rattle.rulebook.specs.declared.Posting.{Posting}
 use Rattle.text.specs.Text.{text}

@@ -1,10 +1,11 @@
 -- Each form allows the types and pairs of specs/AdmittedTypes, and no others: lists that the rows make, compared with those that are written out there.
 -- Assumes nothing.
+use Rattle.std.specs.Prelude.{if◌then◌else◌}
 use mathlib.Core.Path.{◌≡◌, refl, sym, ap, ◌∙◌}
 use mathlib.Core.Bool.{Bool, true, false, not, ◌&&◌, ◌||◌, beq, or-false, and_assoc}
 use mathlib.Core.List.{List, [], ◌∷◌, map}
 use Prim.Native.Nat.{ℕ}
-use Rattle.plain.specs.Lists.{if◌then◌else◌, ◌is◌, ◌one_of◌, some}
+use Rattle.plain.specs.Lists.{◌is◌, ◌one_of◌, some}
 use Rattle.plain.proofs.Lists.{each_same, none_of}
 use Rattle.plain.proofs.Tests.{neither}
 use Rattle.rulebook.specs.TypeTable.{free, pledged, blocked, in_transit, outside, pledged_as, blocked_as, on_paper_as, TypeRow, type_table, empty_row, type_row}

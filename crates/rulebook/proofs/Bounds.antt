@@ -1,4 +1,5 @@
 -- What the premise says of each number that a book keeps. Assumes nothing.
+use Rattle.std.specs.Prelude.{if◌then◌else◌}
 use mathlib.Core.Path.{◌≡◌, refl, subst}
 use mathlib.Core.Bool.{Bool, true, false, false≢true}
 use mathlib.Core.List.{List, [], ◌∷◌}
@@ -7,7 +8,7 @@ use native.Mathlib.Decide.{ℕ_discrete}
 use native.Mathlib.Omega.{arith}
 use borrow.Author.Tests.{eqb-true, eq-eqb}
 use Rattle.rulebook.specs.declared.Security.{Security}
-use Rattle.plain.specs.Lists.{if◌then◌else◌, ◌is◌, some, total, sum_below, Each}
+use Rattle.plain.specs.Lists.{◌is◌, some, total, sum_below, Each}
 use Rattle.plain.proofs.Lists.{each_so, each_both}
 use Rattle.rulebook.specs.Ledger.{Holdings, Ledger, issued_of, outside_of, held_of, cash_total, held}
 use Rattle.rulebook.specs.declared.Account.{Account}

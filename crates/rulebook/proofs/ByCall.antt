@@ -1,4 +1,5 @@
 -- From the effect of each form to lists of calls: what a claim of demand 3 has to show is its step, one form at a time. Assumes nothing.
+use Rattle.std.specs.Prelude.{if◌then◌else◌}
 use mathlib.Core.Path.{◌≡◌, refl, ap, subst}
 use mathlib.Core.Bool.{Bool, true, false, ◌||◌}
 use mathlib.Core.List.{List, [], ◌∷◌}
@@ -12,7 +13,7 @@ use Rattle.plain.proofs.Tests.{neither}
 use Rattle.rulebook.specs.declared.Order.{Order}
 use Rattle.rulebook.specs.declared.Day.{Day}
 use Rattle.rulebook.specs.declared.Read.{Read}
-use Rattle.plain.specs.Lists.{if◌then◌else◌, ◌is◌, ◌below◌, total, first}
+use Rattle.plain.specs.Lists.{◌is◌, ◌below◌, total, first}
 use Rattle.plain.proofs.Lists.{total-append}
 use Rattle.rulebook.specs.Ledger.{Ledger}
 use Rattle.rulebook.specs.Record.{read_of}

@@ -1,4 +1,5 @@
 -- The premise at an index of the book's lists, as code reads them. Assumes nothing.
+use Rattle.std.specs.Prelude.{if◌then◌else◌}
 use mathlib.Core.Path.{◌≡◌, refl, sym, ap, ◌∙◌}
 use mathlib.Core.Bool.{Bool, true}
 use mathlib.Core.List.{List, [], ◌∷◌, ◌++◌}
@@ -8,7 +9,7 @@ use lib.ListN.{length, get_or, take, drop, set, take-append-drop}
 use lib.Seq.{drop-cons, set_split}
 use Rattle.rulebook.specs.declared.Item.{Item}
 use Rattle.rulebook.specs.declared.Security.{Security}
-use Rattle.plain.specs.Lists.{if◌then◌else◌, total, Each}
+use Rattle.plain.specs.Lists.{total, Each}
 use Rattle.rulebook.specs.Ledger.{Ledger}
 use Rattle.rulebook.specs.Waiting.{sent_by, marked, both_marked, marking, cancelled, staying}
 use Rattle.rulebook.specs.Premise.{SecurityFits, ItemFits, today, Premise}

@@ -1,10 +1,11 @@
 -- What a cancel does to the one item of that sender's reference, in a book that meets the premise. Assumes nothing.
+use Rattle.std.specs.Prelude.{if◌then◌else◌}
 use mathlib.Core.Path.{◌≡◌, refl, ap, subst, ◌∙◌}
 use mathlib.Core.Bool.{Bool, true, false, not}
 use mathlib.Core.List.{List, [], ◌∷◌, ◌++◌}
 use Prim.Native.Nat.{ℕ, ◌≤◌}
 use Rattle.rulebook.specs.declared.Item.{Item}
-use Rattle.plain.specs.Lists.{if◌then◌else◌, keep, Each}
+use Rattle.plain.specs.Lists.{keep, Each}
 use Rattle.rulebook.specs.Ledger.{Ledger}
 use Rattle.rulebook.specs.Waiting.{sent_by, marked, both_marked, marking, cancelled, staying}
 use Rattle.rulebook.specs.Premise.{sent, Premise}

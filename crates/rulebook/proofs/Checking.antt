@@ -1,11 +1,12 @@
 -- A checking order: what the first number of a list of numbered tests says. Assumes nothing.
+use Rattle.std.specs.Prelude.{if◌then◌else◌}
 use mathlib.Core.Path.{◌≡◌, refl, sym, ◌∙◌}
 use mathlib.Core.Bool.{Bool, true, false}
 use mathlib.Core.List.{List, [], ◌∷◌, ◌++◌}
 use Prim.Native.Nat.{ℕ, ◌≤◌}
 use native.Mathlib.Omega.{arith}
 use borrow.Author.Tests.{ne_eqb}
-use Rattle.plain.specs.Lists.{if◌then◌else◌, ◌is◌, first}
+use Rattle.plain.specs.Lists.{◌is◌, first}
 use Rattle.rulebook.specs.Ledger.{Holdings, Requests}
 use Rattle.rulebook.specs.Refusals.{day_tests, order_tests, item_tests, request_tests}
 use Rattle.rulebook.specs.declared.Day.{Day}

@@ -1,11 +1,12 @@
 -- A call's answer is the first of all its checks that applies. Assumes nothing.
+use Rattle.std.specs.Prelude.{if◌then◌else◌}
 use mathlib.Core.Path.{◌≡◌, refl, sym, ◌∙◌}
 use mathlib.Core.Bool.{Bool, true, false}
 use mathlib.Core.List.{List, ◌++◌}
 use Prim.Native.Nat.{ℕ}
 use native.Mathlib.Omega.{arith}
 use borrow.Author.Tests.{eqb-true}
-use Rattle.plain.specs.Lists.{if◌then◌else◌, ◌is◌, first}
+use Rattle.plain.specs.Lists.{◌is◌, first}
 use Rattle.rulebook.specs.Ledger.{Ledger}
 use Rattle.rulebook.specs.Record.{read_tests, read_refusal, read_of, order_of, fields_in}
 use Rattle.rulebook.specs.Refusals.{refusals}

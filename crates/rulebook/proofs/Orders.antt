@@ -1,4 +1,5 @@
 -- What is known of an order that was read, and of one that no test refuses. Assumes nothing.
+use Rattle.std.specs.Prelude.{if◌then◌else◌}
 use mathlib.Core.Path.{◌≡◌, refl, sym, ap, subst}
 use mathlib.Core.Bool.{Bool, true, false, not, ◌&&◌, ◌||◌, false≢true}
 use mathlib.Core.List.{List, [], ◌∷◌, ◌++◌}
@@ -12,7 +13,7 @@ use borrow.Author.Tests.{eqb-true, eqb-false, leb-true, leb-false, ltb-false, no
 use Rattle.bits.specs.Bits.{leading, field}
 use Rattle.rulebook.specs.declared.Order.{Order}
 use Rattle.rulebook.specs.declared.Read.{Read}
-use Rattle.plain.specs.Lists.{if◌then◌else◌, ◌is◌, ◌is_not◌, ◌below◌, ◌at_most◌, ◌one_of◌, within, some, first}
+use Rattle.plain.specs.Lists.{◌is◌, ◌is_not◌, ◌below◌, ◌at_most◌, ◌one_of◌, within, some, first}
 use Rattle.rulebook.specs.AccountTypes.{ends, wrong_types}
 use Rattle.rulebook.specs.Field as Field
 use Rattle.rulebook.specs.Field.{places, widths, ceiling, always, rule_in}

@@ -1,11 +1,12 @@
 -- What movements do to each place that a book keeps: they add what they bring, then take what they take. Assumes nothing.
+use Rattle.std.specs.Prelude.{if◌then◌else◌}
 use mathlib.Core.Path.{◌≡◌, refl, sym, ap, subst, ◌∙◌}
 use mathlib.Core.Bool.{Bool, true, false, ◌&&◌, false≢true}
 use mathlib.Core.List.{List, [], ◌∷◌}
 use Prim.Native.Nat.{ℕ, ◌+◌, ◌-◌, ◌≤◌}
 use native.Mathlib.Omega.{arith}
 use borrow.Author.Tests.{eqb-true, eqb-false, ne_eqb}
-use Rattle.plain.specs.Lists.{if◌then◌else◌, ◌is◌, total}
+use Rattle.plain.specs.Lists.{◌is◌, total}
 use Rattle.plain.proofs.Tests.{both}
 use Rattle.rulebook.specs.Ledger.{Holdings, same_account, outside_of, put_balance, put_cash, put_securities, put_outside, put_held, with_outside, with_held}
 use Rattle.rulebook.specs.declared.Account.{Account}

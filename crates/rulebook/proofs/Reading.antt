@@ -1,4 +1,5 @@
 -- Rows that are written are read back, and posting rows count for the places of their movements. Assumes nothing.
+use Rattle.std.specs.Prelude.{if◌then◌else◌}
 use mathlib.Core.Path.{◌≡◌, refl, ap, ap₂, ◌∙◌}
 use mathlib.Core.Bool.{false, ◌&&◌, ◌||◌}
 use mathlib.Core.List.{List, [], ◌∷◌, ◌++◌, append_assoc, append-nil}
@@ -9,7 +10,7 @@ use lib.Dec.{lit<}
 use lib.ListN.{length}
 use lib.Seq.{take_at, drop_at}
 use Rattle.plain.proofs.Tests.{neither}
-use Rattle.plain.specs.Lists.{if◌then◌else◌, ◌is◌, ◌one_of◌, total}
+use Rattle.plain.specs.Lists.{◌is◌, ◌one_of◌, total}
 use Rattle.bits.specs.Layout.{pack, cut, Fit}
 use Rattle.bits.proofs.Numbers.{length_bytes}
 use Rattle.bits.proofs.Packing.{values_back}

@@ -1,11 +1,12 @@
 -- Held counts: movements with type 91 change that of their security by their number, and all others leave it. Assumes nothing.
+use Rattle.std.specs.Prelude.{if◌then◌else◌}
 use mathlib.Core.Path.{◌≡◌, refl, ap, ◌∙◌}
 use mathlib.Core.Bool.{Bool, true, false}
 use mathlib.Core.List.{List, [], ◌∷◌}
 use Prim.Native.Nat.{ℕ, ◌+◌, ◌-◌}
 use native.Mathlib.Omega.{arith}
 use borrow.Author.Tests.{eqb-true}
-use Rattle.plain.specs.Lists.{if◌then◌else◌, ◌is◌}
+use Rattle.plain.specs.Lists.{◌is◌}
 use Rattle.rulebook.specs.declared.Account.{Account}
 use Rattle.rulebook.specs.Ledger.{Holdings, put_balance, put_cash, put_securities, put_outside, put_held, with_outside, with_held, held_of}
 use Rattle.rulebook.specs.Movements.{account, type91, Movement, move, credits, debits, recounted, booked}

@@ -1,4 +1,5 @@
 -- What is proved of requests for paper. Assumes nothing.
+use Rattle.std.specs.Prelude.{if◌then◌else◌}
 use mathlib.Core.Path.{◌≡◌, refl, sym, ap, subst, ◌∙◌}
 use mathlib.Core.Bool.{Bool, true, false, not, ◌&&◌, false≢true, or-true}
 use mathlib.Core.List.{List, [], ◌∷◌}
@@ -6,7 +7,7 @@ use Prim.Native.Nat.{ℕ, zero, suc, ◌≤◌}
 use native.Mathlib.Omega.{arith}
 use borrow.Author.Tests.{eqb-true, ne_eqb, le-ltb, le-leb, not-true, not-false}
 use lib.ListN.{length}
-use Rattle.plain.specs.Lists.{if◌then◌else◌, ◌is◌, ◌at_most◌, some, first}
+use Rattle.plain.specs.Lists.{◌is◌, ◌at_most◌, some, first}
 use Rattle.plain.proofs.Lists.{some-append}
 use Rattle.plain.proofs.Tests.{both, neither, not-second}
 use Rattle.rulebook.specs.Ledger.{Ledger, Requests, fresh, request_account, put_day, put_request}

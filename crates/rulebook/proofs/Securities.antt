@@ -1,4 +1,5 @@
 -- Securities by their codes: their counts where one of them is changed, and issued counts, which no movement changes. Assumes nothing.
+use Rattle.std.specs.Prelude.{if◌then◌else◌}
 use mathlib.Core.Path.{◌≡◌, refl, sym, subst, ◌∙◌}
 use mathlib.Core.Bool.{Bool, true, false, false≢true, true≢false}
 use mathlib.Core.List.{List, [], ◌∷◌, ◌++◌, map}
@@ -7,7 +8,7 @@ use native.Mathlib.Omega.{arith}
 use borrow.Author.Tests.{eqb-true}
 use Rattle.rulebook.specs.declared.Security.{Security}
 use Rattle.rulebook.specs.declared.Shares.{Shares}
-use Rattle.plain.specs.Lists.{if◌then◌else◌, ◌is◌, some, total}
+use Rattle.plain.specs.Lists.{◌is◌, some, total}
 use Rattle.plain.proofs.Lists.{total-append, total-map}
 use Rattle.rulebook.specs.Ledger.{Holdings, issued_of, put_balance, put_cash, put_securities, put_outside, put_held, with_outside, with_held}
 use Rattle.rulebook.specs.Movements.{Movement, booked}

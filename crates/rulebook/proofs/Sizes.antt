@@ -1,4 +1,5 @@
 -- Part 1 of the premise: how large a book is, and the forms that never lack space. Assumes nothing.
+use Rattle.std.specs.Prelude.{if◌then◌else◌}
 use mathlib.Core.Path.{◌≡◌, refl, sym, subst, ◌∙◌}
 use mathlib.Core.Bool.{Bool, true, false, not, ◌||◌, false≢true}
 use mathlib.Core.List.{List, [], ◌∷◌, map}
@@ -9,7 +10,7 @@ use lib.ListN.{length, length-map}
 use Rattle.plain.proofs.Tests.{neither}
 use Rattle.rulebook.specs.declared.Item.{Item}
 use Rattle.rulebook.specs.declared.Order.{Order}
-use Rattle.plain.specs.Lists.{if◌then◌else◌, ◌is◌, ◌below◌, ◌one_of◌, total, keep}
+use Rattle.plain.specs.Lists.{◌is◌, ◌below◌, ◌one_of◌, total, keep}
 use Rattle.plain.proofs.Lists.{◌and◌, keep-length}
 use Rattle.rulebook.specs.Ledger.{Ledger, Holdings, fresh, counted, put_balance, put_cash, put_securities, put_outside, put_held, put_day, put_holdings, put_waiting, put_rate}
 use Rattle.rulebook.specs.Movements.{Place, account, type91, type90, cash_of, member0, Movement, credit, debit, credits, debits, booked}

@@ -1,4 +1,5 @@
 -- Refusal 18 as a test on the book before the call, for the forms that can lack space. Assumes nothing.
+use Rattle.std.specs.Prelude.{if◌then◌else◌}
 use mathlib.Core.Path.{◌≡◌, refl, sym, ap, ◌∙◌}
 use mathlib.Core.Bool.{Bool, true, false, not, ◌&&◌, ◌||◌, false≢true, and-true, and-false}
 use mathlib.Core.List.{List, [], ◌∷◌, ◌++◌}
@@ -11,7 +12,7 @@ use Rattle.rulebook.specs.declared.Order.{Order}
 use Rattle.rulebook.specs.declared.Request.{Request}
 use Rattle.rulebook.specs.declared.Security.{Security}
 use Rattle.rulebook.specs.declared.State.TheVariants.{Trade}
-use Rattle.plain.specs.Lists.{if◌then◌else◌, ◌is◌, ◌is_not◌, ◌below◌, ◌one_of◌, some}
+use Rattle.plain.specs.Lists.{◌is◌, ◌is_not◌, ◌below◌, ◌one_of◌, some}
 use Rattle.rulebook.specs.TypeTable.{requested}
 use Rattle.rulebook.specs.AccountTypes.{ends, is_outside}
 use Rattle.rulebook.specs.Ledger.{Ledger, Holdings, account_of, request_account, same_account, counted, put_balance, put_securities, put_outside, put_held, put_holdings, put_waiting, put_requests, new_security}

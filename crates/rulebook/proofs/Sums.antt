@@ -1,4 +1,5 @@
 -- What movements do to the sums that a book has: the shares held of a security, and a currency's total over all members. Assumes nothing.
+use Rattle.std.specs.Prelude.{if◌then◌else◌}
 use mathlib.Core.Path.{◌≡◌, refl, sym, ap₂, subst, ◌∙◌}
 use mathlib.Core.Logic.{◌≢◌}
 use mathlib.Core.Bool.{Bool, true, false, ◌&&◌, and-false}
@@ -6,7 +7,7 @@ use mathlib.Core.List.{List, [], ◌∷◌}
 use Prim.Native.Nat.{ℕ, ◌+◌, ◌-◌, ◌≤◌, ◌<◌, ◌^◌}
 use native.Mathlib.Omega.{arith}
 use borrow.Author.Tests.{eqb-true, eqb-false, eq-eqb, ne_eqb}
-use Rattle.plain.specs.Lists.{if◌then◌else◌, ◌is◌, total, sum_below}
+use Rattle.plain.specs.Lists.{◌is◌, total, sum_below}
 use Rattle.plain.proofs.Sums.{sum_same, sum-none, sum-add, sum-differs}
 use Rattle.rulebook.specs.Ledger.{Holdings, fresh, same_account, put_balance, cash_total, held}
 use Rattle.rulebook.specs.declared.Account.{Account}

@@ -1,4 +1,5 @@
 -- What is proved of the definitions, whole. Assumes nothing.
+use Rattle.std.specs.Prelude.{if◌then◌else◌}
 use Prim.Native.Nat.{ℕ, ◌≤◌}
 use mathlib.Core.Bool.{Bool, true, false}
 use mathlib.Core.List.{List, [], ◌∷◌}
@@ -9,7 +10,7 @@ use lib.ListN.{length, take, drop}
 use lib.Seq.{take_at, take-append-le}
 use Rattle.bits.proofs.Numbers.{length_bytes}
 use Rattle.bits.specs.Bits.{bytes}
-use Rattle.plain.specs.Lists.{if◌then◌else◌, ◌is◌}
+use Rattle.plain.specs.Lists.{◌is◌}
 use Rattle.bits.specs.Layout.{pack}
 use Rattle.rulebook.specs.Field.{widths}
 use Rattle.rulebook.specs.Record.{fields_of, read_of, record_of, write_refusal, written_of, area_written}

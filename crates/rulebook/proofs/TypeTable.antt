@@ -1,10 +1,11 @@
 -- From the rows of the table of types to every type: what is computed of each row holds of the row of any number. Assumes nothing.
+use Rattle.std.specs.Prelude.{if◌then◌else◌}
 use mathlib.Core.Path.{◌≡◌, refl, sym, subst, ◌∙◌}
 use mathlib.Core.Bool.{Bool, true, false, not, ◌&&◌, true≢false, false≢true}
 use mathlib.Core.List.{List, [], ◌∷◌, map}
 use Prim.Native.Nat.{ℕ}
 use borrow.Author.Tests.{eqb-true, not-false}
-use Rattle.plain.specs.Lists.{if◌then◌else◌, ◌is◌, ◌one_of◌, some, Each}
+use Rattle.plain.specs.Lists.{◌is◌, ◌one_of◌, some, Each}
 use Rattle.plain.proofs.Lists.{each_none, one_of_lem}
 use Rattle.plain.proofs.Tests.{neither}
 use Rattle.rulebook.specs.TypeTable.{TypeRow, type_table, empty_row, row_in, type_row}

@@ -1,6 +1,6 @@
 -- Lists of calls, and what holds after every such list (RULES 12).
-use Rattle.std.specs.Prelude.{ℕ, zero, suc, ◌+◌, Bool, false, not, ◌&&◌, List, [], ◌∷◌, ◌++◌, ◌≡◌, take, drop, T}
-use Rattle.plain.specs.Lists.{if◌then◌else◌, ◌is◌, ◌is_not◌, ◌one_of◌, total}
+use Rattle.std.specs.Prelude.{if◌then◌else◌, ℕ, zero, suc, ◌+◌, Bool, false, not, ◌&&◌, List, [], ◌∷◌, ◌++◌, ◌≡◌, take, drop, T}
+use Rattle.plain.specs.Lists.{◌is◌, ◌is_not◌, ◌one_of◌, total}
 use Rattle.rulebook.specs.AccountTypes.{pledged_or_blocked, is_outside}
 use Rattle.rulebook.specs.Record.{read_of}
 use Rattle.rulebook.specs.Ledger.{Ledger, fresh, account_of, same_account, issued_of, outside_of, cash_total, held}

@@ -1,6 +1,6 @@
 -- The fields of a record: their places, their widths, and what a form may say of a field (RULES 2.1 to 2.4).
-use Rattle.std.specs.Prelude.{ℕ, ◌-◌, ◌^◌, List, [], ◌∷◌, ◌++◌, get_or}
-use Rattle.plain.specs.Lists.{if◌then◌else◌, ◌is◌, ◌is_not◌, ◌one_of◌, keep}
+use Rattle.std.specs.Prelude.{if◌then◌else◌, ℕ, ◌-◌, ◌^◌, List, [], ◌∷◌, ◌++◌, get_or}
+use Rattle.plain.specs.Lists.{◌is◌, ◌is_not◌, ◌one_of◌, keep}
 
 -- RULES 2.1: the places of the fields, one behind the other
 abbrev pub form : ℕ

@@ -1,6 +1,6 @@
 -- The book (RULES 3), and the day (RULES 4).
-use Rattle.std.specs.Prelude.{ℕ, ◌+◌, ◌-◌, ◌^◌, Bool, true, false, ◌&&◌, List, [], map}
-use Rattle.plain.specs.Lists.{if◌then◌else◌, ◌is◌, some, total, sum_below}
+use Rattle.std.specs.Prelude.{if◌then◌else◌, ℕ, ◌+◌, ◌-◌, ◌^◌, Bool, true, false, ◌&&◌, List, [], map}
+use Rattle.plain.specs.Lists.{◌is◌, some, total, sum_below}
 use Rattle.rulebook.specs.declared.Party.{Party}
 use Rattle.rulebook.specs.declared.Account.{Account}
 use Rattle.rulebook.specs.declared.Day.{Day}

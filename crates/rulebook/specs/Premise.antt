@@ -1,6 +1,6 @@
 -- What the fresh book meets and every call keeps, as `Theorems` says: the one premise of a call, which no caller has to show (RULES 12.15 to 12.17).
-use Rattle.std.specs.Prelude.{ℕ, ◌+◌, ◌≤◌, ◌<◌, ◌^◌, Bool, true, false, not, ◌||◌, List, ◌≡◌, length}
-use Rattle.plain.specs.Lists.{if◌then◌else◌, ◌is◌, total, Each, sum_below}
+use Rattle.std.specs.Prelude.{if◌then◌else◌, ℕ, ◌+◌, ◌≤◌, ◌<◌, ◌^◌, Bool, true, false, not, ◌||◌, List, ◌≡◌, length}
+use Rattle.plain.specs.Lists.{◌is◌, total, Each, sum_below}
 use Rattle.rulebook.specs.TypeTable.{requested}
 use Rattle.rulebook.specs.AccountTypes.{is_free, alike, account_type, has_paper}
 use Rattle.rulebook.specs.Ledger.{Holdings, Ledger, Requests, account_of, same_account, counted, admitted, issued_of, outside_of, held_of, asked_of, cash_total, held}

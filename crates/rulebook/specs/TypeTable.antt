@@ -1,7 +1,7 @@
 -- The table of account types (RULES 5.1): one row says all that the rules know of a type.
-use Rattle.std.specs.Prelude.{ℕ, Bool, true, false, List, [], ◌∷◌}
+use Rattle.std.specs.Prelude.{if◌then◌else◌, ℕ, Bool, true, false, List, [], ◌∷◌}
 use Prim.Native.String.{String}
-use Rattle.plain.specs.Lists.{if◌then◌else◌, ◌is◌}
+use Rattle.plain.specs.Lists.{◌is◌}
 
 -- the state of a type's shares; a type that is unused is allowed nowhere
 abbrev pub unused : ℕ

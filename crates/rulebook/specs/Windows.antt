@@ -1,6 +1,6 @@
 -- Windows: minutes of the day, both ends inside (RULES 4.7).
-use Rattle.std.specs.Prelude.{ℕ, Bool, List, [], ◌∷◌, length, get_or}
-use Rattle.plain.specs.Lists.{if◌then◌else◌, ◌is◌, ◌at_most◌}
+use Rattle.std.specs.Prelude.{if◌then◌else◌, ℕ, Bool, List, [], ◌∷◌, length, get_or}
+use Rattle.plain.specs.Lists.{◌is◌, ◌at_most◌}
 use Rattle.rulebook.specs.declared.Day.{Day}
 use Rattle.rulebook.specs.declared.Order.{Order}
 

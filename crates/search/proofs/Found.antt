@@ -1,4 +1,5 @@
 -- What a search finds, place by place, and what is known of what it found. Assumes nothing.
+use Rattle.std.specs.Prelude.{if◌then◌else◌}
 use Prim.Native.Nat.{ℕ, suc, ◌+◌, ◌≤◌, ◌<◌}
 use mathlib.Core.Path.{◌≡◌, refl, sym, ◌∙◌}
 use mathlib.Core.Bool.{Bool, true, false, not, ◌||◌}
@@ -7,7 +8,7 @@ use native.Mathlib.Numerals.{add-one}
 use native.Mathlib.Omega.{arith}
 use lib.ListN.{length, get_or, drop, drop_of_length-le}
 use lib.Seq.{drop-cons}
-use Rattle.plain.specs.Lists.{if◌then◌else◌, some}
+use Rattle.plain.specs.Lists.{some}
 use Rattle.words.specs.Places.{is_found}
 use Rattle.words.specs.declared.Found.TheVariants.{At, Nothing}
 use Rattle.search.specs.Place.{place_from, place_in}

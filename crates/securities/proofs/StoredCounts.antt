@@ -1,4 +1,5 @@
 -- Counts of a security are stored: one law for both columns, and an outside count with a held count. Assumes nothing.
+use Rattle.std.specs.Prelude.{if◌then◌else◌}
 use Prim.Native.Nat.{ℕ, ◌+◌, ◌≤◌, ◌<◌}
 use native.Mathlib.Decide.{ℕ_discrete}
 use native.Mathlib.Omega.{arith}
@@ -9,7 +10,7 @@ use mathlib.Core.Path.{◌≡◌, refl, sym, ap, ◌∙◌}
 use lib.ListN.{length, get_or, set, length-set}
 use lib.Seq.{get_or-set_same, get_or-set_other}
 use borrow.Author.Tests.{eq-eqb, ne_eqb}
-use Rattle.plain.specs.Lists.{if◌then◌else◌, ◌is◌, sum_below}
+use Rattle.plain.specs.Lists.{◌is◌, sum_below}
 use Rattle.plain.proofs.Sums.{sum_same}
 use Rattle.rulebook.specs.Ledger.{Holdings, put_securities, changing, with_outside, with_held, outside_of, held_of, put_outside, put_held}
 use Rattle.rulebook.specs.declared.Security.{Security}

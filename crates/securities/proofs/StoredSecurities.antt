@@ -1,10 +1,11 @@
 -- What is read of the securities' words. Assumes nothing.
+use Rattle.std.specs.Prelude.{if◌then◌else◌}
 use Prim.Native.Nat.{ℕ, ◌+◌, ◌<◌}
 use native.Mathlib.Omega.{arith}
 use mathlib.Core.List.{List}
 use mathlib.Core.Path.{◌≡◌, sym, ap, ◌∙◌}
 use lib.ListN.{length, get_or}
-use Rattle.plain.specs.Lists.{if◌then◌else◌, ◌is◌}
+use Rattle.plain.specs.Lists.{◌is◌}
 use Rattle.rulebook.specs.Ledger.{Holdings, admitted, outside_of, held_of}
 use Rattle.rulebook.specs.declared.Security.{Security}
 use Rattle.words.specs.Places.{is_found}

@@ -1,4 +1,5 @@
 -- The marked trades' movements, booked one trade after the other. Assumes nothing.
+use Rattle.std.specs.Prelude.{if◌then◌else◌}
 use Prim.Native.Nat.{ℕ, zero, suc, ◌+◌, ◌-◌}
 use native.Mathlib.Numerals.{add-one}
 use native.Mathlib.Omega.{arith}
@@ -6,7 +7,7 @@ use mathlib.Core.Bool.{Bool, true, false, not}
 use mathlib.Core.List.{List, [], ◌∷◌, ◌++◌, map}
 use mathlib.Core.Path.{◌≡◌, refl, ap, ◌∙◌}
 use borrow.Author.Tests.{eq-eqb}
-use Rattle.plain.specs.Lists.{if◌then◌else◌, keep, sum_below}
+use Rattle.plain.specs.Lists.{keep, sum_below}
 use Rattle.rulebook.specs.Ledger.{Holdings}
 use Rattle.rulebook.specs.Movements.{account, cash_of, Movement, credit, debit, credits, debits}
 use Rattle.rulebook.specs.Shortfall.{seller, buyer, brings, takes}

@@ -1,11 +1,12 @@
 -- The loops that book the marked trades: the book means the ledger with what the first i bring, or take. Assumes nothing.
+use Rattle.std.specs.Prelude.{if◌then◌else◌}
 use Prim.Native.Nat.{ℕ, ◌+◌, ◌*◌, ◌^◌, ◌≤◌, ◌<◌}
 use native.Mathlib.Omega.{arith}
 use mathlib.Core.Bool.{Bool, true, false, ◌&&◌}
 use mathlib.Core.List.{List, [], ◌∷◌}
 use mathlib.Core.Path.{◌≡◌, refl, sym, ap, subst, ◌∙◌}
 use lib.ListN.{length}
-use Rattle.plain.specs.Lists.{if◌then◌else◌, ◌is◌, total, sum_below}
+use Rattle.plain.specs.Lists.{◌is◌, total, sum_below}
 use Rattle.plain.proofs.Sums.{sum-last, sum-grows}
 use Rattle.rulebook.specs.Ledger.{Ledger, Holdings, same_account, put_holdings}
 use Rattle.rulebook.specs.Movements.{Place, account, cash_of, Movement, credits, debits}

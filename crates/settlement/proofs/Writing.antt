@@ -1,4 +1,5 @@
 -- The marked trades' rows in the area, one trade's behind the other's. Assumes nothing.
+use Rattle.std.specs.Prelude.{if◌then◌else◌}
 use Prim.Native.Nat.{ℕ, ◌+◌, ◌-◌, ◌*◌, ◌≤◌, ◌<◌}
 use native.Mathlib.Omega.{arith}
 use mathlib.Core.Bool.{Bool, true, false}
@@ -6,7 +7,7 @@ use mathlib.Core.List.{List, [], ◌∷◌, ◌++◌, append-nil}
 use mathlib.Core.Path.{◌≡◌, refl, sym, ap, subst, ◌∙◌}
 use lib.ListN.{length, drop, length-append, length-drop}
 use borrow.Rule.Slice.PartMut.{mid_of, put_mid}
-use Rattle.plain.specs.Lists.{if◌then◌else◌, sum_below}
+use Rattle.plain.specs.Lists.{sum_below}
 use Rattle.plain.proofs.Sums.{sum-last}
 use Rattle.rulebook.specs.Ledger.{Ledger}
 use Rattle.rulebook.specs.Movements.{Movement, account, cash_of, move}

@@ -1,4 +1,5 @@
 -- Records that are called one after the other, and a walk over those of a file from a place on. Assumes nothing.
+use Rattle.std.specs.Prelude.{if◌then◌else◌}
 use Prim.Native.Nat.{ℕ, ◌+◌, ◌-◌, ◌*◌, ◌≤◌, ◌<◌}
 use native.Mathlib.Omega.{arith}
 use mathlib.Core.Bool.{Bool, true, false}
@@ -6,7 +7,7 @@ use mathlib.Core.List.{List, [], ◌∷◌, ◌++◌, append_assoc, append-nil}
 use mathlib.Core.Path.{◌≡◌, refl, sym, ap, ◌∙◌, subst}
 use lib.ListN.{length, take, drop, length-append}
 use borrow.Author.Tests.{ltb-false}
-use Rattle.plain.specs.Lists.{if◌then◌else◌, ◌below◌}
+use Rattle.plain.specs.Lists.{◌below◌}
 use Rattle.rulebook.specs.Call.{Result, answer_rows, call_of}
 use Rattle.rulebook.specs.Forms.{row_of}
 use Rattle.rulebook.specs.Ledger.{Ledger}

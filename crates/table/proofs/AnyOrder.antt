@@ -1,4 +1,5 @@
 -- The order of the columns changes nothing: two neighbours change places in the first line and in every other. Assumes nothing.
+use Rattle.std.specs.Prelude.{if◌then◌else◌}
 use Prim.Native.Nat.{ℕ, zero, suc, ◌+◌, ◌≤◌}
 use native.Mathlib.Omega.{arith}
 use mathlib.Core.Bool.{Bool, true, false, ◌&&◌, and-false, true≢false}
@@ -8,7 +9,7 @@ use borrow.Author.Tests.{ne_eqb, eqb-true}
 use lib.Dec.{eqb}
 use lib.ListN.{length}
 use lib.Seq.{set_comm}
-use Rattle.plain.specs.Lists.{if◌then◌else◌, ◌is◌, total}
+use Rattle.plain.specs.Lists.{◌is◌, total}
 use Rattle.plain.proofs.Lists.{length_total}
 use Rattle.rulebook.specs.Field.{form, minute}
 use Rattle.rulebook.specs.declared.Order.{Order}

@@ -1,4 +1,5 @@
 -- The table of some orders imports as these orders. Assumes nothing.
+use Rattle.std.specs.Prelude.{if◌then◌else◌}
 use Prim.Native.Nat.{ℕ, zero, suc, ◌+◌, ◌-◌, ◌*◌, ◌%◌, ◌^◌, ◌≤◌, ◌<◌}
 use native.Mathlib.Omega.{arith}
 use mathlib.Core.Bool.{Bool, true, false}
@@ -9,7 +10,7 @@ use lib.Dec.{eqb, leb}
 use lib.ListN.{length, set, replicate, take, drop, length-append}
 use lib.Pow.{pow_mono}
 use Rattle.bits.specs.Layout.{Fit}
-use Rattle.plain.specs.Lists.{if◌then◌else◌, ◌is◌, ◌below◌, some, Each, first}
+use Rattle.plain.specs.Lists.{◌is◌, ◌below◌, some, Each, first}
 use Rattle.plain.proofs.Tests.{both}
 use Rattle.plain.proofs.Lists.{each_none, each_so, each_append}
 use Rattle.rulebook.specs.Field.{widths}

@@ -1,4 +1,5 @@
 -- What the columns of an accepted first line are, and what an accepted line puts into the fields. Assumes nothing.
+use Rattle.std.specs.Prelude.{if◌then◌else◌}
 use Prim.Native.Nat.{ℕ, zero, suc, ◌+◌, ◌≤◌, ◌<◌}
 use native.Mathlib.Omega.{arith}
 use mathlib.Core.Bool.{Bool, true, false, not}
@@ -8,7 +9,7 @@ use borrow.Author.Tests.{ne_eqb, eqb-false, eqb-true, leb-false, lt-leb, ltb-tru
 use lib.Dec.{eqb}
 use lib.ListN.{length, get_or, set, replicate, length-append, length-set}
 use lib.Seq.{get_or-set_same, get_or-set_other}
-use Rattle.plain.specs.Lists.{if◌then◌else◌, ◌is◌, ◌one_of◌, ◌at_most◌, first, Each}
+use Rattle.plain.specs.Lists.{◌is◌, ◌one_of◌, ◌at_most◌, first, Each}
 use Rattle.plain.proofs.Lists.{total-append}
 use Rattle.rulebook.specs.Field.{form, minute}
 use Rattle.rulebook.specs.Names.{field_names}

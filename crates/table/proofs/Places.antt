@@ -1,4 +1,5 @@
 -- How often a number stands in a list of places. Assumes nothing.
+use Rattle.std.specs.Prelude.{if◌then◌else◌}
 use Prim.Native.Nat.{ℕ, zero, suc, ◌+◌, ◌<◌}
 use native.Mathlib.Omega.{arith}
 use mathlib.Core.Bool.{Bool, true, false, ◌||◌}
@@ -6,7 +7,7 @@ use mathlib.Core.List.{List, [], ◌∷◌}
 use mathlib.Core.Path.{◌≡◌, refl, sym}
 use borrow.Author.Tests.{eq-eqb, lt-ltb}
 use lib.ListN.{length, get_or}
-use Rattle.plain.specs.Lists.{if◌then◌else◌, ◌is◌, ◌one_of◌, ◌below◌, total}
+use Rattle.plain.specs.Lists.{◌is◌, ◌one_of◌, ◌below◌, total}
 
 abbrev pub times : ℕ → List ℕ → ℕ
 times n places = total (λ place. if n is place then 1 else 0) places

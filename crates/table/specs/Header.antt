@@ -1,6 +1,6 @@
 -- The first line of a table: the field of each column, by its name alone.
-use Rattle.std.specs.Prelude.{ℕ, ◌+◌, ◌<◌, ◌≤◌, not, List, [], ◌∷◌, ◌++◌, ◌≡◌, length, get_or, take}
-use Rattle.plain.specs.Lists.{if◌then◌else◌, ◌is◌, ◌at_most◌, ◌one_of◌}
+use Rattle.std.specs.Prelude.{if◌then◌else◌, ℕ, ◌+◌, ◌<◌, ◌≤◌, not, List, [], ◌∷◌, ◌++◌, ◌≡◌, length, get_or, take}
+use Rattle.plain.specs.Lists.{◌is◌, ◌at_most◌, ◌one_of◌}
 use Rattle.rulebook.specs.Field.{form, minute}
 use Rattle.names.specs.Numbers.{field_place}
 use Rattle.cells.specs.Kinds.{too_many_columns, unknown_name, repeated_name, form_missing, minute_missing, empty_cell, empty_line}

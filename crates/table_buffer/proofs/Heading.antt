@@ -1,4 +1,5 @@
 -- The first line of a table of which the first bytes are known. Assumes nothing.
+use Rattle.std.specs.Prelude.{if◌then◌else◌}
 use Prim.Native.Nat.{ℕ, suc, ◌+◌, ◌-◌, ◌≤◌, ◌<◌}
 use native.Mathlib.Omega.{arith}
 use mathlib.Core.Bool.{Bool, true, false, false≢true}
@@ -8,7 +9,6 @@ use borrow.Author.Tests.{ltb-true, ltb-false}
 use lib.Dec.{eqb, ltb}
 use lib.ListN.{length, take, drop, length-drop, drop_of_length-le}
 use lib.Seq.{take-append-le, drop-append-le, drop-drop, take_all}
-use Rattle.plain.specs.Lists.{if◌then◌else◌}
 use Rattle.text.specs.Parts.{line_feed, up_to, joined, same_text}
 use Rattle.cells.specs.Kinds.{no_header, long_line}
 use Rattle.cells.specs.Cells.{lines_of}

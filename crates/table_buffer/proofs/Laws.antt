@@ -1,4 +1,5 @@
 -- The lines of bytes that are read in blocks. Assumes nothing.
+use Rattle.std.specs.Prelude.{if◌then◌else◌}
 use Prim.Native.Nat.{ℕ, suc, ◌+◌, ◌-◌, ◌*◌, ◌≤◌, ◌<◌}
 use native.Mathlib.Omega.{arith}
 use native.Mathlib.Numerals.{add-one}
@@ -8,7 +9,6 @@ use mathlib.Core.Path.{◌≡◌, refl, sym, ap, subst, ◌∙◌}
 use lib.Dec.{eqb, ltb}
 use lib.ListN.{length, take, drop, set, length-append, length-drop, length-set}
 use lib.Seq.{drop-append-le, drop-drop, take-add, take-suc-set, drop_at, length-take-le}
-use Rattle.plain.specs.Lists.{if◌then◌else◌}
 use Rattle.text.specs.Parts.{line_feed, up_to, joined}
 use Rattle.cells.specs.Cells.{onto, lines_of, whole_lines, tail_of, is_empty, front}
 use Rattle.table.specs.Lines.Imported.{refused_at, orders}

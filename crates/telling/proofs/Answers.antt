@@ -1,4 +1,5 @@
 -- Lengths as a number, and what is told behind them. Assumes nothing.
+use Rattle.std.specs.Prelude.{if◌then◌else◌}
 use Prim.Native.Nat.{ℕ, ◌≤◌, ◌<◌}
 use mathlib.Core.Path.{◌≡◌, refl, sym, ap, ◌∙◌}
 use mathlib.Core.Bool.{Bool, true, false, not}
@@ -7,7 +8,6 @@ use native.Mathlib.Omega.{arith}
 use lib.Dec.{eqb}
 use lib.ListN.{length, get_or, set}
 use borrow.Author.Tests.{eq-eqb, ne_eqb, eqb-true, lt-ltb, le-ltb}
-use Rattle.plain.specs.Lists.{if◌then◌else◌}
 use Rattle.book.specs.Meaning.{book_length}
 use Rattle.telling.specs.Told.{wrong_book, wrong_values, no_such_place, lengths_number, Tells, place_number, TellsAt}
 

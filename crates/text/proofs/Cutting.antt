@@ -1,4 +1,5 @@
 -- A text cut at a mark, and texts compared, one place after the other. Assumes nothing.
+use Rattle.std.specs.Prelude.{if◌then◌else◌}
 use Prim.Native.Nat.{ℕ, suc, ◌+◌, ◌-◌, ◌≤◌, ◌<◌}
 use native.Mathlib.Omega.{arith}
 use native.Mathlib.Numerals.{add-one}
@@ -9,7 +10,7 @@ use borrow.Author.Tests.{eq-eqb, ne_eqb, ltb-true, ltb-false, lt-leb, le-leb}
 use lib.Dec.{eqb, ltb}
 use lib.ListN.{length, get_or, take, drop, length-drop, drop_of_length-le}
 use lib.Seq.{drop-cons, drop-drop, take_all}
-use Rattle.plain.specs.Lists.{if◌then◌else◌, ◌at_most◌}
+use Rattle.plain.specs.Lists.{◌at_most◌}
 use Rattle.text.specs.Parts.{up_to, joined, split, same_text, place_in}
 
 -- a byte and what follows it

@@ -1,4 +1,5 @@
 -- A number's decimal digits: by their last one, how many there are, that they read back as the number, and no leading zero. Assumes nothing.
+use Rattle.std.specs.Prelude.{if◌then◌else◌}
 use Prim.Native.Nat.{ℕ, zero, suc, ◌+◌, ◌-◌, ◌*◌, ◌/◌, ◌%◌, ◌^◌, ◌≤◌, ◌<◌}
 use native.Mathlib.Nat.{pow-suc, div-lt_iff_lt-mul}
 use native.Mathlib.Omega.{arith}
@@ -7,7 +8,7 @@ use mathlib.Core.List.{List, [], ◌∷◌, ◌++◌}
 use mathlib.Core.Path.{◌≡◌, refl, sym, ap, ◌∙◌}
 use lib.ListN.{length, get_or, length-append}
 use borrow.Author.Tests.{lt-ltb, le-ltb, ltb-true, ltb-false}
-use Rattle.plain.specs.Lists.{if◌then◌else◌, ◌below◌}
+use Rattle.plain.specs.Lists.{◌below◌}
 use Rattle.text.specs.Text.{digit, digits, decimal}
 
 -- what holds of one digit, and with those before the last of all, holds of a number's digits

@@ -1,9 +1,9 @@
 -- Texts as bytes, numbers in decimal digits, and bytes put into a buffer.
-use Rattle.std.specs.Prelude.{ℕ, zero, suc, ◌+◌, ◌/◌, ◌%◌, ◌≤◌, List, [], ◌∷◌, ◌++◌, ◌≡◌, length, take, drop}
+use Rattle.std.specs.Prelude.{if◌then◌else◌, ℕ, zero, suc, ◌+◌, ◌/◌, ◌%◌, ◌≤◌, List, [], ◌∷◌, ◌++◌, ◌≡◌, length, take, drop}
 use Prim.Native.Char.{code}
 use Prim.Native.String.{String}
 use Prim.Native.String as Text
-use Rattle.plain.specs.Lists.{if◌then◌else◌, ◌below◌}
+use Rattle.plain.specs.Lists.{◌below◌}
 
 -- the bytes of a text of ASCII characters
 abbrev pub text : String → List ℕ

@@ -1,11 +1,12 @@
 -- What the words of the code's table say is what the rows of the rulebook's table say. Assumes nothing.
+use Rattle.std.specs.Prelude.{if◌then◌else◌}
 use mathlib.Core.Path.{◌≡◌, refl, sym, ap, ◌∙◌}
 use mathlib.Core.Bool.{Bool, true, false, not, ◌&&◌, and-false, true≢false}
 use mathlib.Core.List.{List, [], ◌∷◌, map}
 use Prim.Native.Nat.{ℕ, ◌^◌, ◌/◌, ◌%◌}
 use borrow.Author.Tests.{eqb-true, eq-eqb}
 use lib.Bits.{bit_and}
-use Rattle.plain.specs.Lists.{if◌then◌else◌, ◌is◌, ◌is_not◌, ◌one_of◌, some, keep}
+use Rattle.plain.specs.Lists.{◌is◌, ◌is_not◌, ◌one_of◌, some, keep}
 use Rattle.plain.proofs.Lists.{each_same}
 use Rattle.plain.proofs.Tests.{neither}
 use Rattle.rulebook.specs.TypeTable.{free, pledged_as, blocked_as, on_paper_as, TypeRow, type_table, empty_row, type_row}

@@ -1,6 +1,6 @@
 -- How the code has the table of account types: a row is a word.
-use Rattle.std.specs.Prelude.{ℕ, ◌+◌, ◌*◌, ◌^◌, ◌/◌, ◌%◌, Bool, ◌&&◌}
-use Rattle.plain.specs.Lists.{if◌then◌else◌, ◌is◌, ◌is_not◌, total}
+use Rattle.std.specs.Prelude.{if◌then◌else◌, ℕ, ◌+◌, ◌*◌, ◌^◌, ◌/◌, ◌%◌, Bool, ◌&&◌}
+use Rattle.plain.specs.Lists.{◌is◌, ◌is_not◌, total}
 use Rattle.rulebook.specs.TypeTable.{type_row}
 use Rattle.rulebook.specs.AccountTypes.{is_paper}
 

@@ -1,4 +1,5 @@
 -- What one word of a row already tells of its item: that it waits under no such reference, that it pairs with no such one. Assumes nothing.
+use Rattle.std.specs.Prelude.{if◌then◌else◌}
 use Prim.Native.Nat.{ℕ, ◌+◌, ◌*◌, ◌/◌, ◌%◌, ◌<◌}
 use mathlib.Core.Bool.{Bool, true, false, and-false}
 use mathlib.Core.List.{List}
@@ -7,7 +8,7 @@ use native.Mathlib.Omega.{arith}
 use borrow.Author.Tests.{ne_eqb}
 use lib.ListN.{get_or, drop}
 use lib.Seq.{get_or-take, get_or-drop}
-use Rattle.plain.specs.Lists.{if◌then◌else◌, ◌is◌}
+use Rattle.plain.specs.Lists.{◌is◌}
 use Rattle.rulebook.specs.Waiting.{is_deliver, is_receive, sent_by}
 use Rattle.rulebook.specs.Matching.{shared_terms, same_terms, agree, pairs_with}
 use Rattle.rulebook.specs.declared.Item.{Item}

@@ -1,4 +1,5 @@
 -- The least key of the first rows of a table: of none, of one more. Assumes nothing.
+use Rattle.std.specs.Prelude.{if◌then◌else◌}
 use Prim.Native.Nat.{ℕ, ◌+◌, ◌≤◌, ◌<◌}
 use native.Mathlib.Decide.{ℕ_discrete}
 use native.Mathlib.Omega.{arith}
@@ -6,7 +7,7 @@ use mathlib.Core.Bool.{Bool, true, false, true≢false}
 use mathlib.Core.List.{List}
 use mathlib.Core.Path.{◌≡◌, refl, sym, ◌∙◌, subst}
 use borrow.Author.Tests.{ltb-true, ltb-false}
-use Rattle.plain.specs.Lists.{if◌then◌else◌, ◌below◌}
+use Rattle.plain.specs.Lists.{◌below◌}
 use Rattle.words.specs.Tables.{key_at}
 use Rattle.words.specs.Order.{Next, lesser_of, RowOf, LeastOf}
 

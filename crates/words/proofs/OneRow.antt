@@ -1,4 +1,5 @@
 -- A row is stored in a table, a row comes, a row goes: what the columns have then, and what every sum over the rows is. Assumes nothing.
+use Rattle.std.specs.Prelude.{if◌then◌else◌}
 use Prim.Native.Nat.{ℕ, zero, suc, ◌+◌, ◌-◌, ◌≤◌, ◌<◌}
 use native.Mathlib.Omega.{arith}
 use mathlib.Core.Bool.{Bool, true, false}
@@ -8,7 +9,7 @@ use mathlib.Core.Path.{◌≡◌, refl, sym, ap, ◌∙◌}
 use lib.ListN.{length, get_or, set, length-set}
 use lib.Seq.{get_or-set_same, get_or-set_other}
 use borrow.Author.Tests.{eqb-true}
-use Rattle.plain.specs.Lists.{if◌then◌else◌, ◌is◌, sum_below}
+use Rattle.plain.specs.Lists.{◌is◌, sum_below}
 use Rattle.plain.proofs.Sums.{sum-none, sum_same, sum-last, sum_moved}
 use Rattle.words.specs.Tables.{rows, key_at, place_of, sum_of, value_of, KeysOnce, Row, put_row, with_row}
 use Rattle.words.specs.declared.Found.TheVariants.{Nothing}

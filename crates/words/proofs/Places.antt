@@ -1,4 +1,5 @@
 -- What a search by places has found, and lists by places after a store, a push and a removal. Assumes nothing.
+use Rattle.std.specs.Prelude.{if◌then◌else◌}
 use Prim.Native.Nat.{ℕ, zero, suc, ◌+◌, ◌-◌, ◌≤◌, ◌<◌}
 use native.Mathlib.Numerals.{add-one}
 use native.Mathlib.Omega.{arith}
@@ -9,7 +10,7 @@ use lib.Dec.{eqb}
 use lib.ListN.{length, get_or, set, drop_of_length-le}
 use borrow.Author.Tests.{eqb-true, eqb-false}
 use borrow.Rule.Slice.PartMut.{put_mid}
-use Rattle.plain.specs.Lists.{if◌then◌else◌, some, total, sum_below}
+use Rattle.plain.specs.Lists.{some, total, sum_below}
 use Rattle.plain.proofs.Lists.{total-append}
 use Rattle.words.specs.Places.{is_found, first_from, list_from, remove_at}
 use Rattle.words.specs.declared.Found.TheVariants.{At, Nothing}

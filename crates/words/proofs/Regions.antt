@@ -1,4 +1,5 @@
 -- The region law: what a buffer's regions are once one of them is changed, stated over any widths. Assumes nothing.
+use Rattle.std.specs.Prelude.{if◌then◌else◌}
 use Prim.Native.Nat.{ℕ, zero, suc, ◌+◌, ◌-◌, ◌≤◌, ◌<◌}
 use native.Mathlib.Numerals.{add-one}
 use native.Mathlib.Omega.{arith}
@@ -10,7 +11,7 @@ use lib.ListN.{length, get_or, set, take, drop, length-append, length-drop, take
 use lib.Seq.{length-take-le, take_at, drop_at, drop-drop, take-append-le, drop-append-le, paste, paste-zero, paste-suc, drop-paste, get_or-take, get_or-drop}
 use borrow.Author.Tests.{eqb-true, eqb-false, ltb-true, ltb-false}
 use borrow.Rule.Slice.PartMut.{put_mid}
-use Rattle.plain.specs.Lists.{if◌then◌else◌, ◌is◌}
+use Rattle.plain.specs.Lists.{◌is◌}
 use Rattle.words.specs.Regions.{start_of, whole, region, put_region}
 
 -- ---- a part of a list, k elements from a on, after another part was put in

@@ -1,4 +1,5 @@
 -- What a search of a table has found, and what the row of a key has in a column. Assumes nothing.
+use Rattle.std.specs.Prelude.{if◌then◌else◌}
 use Prim.Native.Nat.{ℕ, ◌+◌, ◌-◌, ◌≤◌, ◌<◌}
 use native.Mathlib.Omega.{arith}
 use mathlib.Core.Bool.{false}
@@ -6,7 +7,7 @@ use mathlib.Core.List.{List}
 use mathlib.Core.Path.{◌≡◌, refl, ap, ◌∙◌}
 use lib.ListN.{get_or}
 use borrow.Author.Tests.{eq-eqb, ne_eqb, eqb-true}
-use Rattle.plain.specs.Lists.{if◌then◌else◌, ◌is◌}
+use Rattle.plain.specs.Lists.{◌is◌}
 use Rattle.plain.proofs.Sums.{sum-none, one_passes, sum_one}
 use Rattle.words.specs.Places.{first_from}
 use Rattle.words.specs.Tables.{rows, key_at, is_key, place_of, sum_of, value_of, KeysOnce}

@@ -1,6 +1,6 @@
 -- Numbers in ascending order: the next one that passes a test, and the next key of a table.
-use Rattle.std.specs.Prelude.{ℕ, ◌≤◌, ◌<◌, Bool, true, false, List, ◌≡◌}
-use Rattle.plain.specs.Lists.{if◌then◌else◌, ◌below◌}
+use Rattle.std.specs.Prelude.{if◌then◌else◌, ℕ, ◌≤◌, ◌<◌, Bool, true, false, List, ◌≡◌}
+use Rattle.plain.specs.Lists.{◌below◌}
 use Rattle.words.specs.Tables.{rows, key_at}
 
 -- the first number from one on that passes a test; the limit where none below it does

@@ -1,9 +1,9 @@
 -- `figures::state_figures` meets its contract. Assumes nothing.
+use Rattle.std.specs.Prelude.{if◌then◌else◌}
 use Prim.Native.Nat.{ℕ, ◌-◌}
 use mathlib.Core.Bool.{Bool, true, false}
 use mathlib.Core.Path.{◌≡◌, refl, sym, ap, ◌∙◌}
 use borrow.Author.Rules.{rules}
-use Rattle.plain.specs.Lists.{if◌then◌else◌}
 use Rattle.words.specs.Places.{bit}
 use Rattle.figures.specs.Figures.{state_figures}
 use Rattle.figures.specs.declared.StateFigures.{StateFigures}

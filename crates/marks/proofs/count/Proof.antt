@@ -1,8 +1,9 @@
 -- `marks::count` meets its contract. The invariant: the count is that of the first i. Assumes nothing.
+use Rattle.std.specs.Prelude.{if◌then◌else◌}
 use mathlib.Core.Path.{◌≡◌, ap, ◌∙◌}
 use Prim.Native.Nat.{ℕ, ◌-◌, ◌≤◌}
 use native.Mathlib.Omega.{arith}
-use Rattle.plain.specs.Lists.{sum_below, if◌then◌else◌}
+use Rattle.plain.specs.Lists.{sum_below}
 use Rattle.plain.proofs.Sums.{sum-last}
 use Rattle.marks.specs.Marks.{is_on, count_on}
 use Rattle.marks.proofs.Masks.{on_counts}

@@ -1,12 +1,13 @@
 -- Held is deposits less withdrawals, those on paper among them, over any list of calls: an open request is the one that was asked for last under its
 -- member's reference. Assumes nothing.
+use Rattle.std.specs.Prelude.{if◌then◌else◌}
 use mathlib.Core.Path.{◌≡◌, refl, sym, subst}
 use mathlib.Core.Bool.{Bool, true, false, ◌&&◌}
 use mathlib.Core.List.{List, [], ◌∷◌, ◌++◌}
 use Prim.Native.Nat.{ℕ, ◌+◌, ◌≤◌}
 use native.Mathlib.Omega.{arith}
 use borrow.Author.Tests.{eqb-true}
-use Rattle.plain.specs.Lists.{if◌then◌else◌, ◌is◌, total, first}
+use Rattle.plain.specs.Lists.{◌is◌, total, first}
 use Rattle.plain.proofs.Lists.{total-append}
 use Rattle.rulebook.specs.Record.{read_of}
 use Rattle.rulebook.specs.Ledger.{Ledger, Requests, fresh, no_request, put_day, put_request, held}

@@ -1,11 +1,12 @@
 -- Sides taken in are sides settled, cancelled, deleted, suspended or waiting, over any list of calls. Assumes nothing.
+use Rattle.std.specs.Prelude.{if◌then◌else◌}
 use mathlib.Core.Path.{◌≡◌, refl}
 use mathlib.Core.Bool.{Bool, true, false, not, ◌&&◌, ◌||◌, false≢true}
 use mathlib.Core.List.{List, [], ◌∷◌, map}
 use Prim.Native.Nat.{ℕ, zero, suc, ◌+◌, ◌≤◌, zero-le}
 use Rattle.rulebook.specs.Calls.{Call, Made, calls_on, book_after, Accepted, accepted_calls, sum, sides_taken, sides_settled, sides_cancelled, sides_deleted, sides_suspended}
 use Rattle.plain.proofs.Lists.{◌and◌, keep-split, total-append, total-map}
-use Rattle.plain.specs.Lists.{if◌then◌else◌, ◌is◌, ◌at_most◌, keep, total}
+use Rattle.plain.specs.Lists.{◌is◌, ◌at_most◌, keep, total}
 use Rattle.rulebook.proofs.Selection.Fixing.{fixing-total}
 use Rattle.rulebook.proofs.Settled.{settled-total}
 use Rattle.rulebook.proofs.ByCall.{Effect, AllForms, either_answer, by_form, by_call}

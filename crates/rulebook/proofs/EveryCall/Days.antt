@@ -1,4 +1,5 @@
 -- Part 7 of the premise: the day, and that a minute which is accepted is within office hours as long as a cycle is sent or still to run. Assumes nothing.
+use Rattle.std.specs.Prelude.{if◌then◌else◌}
 use mathlib.Core.Path.{◌≡◌, refl, sym, subst, ◌∙◌}
 use mathlib.Core.List.{[], ◌∷◌}
 use mathlib.Core.Bool.{Bool, true, false, not, false≢true}
@@ -6,7 +7,7 @@ use Prim.Native.Nat.{ℕ, ◌≤◌}
 use native.Mathlib.Omega.{arith}
 use borrow.Author.Tests.{eqb-false, not-true}
 use Rattle.rulebook.specs.declared.Order.{Order}
-use Rattle.plain.specs.Lists.{if◌then◌else◌, ◌is◌, ◌one_of◌}
+use Rattle.plain.specs.Lists.{◌is◌, ◌one_of◌}
 use Rattle.plain.proofs.Lists.{◌and◌}
 use Rattle.rulebook.specs.Field as Field
 use Rattle.rulebook.specs.Ledger.{Ledger, fresh, put_day, put_holdings, put_waiting, with_minute, cycle_answered}

@@ -1,4 +1,5 @@
 -- What a sent cycle has fixed: over it nothing is short after every call, whatever came since the cycle was sent. Assumes nothing.
+use Rattle.std.specs.Prelude.{if◌then◌else◌}
 use mathlib.Core.Path.{◌≡◌, refl, sym, ap, ◌∙◌}
 use mathlib.Core.Bool.{Bool, true, false, not, ◌&&◌, ◌||◌, false≢true}
 use mathlib.Core.List.{List, [], ◌∷◌, ◌++◌, map}
@@ -10,7 +11,7 @@ use Rattle.rulebook.specs.declared.Item.{Item}
 use Rattle.rulebook.specs.declared.Order.{Order}
 use Rattle.rulebook.specs.declared.State.{State}
 use Rattle.rulebook.specs.declared.State.TheVariants.{Single, Pair, Trade}
-use Rattle.plain.specs.Lists.{if◌then◌else◌, ◌is◌, some, keep, Each}
+use Rattle.plain.specs.Lists.{◌is◌, some, keep, Each}
 use Rattle.plain.proofs.Lists.{◌and◌, each_so, each_append, each_map, each_kept}
 use Rattle.plain.proofs.Tests.{neither}
 use Rattle.rulebook.specs.Ledger.{Ledger, Holdings, put_day, put_holdings, put_waiting, put_rate, put_requests}

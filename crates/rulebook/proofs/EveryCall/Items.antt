@@ -1,4 +1,5 @@
 -- What a waiting item is, kept by marks, pairs, the days and the close; and what two singles that pair agree in. Assumes nothing.
+use Rattle.std.specs.Prelude.{if◌then◌else◌}
 use mathlib.Core.Path.{◌≡◌, refl, sym, ◌∙◌, subst}
 use mathlib.Core.Bool.{Bool, true, false, not, ◌&&◌, ◌||◌, false≢true}
 use mathlib.Core.List.{List, [], ◌∷◌, map}
@@ -9,7 +10,7 @@ use Rattle.rulebook.specs.declared.Party.{Party}
 use Rattle.rulebook.specs.declared.Item.{Item}
 use Rattle.rulebook.specs.declared.State.{State}
 use Rattle.rulebook.specs.declared.State.TheVariants.{Single, Pair, Trade}
-use Rattle.plain.specs.Lists.{if◌then◌else◌, ◌is◌, ◌at_most◌, keep, Each}
+use Rattle.plain.specs.Lists.{◌is◌, ◌at_most◌, keep, Each}
 use Rattle.plain.proofs.Tests.{both}
 use Rattle.plain.proofs.Lists.{each_append, each_map, each_kept}
 use Rattle.rulebook.specs.AccountTypes.{is_free, alike}

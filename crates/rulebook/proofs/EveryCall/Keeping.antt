@@ -1,4 +1,5 @@
 -- Parts 3 to 7 of the premise, form by form. Assumes nothing.
+use Rattle.std.specs.Prelude.{if◌then◌else◌}
 use mathlib.Core.Path.{◌≡◌, refl, subst}
 use mathlib.Core.Bool.{Bool, true, false, not, false≢true}
 use mathlib.Core.List.{List, [], ◌∷◌, ◌++◌}
@@ -10,7 +11,7 @@ use Rattle.rulebook.specs.declared.Request.{Request}
 use Rattle.rulebook.specs.declared.Security.{Security}
 use Rattle.rulebook.specs.declared.State.{State}
 use Rattle.rulebook.specs.declared.State.TheVariants.{Single, Pair, Trade}
-use Rattle.plain.specs.Lists.{if◌then◌else◌, ◌is◌, ◌one_of◌, within, keep, Each}
+use Rattle.plain.specs.Lists.{◌is◌, ◌one_of◌, within, keep, Each}
 use Rattle.plain.proofs.Lists.{◌and◌, total-append, each_so, each_both, each_append, each_kept, each_map}
 use Rattle.rulebook.specs.AccountTypes.{alike, is_outside, account_type, wrong_types}
 use Rattle.rulebook.specs.Field as Field

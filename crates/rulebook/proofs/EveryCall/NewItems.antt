@@ -1,4 +1,5 @@
 -- What an accepted order of form 12, 13 or 14 brings in is such an item, under a reference that none waits under. Assumes nothing.
+use Rattle.std.specs.Prelude.{if◌then◌else◌}
 use mathlib.Core.Path.{◌≡◌, refl}
 use mathlib.Core.Bool.{true, false, ◌&&◌}
 use mathlib.Core.List.{List, [], ◌∷◌}
@@ -8,7 +9,7 @@ use borrow.Author.Tests.{eqb-true}
 use Rattle.rulebook.specs.declared.Order.{Order}
 use Rattle.rulebook.specs.declared.State.{State}
 use Rattle.rulebook.specs.declared.State.TheVariants.{Single, Trade}
-use Rattle.plain.specs.Lists.{if◌then◌else◌, ◌is◌, ◌one_of◌, within, Each}
+use Rattle.plain.specs.Lists.{◌is◌, ◌one_of◌, within, Each}
 use Rattle.plain.proofs.Lists.{◌and◌, one_of_lem}
 use Rattle.plain.proofs.Tests.{both}
 use Rattle.rulebook.specs.AccountTypes.{is_free}

@@ -1,4 +1,5 @@
 -- Parts 3 and 4 of the premise: what a security is, who has a balance and who has cash, kept by movements to such. Assumes nothing.
+use Rattle.std.specs.Prelude.{if◌then◌else◌}
 use mathlib.Core.Path.{◌≡◌, refl, ap, subst}
 use mathlib.Core.Bool.{Bool, true, false, false≢true}
 use mathlib.Core.List.{List, [], ◌∷◌, map}
@@ -6,7 +7,7 @@ use Prim.Native.Nat.{ℕ, zero, suc, ◌+◌, ◌≤◌}
 use native.Mathlib.Omega.{arith}
 use borrow.Author.Tests.{eqb-true}
 use Rattle.rulebook.specs.declared.Security.{Security}
-use Rattle.plain.specs.Lists.{if◌then◌else◌, ◌is◌, some, Each}
+use Rattle.plain.specs.Lists.{◌is◌, some, Each}
 use Rattle.plain.proofs.Tests.{both}
 use Rattle.rulebook.specs.Ledger.{Holdings, fresh, admitted, put_balance, put_cash, put_securities, put_outside, put_held, with_outside, with_held}
 use Rattle.rulebook.specs.declared.Account.{Account}

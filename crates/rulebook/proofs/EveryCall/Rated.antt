@@ -1,10 +1,11 @@
 -- What each form makes of the rate: form 18 sets it, and the others keep it. Assumes nothing.
+use Rattle.std.specs.Prelude.{if◌then◌else◌}
 use mathlib.Core.Path.{◌≡◌, refl, sym, subst}
 use mathlib.Core.Bool.{Bool, true, false}
 use Prim.Native.Nat.{ℕ}
 use native.Mathlib.Omega.{arith}
 use borrow.Author.Tests.{eqb-true}
-use Rattle.plain.specs.Lists.{if◌then◌else◌, ◌is◌}
+use Rattle.plain.specs.Lists.{◌is◌}
 use Rattle.plain.proofs.Lists.{◌and◌}
 use Rattle.rulebook.specs.declared.Order.{Order}
 use Rattle.rulebook.specs.Field as Field

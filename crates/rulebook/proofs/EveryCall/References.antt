@@ -1,4 +1,5 @@
 -- Part 6 of the premise: no two items wait under one sender's reference. Assumes nothing.
+use Rattle.std.specs.Prelude.{if◌then◌else◌}
 use mathlib.Core.Path.{◌≡◌, refl, sym, ap, subst}
 use mathlib.Core.Bool.{Bool, true, false, not, ◌&&◌, ◌||◌, false≢true, true≢false}
 use mathlib.Core.List.{List, [], ◌∷◌, ◌++◌, map}
@@ -7,7 +8,7 @@ use native.Mathlib.Omega.{arith}
 use Rattle.rulebook.specs.declared.Item.{Item}
 use Rattle.rulebook.specs.declared.State.{State}
 use Rattle.rulebook.specs.declared.State.TheVariants.{Single, Pair, Trade}
-use Rattle.plain.specs.Lists.{if◌then◌else◌, ◌is◌, some, keep}
+use Rattle.plain.specs.Lists.{◌is◌, some, keep}
 use Rattle.plain.proofs.Lists.{keep-most, total-append, total-map}
 use Rattle.rulebook.specs.Ledger.{Ledger}
 use Rattle.rulebook.specs.Waiting.{is_deliver, is_receive, own_reference, sent_by, with_state, with_sent, marked, both_marked, marking, staying, unmarked}

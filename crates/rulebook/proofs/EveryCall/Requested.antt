@@ -1,10 +1,11 @@
 -- What each form makes of the requests: form 19 opens one, form 20 ends one, and the others keep them; so the premise of requests is kept. Assumes nothing.
+use Rattle.std.specs.Prelude.{if◌then◌else◌}
 use mathlib.Core.Path.{◌≡◌, refl, sym, subst}
 use mathlib.Core.Bool.{Bool, true, false, ◌&&◌}
 use Prim.Native.Nat.{ℕ, ◌+◌, ◌≤◌, ◌<◌, ◌^◌}
 use native.Mathlib.Omega.{arith}
 use borrow.Author.Tests.{eqb-true, eq-eqb}
-use Rattle.plain.specs.Lists.{if◌then◌else◌, ◌is◌}
+use Rattle.plain.specs.Lists.{◌is◌}
 use Rattle.plain.proofs.Lists.{◌and◌}
 use Rattle.plain.proofs.Tests.{both}
 use Rattle.plain.proofs.Sums.{sum-none}

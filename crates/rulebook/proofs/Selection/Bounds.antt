@@ -1,4 +1,5 @@
 -- Sums over trades fit a word, and what holds of each item holds of those that are in. Assumes nothing.
+use Rattle.std.specs.Prelude.{if◌then◌else◌}
 use mathlib.Core.Path.{◌≡◌, refl}
 use mathlib.Core.Bool.{Bool, true, false, ◌&&◌}
 use mathlib.Core.List.{List, [], ◌∷◌}
@@ -6,7 +7,7 @@ use Prim.Native.Nat.{ℕ, ◌*◌, ◌≤◌, ◌<◌, ◌^◌}
 use native.Mathlib.Omega.{arith}
 use lib.ListN.{length}
 use Rattle.rulebook.specs.declared.Item.{Item}
-use Rattle.plain.specs.Lists.{if◌then◌else◌, ◌is◌, total}
+use Rattle.plain.specs.Lists.{◌is◌, total}
 use Rattle.rulebook.specs.Ledger.{Holdings, same_account}
 use Rattle.rulebook.specs.Movements.{Place, account, type91, type90, cash_of, member0}
 use Rattle.plain.specs.Lists.{Each}

@@ -1,4 +1,5 @@
 -- The dropping ends with nothing short; what each one dropped lacked is kept, and what is due is in or left. Assumes nothing.
+use Rattle.std.specs.Prelude.{if◌then◌else◌}
 use mathlib.Core.Path.{◌≡◌, refl, sym, ap, ◌∙◌}
 use mathlib.Core.Bool.{Bool, true, false, ◌||◌, false≢true}
 use mathlib.Core.List.{List, [], ◌∷◌, map}
@@ -6,7 +7,7 @@ use Prim.Native.Nat.{ℕ, zero, suc, ◌+◌, ◌≤◌, zero-le}
 use native.Mathlib.Omega.{arith}
 use lib.ListN.{length}
 use Rattle.rulebook.specs.declared.Item.{Item}
-use Rattle.plain.specs.Lists.{if◌then◌else◌, some, total}
+use Rattle.plain.specs.Lists.{some, total}
 use Rattle.rulebook.specs.Ledger.{Holdings}
 use Rattle.plain.proofs.Lists.{total-append, some-append}
 use Rattle.rulebook.specs.Shortfall.{Shortfall, NothingShort, shortfall, lacks_some, debits_short, any_short}

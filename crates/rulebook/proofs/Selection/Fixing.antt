@@ -1,4 +1,5 @@
 -- Of a book: what a cycle selects and fixes. Assumes nothing.
+use Rattle.std.specs.Prelude.{if◌then◌else◌}
 use mathlib.Core.Path.{◌≡◌, refl, sym, ap, subst, ◌∙◌}
 use mathlib.Core.Bool.{Bool, true, false, ◌||◌}
 use mathlib.Core.List.{List, [], ◌∷◌, map}
@@ -6,7 +7,7 @@ use Prim.Native.Nat.{ℕ, ◌+◌, ◌≤◌}
 use native.Mathlib.Omega.{arith}
 use borrow.Author.Tests.{leb-true}
 use lib.ListN.{length, length-map}
-use Rattle.plain.specs.Lists.{if◌then◌else◌, ◌at_most◌, total, Each}
+use Rattle.plain.specs.Lists.{◌at_most◌, total, Each}
 use Rattle.plain.proofs.Lists.{total-map, length_total, each_map}
 use Rattle.plain.proofs.Tests.{both}
 use Rattle.rulebook.specs.declared.Item.{Item}

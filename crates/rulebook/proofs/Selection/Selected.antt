@@ -1,4 +1,5 @@
 -- What is claimed of a selection holds of it. Assumes nothing.
+use Rattle.std.specs.Prelude.{if◌then◌else◌}
 use mathlib.Core.Path.{◌≡◌, refl, sym, ap, ◌∙◌}
 use mathlib.Core.Bool.{Bool, true, false, false≢true}
 use mathlib.Core.List.{List, [], ◌∷◌, map}
@@ -6,7 +7,7 @@ use Prim.Native.Nat.{ℕ, ◌+◌, ◌≤◌, zero-le}
 use native.Mathlib.Omega.{arith}
 use lib.ListN.{length, length-map}
 use Rattle.rulebook.specs.declared.Item.{Item}
-use Rattle.plain.specs.Lists.{if◌then◌else◌, total}
+use Rattle.plain.specs.Lists.{total}
 use Rattle.plain.proofs.Lists.{total-append}
 use Rattle.rulebook.specs.Shortfall.{Shortfall, shortfall}
 use Rattle.rulebook.specs.Ledger.{Ledger, Holdings}

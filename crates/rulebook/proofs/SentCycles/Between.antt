@@ -1,10 +1,11 @@
 -- What others do while a cycle is sent they would have done the same without it. Assumes nothing.
+use Rattle.std.specs.Prelude.{if◌then◌else◌}
 use mathlib.Core.Path.{◌≡◌, refl, sym, ap, ◌∙◌}
 use mathlib.Core.Bool.{Bool, true, false, not, false≢true}
 use mathlib.Core.List.{List, [], ◌∷◌, ◌++◌, map}
 use Prim.Native.Nat.{ℕ}
 use lib.ListN.{length}
-use Rattle.plain.specs.Lists.{if◌then◌else◌, ◌is◌, keep}
+use Rattle.plain.specs.Lists.{◌is◌, keep}
 use Rattle.plain.proofs.Lists.{◌and◌, total-map}
 use Rattle.rulebook.specs.Ledger.{Ledger, put_day, put_holdings, put_waiting, put_rate, put_requests, cycle_answered}
 use Rattle.rulebook.specs.Waiting.{is_deliver, item_of, single_of, sender_of, sent_by, with_state, with_sent, marked, marking, both_marked, cancelled, staying, sides, sides_of}

@@ -1,4 +1,5 @@
 -- A declined cycle leaves everything as if it had not been sent, but that it has run. Assumes nothing.
+use Rattle.std.specs.Prelude.{if◌then◌else◌}
 use mathlib.Core.Path.{◌≡◌, refl, sym, ap, ◌∙◌}
 use mathlib.Core.Bool.{Bool, true, false, ◌&&◌, and-false}
 use mathlib.Core.List.{List, [], ◌∷◌, map}
@@ -6,7 +7,7 @@ use Prim.Native.Nat.{ℕ}
 use native.Mathlib.Omega.{arith}
 use borrow.Author.Tests.{eqb-true, le-ltb}
 use lib.ListN.{length-map}
-use Rattle.plain.specs.Lists.{if◌then◌else◌, ◌is◌, ◌below◌, ◌one_of◌, some, first, Each}
+use Rattle.plain.specs.Lists.{◌is◌, ◌below◌, ◌one_of◌, some, first, Each}
 use Rattle.plain.proofs.Lists.{◌and◌, some-append}
 use Rattle.plain.proofs.Tests.{neither}
 use Rattle.rulebook.specs.Ledger.{Ledger, put_day, put_waiting, cycle_answered, account_of}

@@ -1,4 +1,5 @@
 -- A day can always be finished: the sent cycle is answered, each cycle that is left is sent and answered, and the day is closed. Assumes nothing.
+use Rattle.std.specs.Prelude.{if◌then◌else◌}
 use mathlib.Core.Path.{◌≡◌, refl, ap, ◌∙◌}
 use mathlib.Core.Bool.{Bool, true, false, not, ◌||◌, or-true, false≢true}
 use mathlib.Core.List.{List, [], ◌∷◌, ◌++◌, map}
@@ -6,7 +7,7 @@ use Prim.Native.Nat.{ℕ, zero, suc, ◌≤◌}
 use native.Mathlib.Omega.{arith}
 use borrow.Author.Tests.{ltb-true, ltb-false, le-ltb, le-leb, lt-leb}
 use lib.ListN.{length, get_or, replicate, length-replicate}
-use Rattle.plain.specs.Lists.{if◌then◌else◌, ◌is◌, ◌below◌, first}
+use Rattle.plain.specs.Lists.{◌is◌, ◌below◌, first}
 use Rattle.rulebook.specs.AccountTypes.{wrong_types}
 use Rattle.rulebook.specs.Field.{places, widths, ceiling}
 use Rattle.rulebook.specs.Ledger.{Ledger, put_day, put_holdings, put_waiting, with_minute, cycle_sent, cycle_answered}

@@ -1,10 +1,10 @@
 -- What an account offers is exactly the most that can leave it with nothing short over what is fixed. Assumes nothing.
+use Rattle.std.specs.Prelude.{if◌then◌else◌}
 use mathlib.Core.Path.{◌≡◌, refl, ap, subst, ◌∙◌}
 use mathlib.Core.Bool.{Bool, true, false}
 use mathlib.Core.List.{[], ◌∷◌}
 use Prim.Native.Nat.{ℕ, ◌-◌, ◌≤◌}
 use native.Mathlib.Omega.{arith}
-use Rattle.plain.specs.Lists.{if◌then◌else◌}
 use Rattle.rulebook.specs.Ledger.{Holdings, same_account}
 use Rattle.rulebook.specs.Movements.{account, type91, cash_of, move, credit, debit, credits, debits, booked}
 use Rattle.rulebook.specs.Shortfall.{missing}

@@ -1,4 +1,5 @@
 -- Forms 2 to 11: each makes one movement. Assumes nothing.
+use Rattle.std.specs.Prelude.{if◌then◌else◌}
 use mathlib.Core.Path.{◌≡◌, refl, sym, ap, subst, ◌∙◌}
 use mathlib.Core.Bool.{Bool, true, false, false≢true}
 use mathlib.Core.List.{List, [], ◌∷◌, ◌++◌}
@@ -8,7 +9,7 @@ use borrow.Author.Tests.{ltb-false, eq-eqb, eqb-true}
 use Rattle.rulebook.specs.declared.Party.{Party}
 use Rattle.rulebook.specs.declared.Order.{Order}
 use Rattle.rulebook.specs.declared.Security.{Security}
-use Rattle.plain.specs.Lists.{if◌then◌else◌, ◌is◌, Each}
+use Rattle.plain.specs.Lists.{◌is◌, Each}
 use Rattle.plain.proofs.Lists.{◌and◌, total-append}
 use Rattle.rulebook.specs.TypeTable.{requested}
 use Rattle.rulebook.specs.AccountTypes.{pledged_or_blocked, wrong_types}

@@ -1,4 +1,5 @@
 -- What one accepted call does: movements, which are its posting rows, and which are what its order says. Assumes nothing.
+use Rattle.std.specs.Prelude.{if◌then◌else◌}
 use mathlib.Core.Path.{◌≡◌, refl, sym, ap, subst, ◌∙◌}
 use mathlib.Core.Bool.{true, false, ◌&&◌}
 use mathlib.Core.List.{List, [], ◌∷◌}
@@ -8,7 +9,7 @@ use lib.ListN.{length}
 use Rattle.rulebook.specs.declared.Order.{Order}
 use Rattle.rulebook.specs.declared.Account.{Account}
 use Rattle.rulebook.specs.declared.Security.{Security}
-use Rattle.plain.specs.Lists.{if◌then◌else◌, ◌is◌, ◌one_of◌}
+use Rattle.plain.specs.Lists.{◌is◌, ◌one_of◌}
 use Rattle.rulebook.specs.TypeTable.{requested}
 use Rattle.rulebook.specs.AccountTypes.{is_outside, pledged_or_blocked}
 use Rattle.rulebook.specs.Ledger.{Ledger, Holdings, account_of, request_account, same_account, issued_of, held_of, put_securities}

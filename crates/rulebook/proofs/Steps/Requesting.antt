@@ -1,10 +1,10 @@
 -- Forms 19 and 20: a request is opened, and one is ended; each makes one movement. Assumes nothing.
+use Rattle.std.specs.Prelude.{if◌then◌else◌}
 use mathlib.Core.Path.{◌≡◌, refl}
 use mathlib.Core.Bool.{Bool, true, false}
 use mathlib.Core.List.{[], ◌∷◌}
 use Prim.Native.Nat.{ℕ}
 use native.Mathlib.Omega.{arith}
-use Rattle.plain.specs.Lists.{if◌then◌else◌}
 use Rattle.rulebook.specs.TypeTable.{requested}
 use Rattle.rulebook.specs.AccountTypes.{is_outside, pledged_or_blocked}
 use Rattle.rulebook.specs.Ledger.{Ledger, admitted, account_of, request_account}
