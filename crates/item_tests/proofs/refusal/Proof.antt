@@ -4,9 +4,9 @@ use Rattle.rulebook.specs.Refusals.{item_tests}
 use Rattle.item_tests.proofs.refusal.Statement.{statement}
 use Rattle.item_tests.proofs.refusal.Tie as tie
 
-pub refusal-spec : {M : Type 1} → statement M
+pub refusal_spec : {M : Type 1} → statement M
 unfolding item_tests
-refusal-spec =
+refusal_spec =
     tie.close
     (tie.spec (λ c κs. search rules) (λ c κs. search rules) (λ c κs. search rules) (λ c κs. search rules) (λ c κs. search rules) (λ c κs. search rules)
     (λ c. cc))

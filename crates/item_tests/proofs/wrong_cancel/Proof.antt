@@ -8,39 +8,39 @@ use Rattle.item_tests.proofs.Cancel.{cancel-nothing, cancel-inside, cancel-at}
 use Rattle.item_tests.proofs.wrong_cancel.Statement.{statement}
 use Rattle.item_tests.proofs.wrong_cancel.Tie as tie
 
-returns : tie.Need-returns
+returns : tie.Need-returns-then-order-ne15
 unfolding wrong_cancel
-returns c = rw (ne_eqb _ _ c.if1.true)
+returns c = rw (ne_eqb _ _ c.if-order-ne15.true)
 
-returns-2 : tie.Need-returns-2
+returns-2 : tie.Need-returns-in_default
 returns-2 c =
-    let found = c.before.before in
-    let s = found.before.before.before.before.before in
+    let found = c in
+    let s = found in
     sym
-    (cancel-nothing (ledger_of s.args.book.now) s.args.order _ _ found.before.before.if1.false found.before.sender-of.ensures
-    found.first-sent.ensures c.enum_told.given.1)
+    (cancel-nothing (ledger_of s.args.book.now) s.args.order _ _ found.if-order-ne15.false found.sender_of-sender.ensures
+    found.first_sent-found.ensures c.in_default.is)
 
-item-at-requires : tie.Need-item-at-requires
+item-at-requires : tie.Need-item_at-item-requires
 item-at-requires c κs =
-    let found = c.before.before.before in
-    let s = found.before.before.before.before.before in (
+    let found = c in
+    let s = found in (
       s.requires.stored,
-      cancel-inside (ledger_of s.args.book.now) s.args.order _ _ found.before.before.if1.false found.before.sender-of.ensures
-          found.first-sent.ensures _ c.before.found.given.1,
+      cancel-inside (ledger_of s.args.book.now) s.args.order _ _ found.if-order-ne15.false found.sender_of-sender.ensures
+          found.first_sent-found.ensures _ c.in-At.is,
     )
 
-returns-3 : tie.Need-returns-3
+returns-3 : tie.Need-returns
 returns-3 c =
-    let found = c.before.before.before.before.before in
-    let s = found.before.before.before.before.before in
-    let item = c.before.item-at in
-    c.not-cancellable.ensures
+    let found = c in
+    let s = found in
+    let item = c.item_at-item in
+    c.not_cancellable.ensures
     ∙ sym
-    (cancel-at (ledger_of s.args.book.now) s.args.order _ _ found.before.before.if1.false found.before.sender-of.ensures
-    found.first-sent.ensures _ c.before.before.before.found.given.1 s.requires.premise item.result (item.ensures item.result))
+    (cancel-at (ledger_of s.args.book.now) s.args.order _ _ found.if-order-ne15.false found.sender_of-sender.ensures
+    found.first_sent-found.ensures _ c.in-At.is s.requires.premise item.result (item.ensures item.result))
 
-pub wrong-cancel-spec : {M : Type 1} → statement M
-wrong-cancel-spec =
+pub wrong_cancel_spec : {M : Type 1} → statement M
+wrong_cancel_spec =
     tie.close
     (tie.spec returns (λ c κs. search rules) (λ c κs. search rules) (λ c. search rules) (λ c. search rules) returns-2 item-at-requires (λ c κs. search rules)
     returns-3)

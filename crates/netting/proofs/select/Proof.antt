@@ -9,13 +9,13 @@ use Rattle.netting.proofs.select.Tie as tie
 returns : tie.Need-returns
 returns c =
     let b = ledger_of c.before.before.before.args.book.now in
-    let due = c.before.due-marks.ensures in
-    let fixed = c.selected-marks.ensures in
+    let due = c.before.due_marks-due.ensures in
+    let fixed = c.selected_marks-fixed.ensures in
     record {
       due_marked = due;
       fixed_marked = fixed;
-      fewer = omega (arith, counted b c.before.due-marks.result c.selected-marks.result due fixed);
+      fewer = omega (arith, counted b c.before.due_marks-due.result c.selected_marks-fixed.result due fixed);
     }
 
-pub select-spec : {M : Type 1} → statement M
-select-spec = tie.close (tie.spec (λ c κs. search rules) (λ c κs. search rules) returns)
+pub select_spec : {M : Type 1} → statement M
+select_spec = tie.close (tie.spec (λ c κs. search rules) (λ c κs. search rules) returns)

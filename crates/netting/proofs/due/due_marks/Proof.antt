@@ -17,63 +17,63 @@ use Rattle.netting.proofs.Entries.{entries-marked}
 use Rattle.netting.proofs.due.due_marks.Statement.{statement}
 use Rattle.netting.proofs.due.due_marks.Tie as tie
 
-abbrev invariant-loop : tie.invariant-loop
+abbrev invariant-loop : tie.invariant-loop-i
 invariant-loop book day n marks₀ i₀ marks i = (i ≤ n) × MarkedBelow (due day.number) (ledger_of book).waiting marks i
 
-abbrev decreases-loop : tie.decreases-loop
+abbrev decreases-loop : tie.decreases-loop-i
 decreases-loop book day n marks₀ i₀ marks i = n - i
 
 -- ---- places
 
-abbrev entry : tie.At-loop invariant-loop decreases-loop → tie.Start invariant-loop decreases-loop
+abbrev entry : tie.At-loop-i invariant-loop decreases-loop → tie.Start invariant-loop decreases-loop
 entry l = l.before.before.before.before
 
-abbrev turn : tie.After-is-due invariant-loop decreases-loop → tie.In-loop invariant-loop decreases-loop
+abbrev turn : tie.After-is_due invariant-loop decreases-loop → tie.In-loop-i invariant-loop decreases-loop
 turn c = c.before.before
 
-abbrev waiting : tie.At-loop invariant-loop decreases-loop → List Item
+abbrev waiting : tie.At-loop-i invariant-loop decreases-loop → List Item
 waiting l = (ledger_of (entry l).args.book.now).waiting
 
-there : (t : tie.In-loop invariant-loop decreases-loop) → t.before.loop.i < length (waiting t.before)
-there t = omega (arith, t.loop-test.true, t.before.before.items.ensures)
+there : (t : tie.In-loop-i invariant-loop decreases-loop) → t.before.loop-i.i < length (waiting t.before)
+there t = omega (arith, t.loop-i-test.true, t.before.before.items-n.ensures)
 
-low : (t : tie.In-loop invariant-loop decreases-loop) → t.before.loop.i < 64
-low t = omega (arith, there t, (entry t.before).pre.1)
+low : (t : tie.In-loop-i invariant-loop decreases-loop) → t.before.loop-i.i < 64
+low t = omega (arith, there t, (entry t.before).requires.1)
 
-loop-again : tie.Need-loop-preserved invariant-loop decreases-loop
+loop-again : tie.Need-loop-i-preserved invariant-loop decreases-loop
 loop-again c =
     let t = turn c.before in
     let h = t.before in
-    let l = h.loop in
-    let day = h.before.before.day.result.number in
-    let read = c.before.is_due_lem.ensures ∙ ap (due day) (c.before.before.item-at.ensures no_item) in
+    let l = h.loop-i in
+    let day = h.before.before.day-day.result.number in
+    let read = c.before.is_due.ensures ∙ ap (due day) (c.before.before.item_at.ensures no_item) in
     ⊎_elim
     (λ w. (
       omega arith,
-      marked-one (due day) (waiting h) l.marks l.i (low t) l.inv.1 c.if1.marks
+      marked-one (due day) (waiting h) l.marks l.i (low t) l.invariant.1 c.if-is_due.marks
           (λ k g. ap (λ (m : ℕ). is_on m k) w.2 ∙ w.1.ensures k g) (sym read ∙ w.0.taken),
     ))
     (λ w.
-    let none = marked-not (due day) (waiting h) l.marks l.i (low t) l.inv.1 (sym read ∙ w.0.left) in
+    let none = marked-not (due day) (waiting h) l.marks l.i (low t) l.invariant.1 (sym read ∙ w.0.left) in
     (omega arith, subst (λ (m : ℕ). MarkedBelow (due day) (waiting h) m (l.i + 1)) (sym w.1) none))
-    c.if1.branch
+    c.if-is_due.branch
 
 returns : tie.Need-returns invariant-loop decreases-loop
 returns c =
     let h = c.before in
     let b = ledger_of (entry h).args.book.now in
-    let day = ap (λ (d : Day). d.number) h.before.before.day.ensures in
+    let day = ap (λ (d : Day). d.number) h.before.before.day-day.ensures in
     record {
       marked =
-          by_test_lem (due b.day.number) b.waiting h.loop.marks
-          (λ k g. h.loop.invariant.1.first k (omega (arith, h.before.items.ensures, c.loop-test.false)) ∙ ap (λ (d : ℕ). due d (item_in b.waiting k)) day)
+          by_test_lem (due b.day-day.number) b.waiting h.loop-i.marks
+          (λ k g. h.loop-i.invariant.1.first k (omega (arith, h.before.items-n.ensures, c.loop-i-test.false)) ∙ ap (λ (d : ℕ). due d (item_in b.waiting k)) day)
           ∙ sym (entries-marked b);
-      behind = λ k g l. h.loop.invariant.1.rest k (omega (arith, g, h.loop.invariant.0, h.before.items.ensures)) l;
+      behind = λ k g l. h.loop-i.invariant.1.rest k (omega (arith, g, h.loop-i.invariant.0, h.before.items-n.ensures)) l;
     }
 
-pub due-marks-spec : {M : Type 1} → statement M
-due-marks-spec =
+pub due_marks_spec : {M : Type 1} → statement M
+due_marks_spec =
     tie.close
     (tie.spec invariant-loop decreases-loop (λ c κs. search rules) (λ c κs. search rules)
-    (λ c. (omega arith, record { first = λ k h. absurd (omega arith); rest = λ k h l. none_on k })) (λ c κs. ((entry c.before).pre.0, there c))
+    (λ c. (omega arith, record { first = λ k h. absurd (omega arith); rest = λ k h l. none_on k })) (λ c κs. ((entry c.before).requires.0, there c))
     (λ c κs. search rules) (λ c κs. low (turn c.before)) (λ c. omega arith) (λ c. omega arith) loop-again returns)

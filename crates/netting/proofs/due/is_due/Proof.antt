@@ -5,9 +5,9 @@ use Rattle.rulebook.specs.Waiting.{is_trade}
 use Rattle.netting.proofs.due.is_due.Statement.{statement}
 use Rattle.netting.proofs.due.is_due.Tie as tie
 
-pub is-due-spec : {M : Type 1} → statement M
+pub is_due_spec : {M : Type 1} → statement M
 unfolding due is_trade
-is-due-spec =
+is_due_spec =
     tie.close
-    (tie.spec (λ c. search rules) (λ c. search rules) (λ c. search rules) (λ c. rw c.enum_told.given.1)
-    (λ c. rw c.before.enum-told2.given.1) (λ c. rw c.before.enum-told3.given.1))
+    (tie.spec (λ c. search rules) (λ c. search rules) (λ c. search rules) (λ c. rw c.in-Single.is)
+    (λ c. rw c.in-Pair.is) (λ c. rw c.in-Trade.is))

@@ -19,66 +19,66 @@ use Rattle.netting.proofs.Adding.{Passing, begins, there, tested, held-fine, fun
 use Rattle.netting.proofs.passes.one_pass.Statement.{statement}
 use Rattle.netting.proofs.passes.one_pass.Tie as tie
 
-abbrev invariant-loop : tie.invariant-loop
+abbrev invariant-loop : tie.invariant-loop-out
 invariant-loop book due before held₀ shares held_at funds₀ cents funds-at n marks₀ out₀ held funds marks out =
     (r : Ready (ledger_of book)) (s : Started (ledger_of book) due before)
     → Passing (ledger_of book) r due before s out marks shares held_at held cents funds-at funds
 
-abbrev decreases-loop : tie.decreases-loop
+abbrev decreases-loop : tie.decreases-loop-out
 decreases-loop book due before held₀ shares held_at funds₀ cents funds-at n marks₀ out₀ held funds marks out = count_on (is_on out) 64
 
 -- ---- places
 
-abbrev entry : tie.At-loop invariant-loop decreases-loop → tie.Start invariant-loop decreases-loop
+abbrev entry : tie.At-loop-out invariant-loop decreases-loop → tie.Start invariant-loop decreases-loop
 entry l = l.before.before.before.before.before.before.before.before.before.before
 
-module _ (l : tie.At-loop invariant-loop decreases-loop) where
+module _ (l : tie.At-loop-out invariant-loop decreases-loop) where
   abbrev b : Ledger
   b = ledger_of (entry l).args.book.now
 
   abbrev r : Ready b
-  r = (entry l).pre.0.1
+  r = (entry l).requires.0.1
 
   abbrev s : Started b (entry l).args.due (entry l).args.before
-  s = (entry l).pre.0.2
+  s = (entry l).requires.0.2
 
   abbrev passing :
       (let a = (entry l).args in
-      Passing b r a.due a.before s l.loop.out l.loop.marks a.shares.now a.held_at.now l.loop.held a.cents.now
-      a.funds-at.now l.loop.funds)
-  passing = l.loop.inv r s
+      Passing b r a.due a.before s l.loop-out.out l.loop-out.marks a.shares.now a.held_at.now l.loop-out.held a.cents.now
+      a.funds_at.now l.loop-out.funds)
+  passing = l.loop-out.invariant r s
 
   -- how many items there are
-  size : l.before.before.items.result ≡ length b.waiting
-  size = l.before.before.items.ensures
+  size : l.before.before.items-n.result ≡ length b.waiting
+  size = l.before.before.items-n.ensures
 
   -- the slots, for as many items as are read
-  share_slots : Slots l.before.before.items.result (entry l).args.shares.now (entry l).args.held_at.now
+  share_slots : Slots l.before.before.items-n.result (entry l).args.shares.now (entry l).args.held_at.now
   share_slots = subst (λ (n : ℕ). Slots n (entry l).args.shares.now (entry l).args.held_at.now) (sym size) passing.figured.share_slots
 
-  cash_slots : Slots l.before.before.items.result (entry l).args.cents.now (entry l).args.funds-at.now
-  cash_slots = subst (λ (n : ℕ). Slots n (entry l).args.cents.now (entry l).args.funds-at.now) (sym size) passing.figured.cash_slots
+  cash_slots : Slots l.before.before.items-n.result (entry l).args.cents.now (entry l).args.funds_at.now
+  cash_slots = subst (λ (n : ℕ). Slots n (entry l).args.cents.now (entry l).args.funds_at.now) (sym size) passing.figured.cash_slots
 
-loop-holds : tie.Need-loop-init invariant-loop decreases-loop
-loop-holds c = λ r s. begins _ r _ _ s _ _ _ _ _ _ _ c.differing.ensures c.before.before.before.before.before.before.before.before.before.requires.1
+loop-holds : tie.Need-loop-out-init invariant-loop decreases-loop
+loop-holds c = λ r s. begins _ r _ _ s _ _ _ _ _ _ _ c.differing-out.ensures c.before.before.before.before.before.before.before.before.before.requires.1
 
 -- the trade that is looked at
-abbrev turn : tie.After-first invariant-loop decreases-loop → tie.At-loop invariant-loop decreases-loop
+abbrev turn : tie.After-first-j invariant-loop decreases-loop → tie.At-loop-out invariant-loop decreases-loop
 turn c = c.before.before
 
-abbrev firsts : tie.After-flip invariant-loop decreases-loop → tie.After-first invariant-loop decreases-loop
+abbrev firsts : tie.After-flip-out invariant-loop decreases-loop → tie.After-first-j invariant-loop decreases-loop
 firsts c = c.before
 
-abbrev inside : (c : tie.After-first invariant-loop decreases-loop) → c.first.result < length (b (turn c)).waiting
-inside c = let l = turn c in there (b l) (r l) _ _ (s l) (passing l) c.first.ensures
+abbrev inside : (c : tie.After-first-j invariant-loop decreases-loop) → c.first-j.result < length (b (turn c)).waiting
+inside c = let l = turn c in there (b l) (r l) _ _ (s l) (passing l) c.first-j.ensures
 
-lent : (c : tie.After-first invariant-loop decreases-loop) → (let l = turn c in Lent l.loop.held (entry l).args.shares.now l.before.before.items.result)
+lent : (c : tie.After-first-j invariant-loop decreases-loop) → (let l = turn c in Lent l.loop-out.held (entry l).args.shares.now l.before.before.items-n.result)
 lent c =
     let l = turn c in
     let f = (passing l).figured in
     record { figures_long = f.held_long; legs_long = f.share_legs.long; size = omega (arith, size l, (r l).size) }
 
-lent-funds : (c : tie.After-first invariant-loop decreases-loop) → (let l = turn c in Lent l.loop.funds (entry l).args.cents.now l.before.before.items.result)
+lent-funds : (c : tie.After-first-j invariant-loop decreases-loop) → (let l = turn c in Lent l.loop-out.funds (entry l).args.cents.now l.before.before.items-n.result)
 lent-funds c =
     let l = turn c in
     let f = (passing l).figured in
@@ -86,72 +86,72 @@ lent-funds c =
 
 -- there is room for its legs
 held_fits :
-    (c : tie.After-first invariant-loop decreases-loop)
+    (c : tie.After-first-j invariant-loop decreases-loop)
     → (let l = turn c in
-    Room l.before.before.items.result (entry l).args.shares.now c.first.result (viewed (entry l).args.held_at.now l.loop.held))
+    Room l.before.before.items-n.result (entry l).args.shares.now c.first-j.result (viewed (entry l).args.held_at.now l.loop-out.held))
 held_fits c =
     let l = turn c in
-    subst (λ (n : ℕ). Room n (entry l).args.shares.now c.first.result (viewed (entry l).args.held_at.now l.loop.held)) (sym (size l))
-    (held-room (b l) (r l) _ _ (s l) (passing l) c.first.ensures)
+    subst (λ (n : ℕ). Room n (entry l).args.shares.now c.first-j.result (viewed (entry l).args.held_at.now l.loop-out.held)) (sym (size l))
+    (held-room (b l) (r l) _ _ (s l) (passing l) c.first-j.ensures)
 
 funds-fits :
-    (c : tie.After-first invariant-loop decreases-loop)
+    (c : tie.After-first-j invariant-loop decreases-loop)
     → (let l = turn c in
-    Room l.before.before.items.result (entry l).args.cents.now c.first.result (viewed (entry l).args.funds-at.now l.loop.funds))
+    Room l.before.before.items-n.result (entry l).args.cents.now c.first-j.result (viewed (entry l).args.funds_at.now l.loop-out.funds))
 funds-fits c =
     let l = turn c in
-    subst (λ (n : ℕ). Room n (entry l).args.cents.now c.first.result (viewed (entry l).args.funds-at.now l.loop.funds)) (sym (size l))
-    (funds_room (b l) (r l) _ _ (s l) (passing l) c.first.ensures)
+    subst (λ (n : ℕ). Room n (entry l).args.cents.now c.first-j.result (viewed (entry l).args.funds_at.now l.loop-out.funds)) (sym (size l))
+    (funds_room (b l) (r l) _ _ (s l) (passing l) c.first-j.ensures)
 
 fits-requires : tie.Need-fits-requires invariant-loop decreases-loop
 fits-requires c κs =
-    let o = firsts c.before in
+    let o = firsts c in
     let l = turn o in
-    (lent o, share_slots l, omega (arith, inside o, size l), held_fits o, held-fine (b l) (r l) _ _ (s l) (passing l) o.first.ensures)
+    (lent o, share_slots l, omega (arith, inside o, size l), held_fits o, held-fine (b l) (r l) _ _ (s l) (passing l) o.first-j.ensures)
 
-abbrev tried : tie.After-fits2 invariant-loop decreases-loop → tie.After-flip invariant-loop decreases-loop
-tried c = c.before.before
+abbrev tried : tie.After-fits-then-fits invariant-loop decreases-loop → tie.After-flip-out invariant-loop decreases-loop
+tried c = c.before.before.before
 
-fits-requires-2 : tie.Need-fits-requires-2 invariant-loop decreases-loop
+fits-requires-2 : tie.Need-fits-requires-then-fits invariant-loop decreases-loop
 fits-requires-2 c κs =
     let o = firsts (tried c.before.before) in
     let l = turn o in
-    (lent-funds o, cash_slots l, omega (arith, inside o, size l), funds-fits o, funds_fine (b l) (r l) _ _ (s l) (passing l) o.first.ensures)
+    (lent-funds o, cash_slots l, omega (arith, inside o, size l), funds-fits o, funds_fine (b l) (r l) _ _ (s l) (passing l) o.first-j.ensures)
 
-abbrev tried-both : tie.After-fits3 invariant-loop decreases-loop → tie.After-fits2 invariant-loop decreases-loop
+abbrev tried-both : tie.After-fits3 invariant-loop decreases-loop → tie.After-fits-then-fits invariant-loop decreases-loop
 tried-both c = c.before.before.before
 
-add-trade-requires : tie.Need-add-trade-requires invariant-loop decreases-loop
+add-trade-requires : tie.Need-add_trade-requires invariant-loop decreases-loop
 add-trade-requires c κs =
     let o = firsts (tried (tried-both c.before.before)) in
     let l = turn o in
     (lent o, share_slots l, omega (arith, inside o, size l), held_fits o)
 
-abbrev held_more : tie.After-add-trade invariant-loop decreases-loop → tie.After-fits3 invariant-loop decreases-loop
+abbrev held_more : tie.After-add_trade invariant-loop decreases-loop → tie.After-fits3 invariant-loop decreases-loop
 held_more c = c.before.before.before
 
-add-trade-requires-2 : tie.Need-add-trade-requires-2 invariant-loop decreases-loop
+add-trade-requires-2 : tie.Need-add_trade-requires-then-fits-2 invariant-loop decreases-loop
 add-trade-requires-2 c κs =
     let o = firsts (tried (tried-both (held_more c.before.before.before))) in
     let l = turn o in
     (lent-funds o, cash_slots l, omega (arith, inside o, size l), funds-fits o)
 
-abbrev funds-more : tie.After-flip2 invariant-loop decreases-loop → tie.After-add-trade2 invariant-loop decreases-loop
+abbrev funds-more : tie.After-flip-marks invariant-loop decreases-loop → tie.After-add_trade-then-fits-2 invariant-loop decreases-loop
 funds-more c = c.before.before.before
 
-abbrev shares-more : tie.After-add-trade2 invariant-loop decreases-loop → tie.After-add-trade invariant-loop decreases-loop
+abbrev shares-more : tie.After-add_trade-then-fits-2 invariant-loop decreases-loop → tie.After-add_trade invariant-loop decreases-loop
 shares-more c = c.before.before.before.before
 
 -- ---- one less is out
 
-less-out : (c : tie.After-flip invariant-loop decreases-loop) → (let l = turn (firsts c) in count_on (is_on c.flip.result) 64 < count_on (is_on l.loop.out) 64)
+less-out : (c : tie.After-flip-out invariant-loop decreases-loop) → (let l = turn (firsts c) in count_on (is_on c.flip-out.result) 64 < count_on (is_on l.loop-out.out) 64)
 less-out c =
     let o = firsts c in
-    let j = o.first.result in
-    let f = o.first.ensures in
-    let out = (turn o).loop.out in
-    count_less (is_on out) (is_on c.flip.result) 64 j f.inside f.on (c.flip.ensures j f.inside ∙ rw (eq-eqb j j refl, f.on))
-    (λ k l d. c.flip.ensures k l ∙ rw (ne_eqb k j d))
+    let j = o.first-j.result in
+    let f = o.first-j.ensures in
+    let out = (turn o).loop-out.out in
+    count_less (is_on out) (is_on c.flip-out.result) 64 j f.inside f.on (c.flip-out.ensures j f.inside ∙ rw (eq-eqb j j refl, f.on))
+    (λ k l d. c.flip-out.ensures k l ∙ rw (ne_eqb k j d))
 
 -- ---- it does not fit, or it does
 
@@ -160,28 +160,28 @@ add-sized :
 add-sized m n legs slots j before after e d = subst (λ (x : ℕ). WithLeg x legs slots j before after) e d
 
 -- shares are not enough
-loop-again-3 : tie.Need-loop-preserved-3 invariant-loop decreases-loop
+loop-again-3 : tie.Need-loop-out-preserved invariant-loop decreases-loop
 loop-again-3 c = λ r s.
     let v = tried c.before in
     let o = firsts v in
     let l = turn o in
-    let w = l.loop.inv r s in
-    let e = sym c.before.fits2.ensures ∙ c.if1.false in
-    refused (b l) r _ _ s w o.first.ensures v.flip.result v.flip.ensures (tested (b l) r _ _ s w o.first.ensures ∙ rw e)
+    let w = l.loop-out.invariant r s in
+    let e = sym c.before.fits-then-fits.ensures ∙ c.if-fits.false in
+    refused (b l) r _ _ s w o.first-j.ensures v.flip-out.result v.flip-out.ensures (tested (b l) r _ _ s w o.first-j.ensures ∙ rw e)
 
 -- shares are, cash is not
-loop-again-2 : tie.Need-loop-preserved-2 invariant-loop decreases-loop
+loop-again-2 : tie.Need-loop-out-preserved-else-fits-2 invariant-loop decreases-loop
 loop-again-2 c = λ r s.
     let v = tried (tried-both c.before) in
     let o = firsts v in
     let l = turn o in
-    let w = l.loop.inv r s in
-    let e = sym (tried-both c.before).fits2.ensures ∙ c.before.before.before.if1.true in
-    let d = sym c.before.fits3.ensures ∙ c.if2.false in
-    refused (b l) r _ _ s w o.first.ensures v.flip.result v.flip.ensures (tested (b l) r _ _ s w o.first.ensures ∙ ap₂ ◌&&◌ e d)
+    let w = l.loop-out.invariant r s in
+    let e = sym (tried-both c.before).fits-then-fits.ensures ∙ c.before.before.before.if-fits.true in
+    let d = sym c.before.fits3.ensures ∙ c.if-fits-2.false in
+    refused (b l) r _ _ s w o.first-j.ensures v.flip-out.result v.flip-out.ensures (tested (b l) r _ _ s w o.first-j.ensures ∙ ap₂ ◌&&◌ e d)
 
 -- both are
-loop-again : tie.Need-loop-preserved invariant-loop decreases-loop
+loop-again : tie.Need-loop-out-preserved-then-fits-2 invariant-loop decreases-loop
 loop-again c = λ r s.
     let g = funds-more c in
     let h = shares-more g in
@@ -190,28 +190,28 @@ loop-again c = λ r s.
     let o = firsts v in
     let l = turn o in
     let a = (entry l).args in
-    let w = l.loop.inv r s in
-    let e = sym (tried-both t).fits2.ensures ∙ t.before.before.if1.taken in
-    let d = sym t.fits3.ensures ∙ h.before.before.if2.taken in
-    let fits = tested (b l) r _ _ s w o.first.ensures ∙ ap₂ ◌&&◌ e d in
-    added (b l) r _ _ s w o.first.ensures v.flip.result v.flip.ensures fits c.flip2.result c.flip2.ensures _ _
-    h.add-trade.ensures.1 g.add-trade2.ensures.1
-    (add-sized _ _ a.shares.now a.held_at.now o.first.result _ _ (size l) h.add-trade.ensures.0)
-    (add-sized _ _ a.cents.now a.funds-at.now o.first.result _ _ (size l) g.add-trade2.ensures.0)
+    let w = l.loop-out.invariant r s in
+    let e = sym (tried-both t).fits-then-fits.ensures ∙ t.before.before.if-fits.true in
+    let d = sym t.fits3.ensures ∙ h.before.before.if-fits-2.true in
+    let fits = tested (b l) r _ _ s w o.first-j.ensures ∙ ap₂ ◌&&◌ e d in
+    added (b l) r _ _ s w o.first-j.ensures v.flip-out.result v.flip-out.ensures fits c.flip-marks.result c.flip-marks.ensures _ _
+    h.add_trade.ensures.1 g.add_trade-then-fits-2.ensures.1
+    (add-sized _ _ a.shares.now a.held_at.now o.first-j.result _ _ (size l) h.add_trade.ensures.0)
+    (add-sized _ _ a.cents.now a.funds_at.now o.first-j.result _ _ (size l) g.add_trade-then-fits-2.ensures.0)
 
 returns : tie.Need-returns invariant-loop decreases-loop
 returns c =
     let l = c.before in
     let w = passing l in
-    (done (b l) (r l) _ _ (s l) w (omega (arith, c.loop-test.false)), w.figured)
+    (done (b l) (r l) _ _ (s l) w (omega (arith, c.loop-out-test.false)), w.figured)
 
-pub one-pass-spec : {M : Type 1} → statement M
-one-pass-spec =
+pub one_pass_spec : {M : Type 1} → statement M
+one_pass_spec =
     tie.close
-    (tie.spec invariant-loop decreases-loop (λ c κs. search rules) (λ c κs. search rules) loop-holds (λ c κs. omega (arith, c.loop-test.true))
-    (λ c κs. c.first.ensures.inside) fits-requires fits-requires-2 add-trade-requires add-trade-requires-2
-    (λ c κs. (firsts (tried (tried-both (held_more (shares-more c.before.before))))).first.ensures.inside)
+    (tie.spec invariant-loop decreases-loop (λ c κs. search rules) (λ c κs. search rules) loop-holds (λ c κs. omega (arith, c.loop-out-test.true))
+    (λ c κs. c.first-j.ensures.inside) fits-requires fits-requires-2 add-trade-requires add-trade-requires-2
+    (λ c κs. (firsts (tried (tried-both (held_more (shares-more c.before.before))))).first-j.ensures.inside)
     (λ c. less-out (tried (tried-both (held_more (shares-more (funds-more c)))))) loop-again (λ c. less-out (tried (tried-both c.before))) loop-again-2
     (λ c. less-out (tried c.before)) loop-again-3
-    (λ c. omega (arith, (passing c.before).figured.held_long, (entry c.before).pre.1.held_long))
-    (λ c. omega (arith, (passing c.before).figured.funds_long, (entry c.before).pre.1.funds_long)) returns)
+    (λ c. omega (arith, (passing c.before).figured.held_long, (entry c.before).requires.1.held_long))
+    (λ c. omega (arith, (passing c.before).figured.funds_long, (entry c.before).requires.1.funds_long)) returns)

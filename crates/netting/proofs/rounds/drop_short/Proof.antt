@@ -24,7 +24,7 @@ use Rattle.netting.proofs.rounds.drop_short.Tie as tie
 abbrev test : (marks : ℕ) (held funds : List ℕ) → ℕ → Bool
 test marks held funds k = is_on marks k && (short_at held k || short_at funds k)
 
-abbrev invariant-loop : tie.invariant-loop
+abbrev invariant-loop : tie.invariant-loop-j
 invariant-loop book due held₀ shares held_at funds₀ cents funds-at n marks₀ top₀ held funds marks top =
     (length held ≡ 128)
     × (length funds ≡ 128)
@@ -32,42 +32,42 @@ invariant-loop book due held₀ shares held_at funds₀ cents funds-at n marks�
     × (top ≤ n)
     × ((k : ℕ) → top ≤ k → k < n → test marks (viewed held_at held) (viewed funds-at funds) k ≡ false)
 
-abbrev decreases-loop : tie.decreases-loop
+abbrev decreases-loop : tie.decreases-loop-j
 decreases-loop book due held₀ shares held_at funds₀ cents funds-at n marks₀ top₀ held funds marks top = count_on (is_on marks) n
 
 -- ---- places
 
-abbrev entry : tie.After-items invariant-loop decreases-loop → tie.Start invariant-loop decreases-loop
+abbrev entry : tie.After-items-n invariant-loop decreases-loop → tie.Start invariant-loop decreases-loop
 entry c = c.before.before.before.before.before.before.before.before
 
-abbrev ledger : tie.After-items invariant-loop decreases-loop → Ledger
+abbrev ledger : tie.After-items-n invariant-loop decreases-loop → Ledger
 ledger c = ledger_of (entry c).args.book.now
 
-module _ (c : tie.After-items invariant-loop decreases-loop) where
+module _ (c : tie.After-items-n invariant-loop decreases-loop) where
   abbrev ready : Ready (ledger c)
   ready = (entry c).requires.0.1
 
   first-figured :
       (let a = (entry c).args in
-      Figured (ledger c) a.due a.shares.now a.held_at.now a.held.now a.cents.now a.funds-at.now a.funds.now)
+      Figured (ledger c) a.due a.shares.now a.held_at.now a.held.now a.cents.now a.funds_at.now a.funds.now)
   first-figured = (entry c).requires.1
 
   -- how many items there are
-  size : c.items.result ≡ length (ledger c).waiting
-  size = c.items.ensures
+  size : c.items-n.result ≡ length (ledger c).waiting
+  size = c.items-n.ensures
 
-  few : c.items.result ≤ 64
+  few : c.items-n.result ≤ 64
   few = omega (arith, size, ready.size)
 
-loop-holds : tie.Need-loop-init invariant-loop decreases-loop
+loop-holds : tie.Need-loop-j-init invariant-loop decreases-loop
 loop-holds c =
     let f = first-figured c in
     (f.held_long, f.funds_long, (λ r. starts (ledger c) r f), omega arith, (λ k l m. absurd (omega arith)))
 
 -- ---- at the loop's head
 
-module _ (l : tie.At-loop invariant-loop decreases-loop) where
-  abbrev counted : tie.After-items invariant-loop decreases-loop
+module _ (l : tie.At-loop-j invariant-loop decreases-loop) where
+  abbrev counted : tie.After-items-n invariant-loop decreases-loop
   counted = l.before
 
   abbrev b : Ledger
@@ -77,31 +77,31 @@ module _ (l : tie.At-loop invariant-loop decreases-loop) where
   r = ready counted
 
   abbrev held_in : List ℕ
-  held_in = viewed (entry counted).args.held_at.now l.loop.held
+  held_in = viewed (entry counted).args.held_at.now l.loop-j.held
 
   abbrev funds_in : List ℕ
-  funds_in = viewed (entry counted).args.funds-at.now l.loop.funds
+  funds_in = viewed (entry counted).args.funds_at.now l.loop-j.funds
 
-  running : Running b r (entry counted).args.due l.loop.marks (entry counted).args.shares.now (entry counted).args.cents.now held_in funds_in
-  running = l.loop.inv.2 r
+  running : Running b r (entry counted).args.due l.loop-j.marks (entry counted).args.shares.now (entry counted).args.cents.now held_in funds_in
+  running = l.loop-j.invariant.2 r
 
   -- the slots, for as many items as are read
-  share_slots : Slots counted.items.result (entry counted).args.shares.now (entry counted).args.held_at.now
+  share_slots : Slots counted.items-n.result (entry counted).args.shares.now (entry counted).args.held_at.now
   share_slots =
       subst (λ (x : ℕ). Slots x (entry counted).args.shares.now (entry counted).args.held_at.now) (sym (size counted))
       (first-figured counted).share_slots
 
-  cash_slots : Slots counted.items.result (entry counted).args.cents.now (entry counted).args.funds-at.now
+  cash_slots : Slots counted.items-n.result (entry counted).args.cents.now (entry counted).args.funds_at.now
   cash_slots =
-      subst (λ (x : ℕ). Slots x (entry counted).args.cents.now (entry counted).args.funds-at.now) (sym (size counted))
+      subst (λ (x : ℕ). Slots x (entry counted).args.cents.now (entry counted).args.funds_at.now) (sym (size counted))
       (first-figured counted).cash_slots
 
   -- what is searched is enough
   abbrev code : ℕ → Bool
-  code = test l.loop.marks held_in funds_in
+  code = test l.loop-j.marks held_in funds_in
 
-  cut : last_below code (length b.waiting) ≡ last_below code l.loop.top
-  cut = last_cut _ l.loop.top _ (rw (sym (size counted)) l.loop.inv.3) (rw (sym (size counted)) l.loop.inv.4)
+  cut : last_below code (length b.waiting) ≡ last_below code l.loop-j.top
+  cut = last_cut _ l.loop-j.top _ (rw (sym (size counted)) l.loop-j.invariant.3) (rw (sym (size counted)) l.loop-j.invariant.4)
 
 -- the slots of the places that are searched are places of figures
 low-to : (n top : ℕ) (slots : List ℕ) → top ≤ n → Low n slots → Low top slots
@@ -112,108 +112,108 @@ less-sized :
     → WithoutLeg n legs slots j before after
 less-sized m n legs slots j before after e d = subst (λ (x : ℕ). WithoutLeg x legs slots j before after) e d
 
-last-short-requires : tie.Need-last-short-requires invariant-loop decreases-loop
+last-short-requires : tie.Need-last_short-found-requires invariant-loop decreases-loop
 last-short-requires c κs =
     let l = c.before.before in
-    let i = l.loop.invariant in
-    let p = slots_low _ _ _ l.loop.held (few (counted l)) i.0 (share_slots l) in
-    let q = slots_low _ _ _ l.loop.funds (few (counted l)) i.1 (cash_slots l) in
+    let i = l.loop-j.invariant in
+    let p = slots_low _ _ _ l.loop-j.held (few (counted l)) i.0 (share_slots l) in
+    let q = slots_low _ _ _ l.loop-j.funds (few (counted l)) i.1 (cash_slots l) in
     (i.0, i.1, omega (arith, few (counted l), i.3), low-to _ _ _ i.3 p, low-to _ _ _ i.3 q)
 
-abbrev searched : tie.After-last-short invariant-loop decreases-loop → tie.At-loop invariant-loop decreases-loop
-searched c = c.before.before.before
+abbrev searched : tie.After-last_short-found invariant-loop decreases-loop → tie.At-loop-j invariant-loop decreases-loop
+searched c = c.before
 
-returns : tie.Need-returns invariant-loop decreases-loop
+returns : tie.Need-returns-in_default invariant-loop decreases-loop
 returns c =
-    let f = c.before.before in
+    let f = c.before in
     let l = searched f in
-    let i = l.loop.inv in (
+    let i = l.loop-j.invariant in (
       record {
-        marked = stops (b l) (r l) (running l) (cut l ∙ sym f.last-short.ensures ∙ c.enum_told.given.1);
+        marked = stops (b l) (r l) (running l) (cut l ∙ sym f.last_short-found.ensures ∙ c.in_default.is);
         within = (running l).within;
       },
-      figured (b l) (r l) (first-figured (counted l)) l.loop.marks l.loop.held l.loop.funds i.0 i.1 (running l),
+      figured (b l) (r l) (first-figured (counted l)) l.loop-j.marks l.loop-j.held l.loop-j.funds i.0 i.1 (running l),
     )
 
 -- ---- the trade that is dropped
 
-abbrev head : tie.After-found invariant-loop decreases-loop → tie.At-loop invariant-loop decreases-loop
-head c = searched c.before.before
+abbrev head : tie.In-At invariant-loop decreases-loop → tie.At-loop-j invariant-loop decreases-loop
+head c = searched c.before
 
-abbrev found : tie.After-drop-trade invariant-loop decreases-loop → tie.After-found invariant-loop decreases-loop
-found c = c.before.before.before
+abbrev found : tie.After-drop_trade-less invariant-loop decreases-loop → tie.In-At invariant-loop decreases-loop
+found c = c.before.before
 
-abbrev held-less : tie.After-drop-trade2 invariant-loop decreases-loop → tie.After-drop-trade invariant-loop decreases-loop
+abbrev held-less : tie.After-drop_trade-poorer invariant-loop decreases-loop → tie.After-drop_trade-less invariant-loop decreases-loop
 held-less c = c.before.before.before.before
 
 spot :
-    (c : tie.After-found invariant-loop decreases-loop)
-    → (let l = head c in last_short (is_on l.loop.marks) (held_in l) (funds_in l) (length (b l).waiting) ≡ At c.found.given.0.0)
-spot c = cut (head c) ∙ sym c.before.before.last-short.ensures ∙ c.found.given.1
+    (c : tie.In-At invariant-loop decreases-loop)
+    → (let l = head c in last_short (is_on l.loop-j.marks) (held_in l) (funds_in l) (length (b l).waiting) ≡ At c.in-At.j)
+spot c = cut (head c) ∙ sym c.last_short-found.ensures ∙ c.in-At.is
 
-there : (c : tie.After-found invariant-loop decreases-loop) → c.found.given.0.0 < length (b (head c)).waiting
+there : (c : tie.In-At invariant-loop decreases-loop) → c.in-At.j < length (b (head c)).waiting
 there c = let l = head c in inside (b l) (r l) (running l) (spot c)
 
-drop-trade-requires : tie.Need-drop-trade-requires invariant-loop decreases-loop
+drop-trade-requires : tie.Need-drop_trade-less-requires invariant-loop decreases-loop
 drop-trade-requires c κs =
-    let f = c.before.before in
+    let f = c.before in
     let l = head f in (
-      record { figures_long = l.loop.inv.0; legs_long = (first-figured (counted l)).share_legs.long; size = few (counted l) },
+      record { figures_long = l.loop-j.invariant.0; legs_long = (first-figured (counted l)).share_legs.long; size = few (counted l) },
       share_slots l,
       rw (size (counted l)) (there f),
       rw (size (counted l)) (share_cover (b l) (r l) (running l) (spot f)),
     )
 
-drop-trade-requires-2 : tie.Need-drop-trade-requires-2 invariant-loop decreases-loop
+drop-trade-requires-2 : tie.Need-drop_trade-poorer-requires invariant-loop decreases-loop
 drop-trade-requires-2 c κs =
     let f = found c.before.before.before in
     let l = head f in (
-      record { figures_long = l.loop.inv.1; legs_long = (first-figured (counted l)).cash_legs.long; size = few (counted l) },
+      record { figures_long = l.loop-j.invariant.1; legs_long = (first-figured (counted l)).cash_legs.long; size = few (counted l) },
       cash_slots l,
       rw (size (counted l)) (there f),
       rw (size (counted l)) (cash_cover (b l) (r l) (running l) (spot f)),
     )
 
-abbrev both-less : tie.After-flip invariant-loop decreases-loop → tie.After-drop-trade2 invariant-loop decreases-loop
+abbrev both-less : tie.After-flip-marks invariant-loop decreases-loop → tie.After-drop_trade-poorer invariant-loop decreases-loop
 both-less c = c.before.before.before
 
-next-top-requires : tie.Need-next-top-requires invariant-loop decreases-loop
+next-top-requires : tie.Need-next_top-top-requires invariant-loop decreases-loop
 next-top-requires c κs =
     let d = both-less c in
     let f = found (held-less d) in
-    ((held-less d).drop-trade.ensures.1.1.inside, d.drop-trade2.ensures.1.1.inside, omega (arith, there f, size (counted (head f))))
+    ((held-less d).drop_trade-less.ensures.1.1.inside, d.drop_trade-poorer.ensures.1.1.inside, omega (arith, there f, size (counted (head f))))
 
-loop-less : tie.Need-loop-smaller invariant-loop decreases-loop
+loop-less : tie.Need-loop-j-smaller invariant-loop decreases-loop
 loop-less c =
     let v = c.before in
     let f = found (held-less (both-less v)) in
     let l = head f in
-    rw (size (counted l)) (fewer (b l) (r l) (running l) (spot f) v.flip.result v.flip.ensures)
+    rw (size (counted l)) (fewer (b l) (r l) (running l) (spot f) v.flip-marks.result v.flip-marks.ensures)
 
-loop-again : tie.Need-loop-preserved invariant-loop decreases-loop
+loop-again : tie.Need-loop-j-preserved invariant-loop decreases-loop
 loop-again c =
     let d = both-less c.before in
     let f = found (held-less d) in
     let l = head f in
     let e = size (counted l) in
     let a = (entry (counted l)).args in
-    let h = (held-less d).drop-trade.ensures in
-    let g = d.drop-trade2.ensures in
-    let v = c.before.flip in
-    let h0 = less-sized _ _ a.shares.now _ f.found.given.0.0 _ _ e h.0 in
-    let g0 = less-sized _ _ a.cents.now _ f.found.given.0.0 _ _ e g.0 in
-    let t = c.next-top.ensures in (
+    let h = (held-less d).drop_trade-less.ensures in
+    let g = d.drop_trade-poorer.ensures in
+    let v = c.flip-marks in
+    let h0 = less-sized _ _ a.shares.now _ f.in-At.j _ _ e h.0 in
+    let g0 = less-sized _ _ a.cents.now _ f.in-At.j _ _ e g.0 in
+    let t = c.next_top-top.ensures in (
       h.1.0,
       g.1.0,
-      (λ r. runs_on (b l) r (l.loop.inv.2 r) (spot f) v.result v.ensures _ _ h0 g0),
+      (λ r. runs_on (b l) r (l.loop-j.invariant.2 r) (spot f) v.result v.ensures _ _ h0 g0),
       t.0,
       (λ k a m.
           behind_still (b l) (r l) (running l) (spot f) v.result v.ensures _ _ h0 g0 k (h.1.1.fine k (omega (arith, t.1, a)) m)
           (g.1.1.fine k (omega (arith, t.2, a)) m) (omega (arith, t.3, a)) (rw e at m)),
     )
 
-pub drop-short-spec : {M : Type 1} → statement M
-drop-short-spec =
+pub drop_short_spec : {M : Type 1} → statement M
+drop_short_spec =
     tie.close
     (tie.spec invariant-loop decreases-loop (λ c κs. search rules) loop-holds last-short-requires (λ c. search rules) (λ c. search rules) (λ c. search rules)
     (λ c. search rules) returns drop-trade-requires drop-trade-requires-2

@@ -23,7 +23,7 @@ decreases-loop book₀ marks n i₀ book i = n - i
 -- ---- places
 
 abbrev entry : tie.At-loop-i invariant-loop decreases-loop → tie.Start invariant-loop decreases-loop
-entry l = l.before.before.before
+entry l = l.before.before.before.before
 
 abbrev asked : tie.After-item-at-arg invariant-loop decreases-loop → tie.After-is_on invariant-loop decreases-loop
 asked c = c.before.before
@@ -32,22 +32,22 @@ abbrev ledger : tie.At-loop-i invariant-loop decreases-loop → Ledger
 ledger l = ledger_of (entry l).args.book.now
 
 -- i is a place of the waiting list, which stays as it was
-there : (t : tie.In-loop-i invariant-loop decreases-loop) → t.loop-i.i < length (ledger t.before).waiting
-there t = omega (arith, t.loop-i-test.true, t.items-n.ensures)
+there : (t : tie.In-loop-i invariant-loop decreases-loop) → t.before.loop-i.i < length (ledger t.before).waiting
+there t = omega (arith, t.loop-i-test.true, t.before.before.items-n.ensures)
 
-there-now : (t : tie.In-loop-i invariant-loop decreases-loop) → t.loop-i.i < length (ledger_of t.loop-i.book).waiting
+there-now : (t : tie.In-loop-i invariant-loop decreases-loop) → t.before.loop-i.i < length (ledger_of t.before.loop-i.book).waiting
 there-now t =
-    let l = t.loop-i in
+    let l = t.before.loop-i in
     subst (λ (w : List Item). l.i < length w) (sym (waiting_now (ledger t.before) l.book _ l.invariant.1)) (there t)
 
 credit-trade-requires : tie.Need-credit_trade-requires invariant-loop decreases-loop
 credit-trade-requires c κs =
-    let read = c in
+    let read = c.before in
     let a = asked read.before in
     let t = a.before in
-    let l = t.loop-i in
+    let l = t.before.loop-i in
     let s = entry t.before in
-    let marked = sym a.is_on.ensures ∙ read.if-is_on.true in
+    let marked = sym a.is_on.ensures ∙ read.before.before.if-is_on.true in
     let item = read.item_at-trade.ensures no_item in
     (l.invariant.1.stored, credit-fits (ledger t.before) s.args.marks l.i l.book marked _ item l.invariant.1 (there t) s.requires.1)
 
@@ -57,7 +57,7 @@ loop-again c =
     let l = h.loop-i in
     let b = ledger h in
     let marks = (entry h).args.marks in
-    let test = sym c.is_on.ensures in
+    let test = sym c.before.is_on.ensures in
     ⊎_elim
     (λ w. (
       omega arith,
@@ -71,13 +71,13 @@ returns : tie.Need-returns invariant-loop decreases-loop
 returns c =
     let h = c.before in
     let l = h.loop-i in
-    credit-done (ledger h) (entry h).args.marks l.i l.book (omega (arith, c.loop-i-test.false, h.items-n.ensures)) l.invariant.1
+    credit-done (ledger h) (entry h).args.marks l.i l.book (omega (arith, c.loop-i-test.false, h.before.items-n.ensures)) l.invariant.1
 
 pub credit_marked_spec : {M : Type 1} → statement M
 credit_marked_spec =
     tie.close
     (tie.spec invariant-loop decreases-loop (λ c κs. search rules)
-    (λ c. let s = c in (omega arith, credit-start s.args.marks s.args.book.now s.requires.0))
-    (λ c κs. omega (arith, there c, (entry c.before).requires.1.size)) (λ c κs. let t = (asked c).before in (t.loop-i.invariant.1.stored, there-now t))
+    (λ c. let s = c.before.before.before in (omega arith, credit-start s.args.marks s.args.book.now s.requires.0))
+    (λ c κs. omega (arith, there c, (entry c.before).requires.1.size)) (λ c κs. let t = (asked c).before in (t.before.loop-i.invariant.1.stored, there-now t))
     credit-trade-requires (λ c. omega arith) (λ c. omega arith) loop-again
-    (λ c. c.loop-i.invariant.1.stored.long ∙ sym (entry c.before).requires.0.long) returns)
+    (λ c. c.before.loop-i.invariant.1.stored.long ∙ sym (entry c.before).requires.0.long) returns)

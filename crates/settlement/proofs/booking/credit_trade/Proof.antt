@@ -17,10 +17,10 @@ use Rattle.settlement.proofs.booking.credit_trade.Tie as tie
 -- ---- places
 
 abbrev entry : tie.After-credit → tie.Start
-entry c = c.before.before.before.before.before
+entry c = c.before.before.before.before
 
 abbrev first : tie.After-credit_cash → tie.After-credit
-first c = c.before.before.before.before.before
+first c = c.before.before.before.before
 
 credit-requires : tie.Need-credit-requires
 credit-requires c κs =
@@ -42,7 +42,7 @@ credit-cash-requires : tie.Need-credit_cash-requires
 unfolding credit put_balance
 credit-cash-requires c κs =
     let f = c.before.before.before in
-    let s = entry f.before in
+    let s = entry f in
     let t = s.args.trade in
     let h = ap (λ (x : Holdings). x.cash t.debited.member t.currency) (holdings_now (ledger_of s.args.book.now) _ _ (shares f)) in
     ((shares f).stored, s.requires.1.bookable.paid, omega (arith, h, s.requires.1.cash))

@@ -17,10 +17,10 @@ use Rattle.settlement.proofs.booking.debit_trade.Tie as tie
 -- ---- places
 
 abbrev entry : tie.After-debit → tie.Start
-entry c = c.before.before.before.before.before
+entry c = c.before.before.before.before
 
 abbrev first : tie.After-debit_cash → tie.After-debit
-first c = c.before.before.before.before.before
+first c = c.before.before.before.before
 
 debit-requires : tie.Need-debit-requires
 debit-requires c κs =
@@ -39,7 +39,7 @@ debit-cash-requires : tie.Need-debit_cash-requires
 unfolding debit put_balance
 debit-cash-requires c κs =
     let f = c.before.before.before in
-    let s = entry f.before in
+    let s = entry f in
     let t = s.args.trade in
     let h = ap (λ (x : Holdings). x.cash t.credited.member t.currency) (holdings_now (ledger_of s.args.book.now) _ _ (shares f)) in
     ((shares f).stored, s.requires.1.bookable.pays, omega (arith, h, s.requires.1.cash))

@@ -22,7 +22,7 @@ decreases-loop book₀ marks n j₀ i₀ book j i = n - i
 -- ---- places
 
 abbrev entry : tie.At-loop-i invariant-loop decreases-loop → tie.Start invariant-loop decreases-loop
-entry l = l.before.before.before
+entry l = l.before.before.before.before
 
 abbrev turn : tie.After-item-at-arg invariant-loop decreases-loop → tie.In-loop-i invariant-loop decreases-loop
 turn c = c.before.before.before
@@ -37,13 +37,13 @@ abbrev ledger : tie.At-loop-i invariant-loop decreases-loop → Ledger
 ledger l = ledger_of (entry l).args.book.now
 
 -- i is a place of the waiting list
-there : (t : tie.In-loop-i invariant-loop decreases-loop) → t.loop-i.i < length (ledger t.before).waiting
-there t = omega (arith, t.loop-i-test.true, t.items-n.ensures)
+there : (t : tie.In-loop-i invariant-loop decreases-loop) → t.before.loop-i.i < length (ledger t.before).waiting
+there t = omega (arith, t.loop-i-test.true, t.before.before.items-n.ensures)
 
 put-item-requires : tie.Need-put_item-requires invariant-loop decreases-loop
 put-item-requires c κs =
     let t = turn c.before.before in
-    let v = t.loop-i.invariant.1 in
+    let v = t.before.loop-i.invariant.1 in
     (v.means.stored, omega (arith, there t, v.packed.behind, v.packed.long))
 
 loop-again : tie.Need-loop-i-preserved invariant-loop decreases-loop
@@ -53,7 +53,7 @@ loop-again c =
     let l = h.loop-i in
     let b = ledger h in
     let marks = (entry h).args.marks in
-    let test = sym c.is_on.ensures in
+    let test = sym c.before.is_on.ensures in
     ⊎_elim
     (λ w. (
       omega arith,
@@ -65,9 +65,9 @@ loop-again c =
 
 keep-first-requires : tie.Need-keep_first-requires invariant-loop decreases-loop
 keep-first-requires c κs =
-    let h = c in
+    let h = c.before.before in
     let v = h.loop-i.invariant in
-    (v.1.means.stored, omega (arith, v.0, h.items-n.ensures, v.1.packed.behind, v.1.packed.long))
+    (v.1.means.stored, omega (arith, v.0, h.before.items-n.ensures, v.1.packed.behind, v.1.packed.long))
 
 returns : tie.Need-returns invariant-loop decreases-loop
 returns c =
@@ -75,16 +75,16 @@ returns c =
     let h = (cut k).before in
     let l = h.loop-i in
     staying-done (ledger h) (entry h).args.marks l.book l.j l.i l.invariant.1
-    (omega (arith, (cut k).loop-i-test.false, h.items-n.ensures)) _ k.keep_first.ensures
+    (omega (arith, (cut k).loop-i-test.false, h.before.items-n.ensures)) _ k.keep_first.ensures
 
 pub leave_marked_spec : {M : Type 1} → statement M
 leave_marked_spec =
     tie.close
     (tie.spec invariant-loop decreases-loop (λ c κs. search rules)
-    (λ c. let s = c in (omega arith, staying-none s.args.marks s.args.book.now s.requires.0))
+    (λ c. let s = c.before.before.before in (omega arith, staying-none s.args.marks s.args.book.now s.requires.0))
     (λ c κs. omega (arith, there c, (entry c.before).requires.1))
-    (λ c κs. let t = turn c in let v = t.loop-i.invariant.1 in (v.means.stored, omega (arith, there t, v.packed.long)))
+    (λ c κs. let t = turn c in let v = t.before.loop-i.invariant.1 in (v.means.stored, omega (arith, there t, v.packed.long)))
     put-item-requires
-    (λ c. let t = turn (moved c) in omega (arith, there t, t.loop-i.invariant.1.packed.behind, (entry t.before).requires.1))
+    (λ c. let t = turn (moved c) in omega (arith, there t, t.before.loop-i.invariant.1.packed.behind, (entry t.before).requires.1))
     (λ c. omega arith) (λ c. omega arith) loop-again keep-first-requires
     (λ c. let k = c.before.before in k.keep_first.ensures.stored.long ∙ sym (entry (cut k).before).requires.0.long) returns)
