@@ -9,7 +9,7 @@ returns : tie.Need-returns
 unfolding put_minute
 returns c =
     let put = c.before.before in
-    means_so _ _ _ put.put-day.ensures (rw put.before.before.day.ensures)
+    means_so _ _ _ put.put_day.ensures (rw put.before.before.day-day.ensures)
 
-pub put-minute-spec : {M : Type 1} → statement M
-put-minute-spec = tie.close (tie.spec (λ c κs. search rules) (λ c κs. search rules) (λ c. search rules) returns)
+pub put_minute_spec : {M : Type 1} → statement M
+put_minute_spec = tie.close (tie.spec (λ c κs. search rules) (λ c κs. search rules) (λ c. search rules) returns)

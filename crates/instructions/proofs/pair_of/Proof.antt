@@ -5,12 +5,12 @@ use Rattle.instructions.specs.Paired.{paired}
 use Rattle.instructions.proofs.pair_of.Statement.{statement}
 use Rattle.instructions.proofs.pair_of.Tie as tie
 
-pub pair-of-spec : {M : Type 1} → statement M
-pair-of-spec =
+pub pair_of_spec : {M : Type 1} → statement M
+pair_of_spec =
     tie.close
     (tie.spec
     (λ c κs. search rules)
     (λ c κs. search rules)
-    (λ c. unfold paired in c.pair-up.ensures ∙ simp (sym c.before.before.is-deliver.ensures ∙ c.before.if1.true))
+    (λ c. unfold paired in c.pair_up.ensures ∙ simp (sym c.before.before.is_deliver.ensures ∙ c.before.if-is_deliver.true))
     (λ c κs. search rules)
-    (λ c. unfold paired in c.pair-up2.ensures ∙ simp (sym c.before.before.is-deliver.ensures ∙ c.before.if1.false)))
+    (λ c. unfold paired in c.pair_up-2.ensures ∙ simp (sym c.before.before.is_deliver.ensures ∙ c.before.if-is_deliver.false)))

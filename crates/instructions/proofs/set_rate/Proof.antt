@@ -7,7 +7,7 @@ use Rattle.instructions.proofs.set_rate.Tie as tie
 
 returns : tie.Need-returns
 unfolding set_rate
-returns c = silent-handled _ _ _ c.before.before.before.put-rate.ensures c.no-counts.ensures
+returns c = silent-handled _ _ _ c.before.before.before.put_rate.ensures c.no_counts.ensures
 
-pub set-rate-spec : {M : Type 1} → statement M
-set-rate-spec = tie.close (tie.spec (λ c κs. search rules) (λ c κs. search rules) (λ c. search rules) returns)
+pub set_rate_spec : {M : Type 1} → statement M
+set_rate_spec = tie.close (tie.spec (λ c κs. search rules) (λ c κs. search rules) (λ c. search rules) returns)

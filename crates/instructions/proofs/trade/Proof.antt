@@ -11,11 +11,11 @@ use Rattle.instructions.proofs.Roomy.{trade-room}
 use Rattle.instructions.proofs.trade.Statement.{statement}
 use Rattle.instructions.proofs.trade.Tie as tie
 
-abbrev start : tie.After-item-of → tie.Start
+abbrev start : tie.After-item_of → tie.Start
 start c = c.before.before.before
 
 push-requires : tie.Need-push-requires
-push-requires c κs = let s = start c in (s.pre.0.kept.stored, trade-room s.pre.0 s.pre.1)
+push-requires c κs = let s = start c in (s.requires.0.kept.stored, trade-room s.requires.0 s.requires.1)
 
 returns : tie.Need-returns
 unfolding trade
@@ -25,7 +25,7 @@ returns c =
     let b = ledger_of (start made).args.book.now in
     silent-handled _ _ _
     (means_so _ _ _ pushed.push.ensures (ap (λ (i : Item). put_waiting (b.waiting ++ (i ∷ [])) b) made.item_of.ensures))
-    c.no-counts.ensures
+    c.no_counts.ensures
 
-pub trade-spec : {M : Type 1} → statement M
-trade-spec = tie.close (tie.spec (λ c κs. search rules) push-requires (λ c κs. search rules) (λ c. search rules) returns)
+pub trade_spec : {M : Type 1} → statement M
+trade_spec = tie.close (tie.spec (λ c κs. search rules) push-requires (λ c κs. search rules) (λ c. search rules) returns)

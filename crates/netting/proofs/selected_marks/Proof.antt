@@ -108,8 +108,8 @@ module _ (c : tie.After-add_marked-2) where
   shares = filled share_slots
 
   figured :
-      Figured (ledger shares) (entry shares).args.due shares.fill_shares.last.0 share_slots.fill.last.0 (added cash).add_marked.last.0
-      cash.fill_cash.last.0 cash_slots.fill-2.last.0 c.add_marked-2.new.0
+      Figured (ledger shares) (entry shares).args.due shares.fill_shares.new.legs share_slots.fill.new.slots (added cash).add_marked.new.figures
+      cash.fill_cash.new.legs cash_slots.fill-2.new.slots c.add_marked-2.new.figures
   figured =
       let e = (counted shares).items-n.ensures in
       let due = (entry shares).args.due in
@@ -117,10 +117,10 @@ module _ (c : tie.After-add_marked-2) where
       let funds = cash.fill_cash.ensures in
       let h = (added cash).add_marked.ensures in
       let k = c.add_marked-2.ensures in
-      let p = slots-sized _ _ shares.fill_shares.last.0 _ e share_slots.fill.ensures in
-      let q = slots-sized _ _ cash.fill_cash.last.0 _ e cash_slots.fill-2.ensures in
-      let h0 = added-sized _ _ (is_on due) shares.fill_shares.last.0 _ _ _ e h.0 in
-      let k0 = added-sized _ _ (is_on due) cash.fill_cash.last.0 _ _ _ e k.0 in
+      let p = slots-sized _ _ shares.fill_shares.new.legs _ e share_slots.fill.ensures in
+      let q = slots-sized _ _ cash.fill_cash.new.legs _ e cash_slots.fill-2.ensures in
+      let h0 = added-sized _ _ (is_on due) shares.fill_shares.new.legs _ _ _ e h.0 in
+      let k0 = added-sized _ _ (is_on due) cash.fill_cash.new.legs _ _ _ e k.0 in
       record {
         share_legs = held.0;
         share_slots = p;

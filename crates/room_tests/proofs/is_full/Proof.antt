@@ -6,5 +6,5 @@ use Rattle.room_tests.proofs.is_full.Tie as tie
 returns : tie.Need-returns
 returns c = rw (c.before.accounts.ensures, c.items.ensures)
 
-pub is-full-spec : {M : Type 1} → statement M
-is-full-spec = tie.close (tie.spec (λ c κs. c.before.requires.stored) (λ c κs. c.before.before.requires.stored) (λ c. search rules) returns)
+pub is_full_spec : {M : Type 1} → statement M
+is_full_spec = tie.close (tie.spec (λ c κs. c.before.requires.stored) (λ c κs. c.before.before.requires.stored) (λ c. search rules) returns)

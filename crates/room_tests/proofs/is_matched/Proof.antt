@@ -9,8 +9,8 @@ use Rattle.room_tests.proofs.is_matched.Tie as tie
 
 returns : tie.Need-returns
 unfolding item_of
-returns c = c.is_found.ensures ∙ ap is_found c.before.first-partner.ensures ∙ found_some _ 0 _ ∙ rw c.before.before.Single-of.ensures
+returns c = c.is_found.ensures ∙ ap is_found c.before.first_partner.ensures ∙ found_some _ 0 _ ∙ rw c.before.before.single_of.ensures
 
-pub is-matched-spec : {M : Type 1} → statement M
-is-matched-spec =
+pub is_matched_spec : {M : Type 1} → statement M
+is_matched_spec =
     tie.close (tie.spec (λ c κs. search rules) (λ c κs. let k = c.before.before.requires in (k.stored, k.premise.rate)) (λ c κs. search rules) returns)

@@ -6,7 +6,7 @@ use Rattle.room_tests.proofs.no_room_between.Tie as tie
 returns : tie.Need-returns
 returns c =
     let here = c.before.before.before.before in
-    rw (here.before.balance.ensures, here.balance2.ensures, c.is-full.ensures)
+    rw (here.before.balance-to_has.ensures, here.balance-from_has.ensures, c.is_full.ensures)
 
-pub no-room-between-spec : {M : Type 1} → statement M
-no-room-between-spec = tie.close (tie.spec (λ c κs. search rules) (λ c κs. search rules) (λ c κs. search rules) returns)
+pub no_room_between_spec : {M : Type 1} → statement M
+no_room_between_spec = tie.close (tie.spec (λ c κs. search rules) (λ c κs. search rules) (λ c κs. search rules) returns)

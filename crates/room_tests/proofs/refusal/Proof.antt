@@ -8,7 +8,7 @@ use Rattle.room_tests.proofs.refusal.Statement.{statement}
 use Rattle.room_tests.proofs.refusal.Tie as tie
 
 -- 11 and 12 are of the order's stage, 19 is of the requests', 16 stands before
-no-space-requires : tie.Need-no-space-requires
+no-space-requires : tie.Need-no_space-requires
 unfolding order_tests request_tests
 no-space-requires c κs =
     let s = c.before.before.before in
@@ -21,30 +21,30 @@ no-space-requires c κs =
     (requests_numbered book.requests book.day.number s.args.order) s.requires.3 in (
       s.requires.0,
       s.requires.1,
-      record { types = passed 11; parties = passed 12; request = asked 19; enough = sym c.before.too-little.ensures ∙ c.if1.false },
+      record { types = passed 11; parties = passed 12; request = asked 19; enough = sym c.before.too_little.ensures ∙ c.if-too_little.false },
     )
 
-over-ceiling-requires : tie.Need-over-ceiling-requires
+over-ceiling-requires : tie.Need-over_ceiling-requires
 over-ceiling-requires c κs = let s = c.before.before.before.before.before in (s.requires.0, s.requires.1)
 
 -- 16 does not apply
-returns-2 : tie.Need-returns-2
+returns-2 : tie.Need-returns
 unfolding room_tests
 returns-2 c =
     let space = c.before.before.before in
     let passed = space.before in
     rw (
-      c.refuse2.ensures,
-      c.before.over-ceiling.ensures,
-      c.before.before.refuse.ensures,
-      space.no-space.ensures,
+      c.refuse.ensures,
+      c.before.over_ceiling.ensures,
+      c.before.before.refuse-later.ensures,
+      space.no_space.ensures,
       sym
-          passed.before.too-little.ensures ∙ passed.if1.false,
+          passed.before.too_little.ensures ∙ passed.if-too_little.false,
     )
 
-pub refusal-spec : {M : Type 1} → statement M
+pub refusal_spec : {M : Type 1} → statement M
 unfolding room_tests
-refusal-spec =
+refusal_spec =
     tie.close
-    (tie.spec (λ c κs. (c.before.requires.0, c.before.requires.1)) (λ c. rw (sym c.before.too-little.ensures ∙ c.if1.true))
+    (tie.spec (λ c κs. (c.before.requires.0, c.before.requires.1)) (λ c. rw (sym c.before.too_little.ensures ∙ c.if-too_little.true))
     no-space-requires (λ c κs. search rules) over-ceiling-requires (λ c κs. search rules) returns-2)

@@ -16,6 +16,7 @@ use Rattle.marks.proofs.ByTest.{MarkedBelow, marked-not, marked-one, by_test_lem
 use Rattle.netting.proofs.Entries.{entries-marked}
 use Rattle.netting.proofs.due.due_marks.Statement.{statement}
 use Rattle.netting.proofs.due.due_marks.Tie as tie
+use Rattle.netting.proofs.due.due_marks.Lts.{then-is_due, else-is_due}
 
 abbrev invariant-loop : tie.invariant-loop-i
 invariant-loop book day n marks₀ i₀ marks i = (i ≤ n) × MarkedBelow (due day.number) (ledger_of book).waiting marks i
@@ -47,16 +48,16 @@ loop-again c =
     let l = h.loop-i in
     let day = h.before.before.day-day.result.number in
     let read = c.before.is_due.ensures ∙ ap (due day) (c.before.before.item_at.ensures no_item) in
-    ⊎_elim
-    (λ w. (
-      omega arith,
-      marked-one (due day) (waiting h) l.marks l.i (low t) l.invariant.1 c.if-is_due.marks
-          (λ k g. ap (λ (m : ℕ). is_on m k) w.2 ∙ w.1.ensures k g) (sym read ∙ w.0.taken),
-    ))
-    (λ w.
-    let none = marked-not (due day) (waiting h) l.marks l.i (low t) l.invariant.1 (sym read ∙ w.0.left) in
-    (omega arith, subst (λ (m : ℕ). MarkedBelow (due day) (waiting h) m (l.i + 1)) (sym w.1) none))
-    c.if-is_due.branch
+    elim c.if-is_due.branch [
+      | then-is_due w ↦ (
+        omega arith,
+        marked-one (due day) (waiting h) l.marks l.i (low t) l.invariant.1 c.if-is_due.marks
+            (λ k g. ap (λ (m : ℕ). is_on m k) w.marks-is ∙ w.flip-marks.ensures k g) (sym read ∙ w.if-is_due.true),
+      )
+      | else-is_due w ↦
+          let none = marked-not (due day) (waiting h) l.marks l.i (low t) l.invariant.1 (sym read ∙ w.if-is_due.false) in
+          (omega arith, subst (λ (m : ℕ). MarkedBelow (due day) (waiting h) m (l.i + 1)) (sym w.marks-is) none)
+    ]
 
 returns : tie.Need-returns invariant-loop decreases-loop
 returns c =
@@ -65,7 +66,7 @@ returns c =
     let day = ap (λ (d : Day). d.number) h.before.before.day-day.ensures in
     record {
       marked =
-          by_test_lem (due b.day-day.number) b.waiting h.loop-i.marks
+          by_test_lem (due b.day.number) b.waiting h.loop-i.marks
           (λ k g. h.loop-i.invariant.1.first k (omega (arith, h.before.items-n.ensures, c.loop-i-test.false)) ∙ ap (λ (d : ℕ). due d (item_in b.waiting k)) day)
           ∙ sym (entries-marked b);
       behind = λ k g l. h.loop-i.invariant.1.rest k (omega (arith, g, h.loop-i.invariant.0, h.before.items-n.ensures)) l;

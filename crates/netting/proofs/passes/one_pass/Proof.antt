@@ -49,18 +49,18 @@ module _ (l : tie.At-loop-out invariant-loop decreases-loop) where
   passing = l.loop-out.invariant r s
 
   -- how many items there are
-  size : l.before.before.items-n.result ≡ length b.waiting
-  size = l.before.before.items-n.ensures
+  size : l.items-n.result ≡ length b.waiting
+  size = l.items-n.ensures
 
   -- the slots, for as many items as are read
-  share_slots : Slots l.before.before.items-n.result (entry l).args.shares.now (entry l).args.held_at.now
+  share_slots : Slots l.items-n.result (entry l).args.shares.now (entry l).args.held_at.now
   share_slots = subst (λ (n : ℕ). Slots n (entry l).args.shares.now (entry l).args.held_at.now) (sym size) passing.figured.share_slots
 
-  cash_slots : Slots l.before.before.items-n.result (entry l).args.cents.now (entry l).args.funds_at.now
+  cash_slots : Slots l.items-n.result (entry l).args.cents.now (entry l).args.funds_at.now
   cash_slots = subst (λ (n : ℕ). Slots n (entry l).args.cents.now (entry l).args.funds_at.now) (sym size) passing.figured.cash_slots
 
 loop-holds : tie.Need-loop-out-init invariant-loop decreases-loop
-loop-holds c = λ r s. begins _ r _ _ s _ _ _ _ _ _ _ c.differing-out.ensures c.before.before.before.before.before.before.before.before.before.requires.1
+loop-holds c = λ r s. begins _ r _ _ s _ _ _ _ _ _ _ c.differing-out.ensures c.requires.1
 
 -- the trade that is looked at
 abbrev turn : tie.After-first-j invariant-loop decreases-loop → tie.At-loop-out invariant-loop decreases-loop
@@ -72,13 +72,13 @@ firsts c = c.before
 abbrev inside : (c : tie.After-first-j invariant-loop decreases-loop) → c.first-j.result < length (b (turn c)).waiting
 inside c = let l = turn c in there (b l) (r l) _ _ (s l) (passing l) c.first-j.ensures
 
-lent : (c : tie.After-first-j invariant-loop decreases-loop) → (let l = turn c in Lent l.loop-out.held (entry l).args.shares.now l.before.before.items-n.result)
+lent : (c : tie.After-first-j invariant-loop decreases-loop) → (let l = turn c in Lent l.loop-out.held (entry l).args.shares.now l.items-n.result)
 lent c =
     let l = turn c in
     let f = (passing l).figured in
     record { figures_long = f.held_long; legs_long = f.share_legs.long; size = omega (arith, size l, (r l).size) }
 
-lent-funds : (c : tie.After-first-j invariant-loop decreases-loop) → (let l = turn c in Lent l.loop-out.funds (entry l).args.cents.now l.before.before.items-n.result)
+lent-funds : (c : tie.After-first-j invariant-loop decreases-loop) → (let l = turn c in Lent l.loop-out.funds (entry l).args.cents.now l.items-n.result)
 lent-funds c =
     let l = turn c in
     let f = (passing l).figured in
@@ -88,7 +88,7 @@ lent-funds c =
 held_fits :
     (c : tie.After-first-j invariant-loop decreases-loop)
     → (let l = turn c in
-    Room l.before.before.items-n.result (entry l).args.shares.now c.first-j.result (viewed (entry l).args.held_at.now l.loop-out.held))
+    Room l.items-n.result (entry l).args.shares.now c.first-j.result (viewed (entry l).args.held_at.now l.loop-out.held))
 held_fits c =
     let l = turn c in
     subst (λ (n : ℕ). Room n (entry l).args.shares.now c.first-j.result (viewed (entry l).args.held_at.now l.loop-out.held)) (sym (size l))
@@ -97,7 +97,7 @@ held_fits c =
 funds-fits :
     (c : tie.After-first-j invariant-loop decreases-loop)
     → (let l = turn c in
-    Room l.before.before.items-n.result (entry l).args.cents.now c.first-j.result (viewed (entry l).args.funds_at.now l.loop-out.funds))
+    Room l.items-n.result (entry l).args.cents.now c.first-j.result (viewed (entry l).args.funds_at.now l.loop-out.funds))
 funds-fits c =
     let l = turn c in
     subst (λ (n : ℕ). Room n (entry l).args.cents.now c.first-j.result (viewed (entry l).args.funds_at.now l.loop-out.funds)) (sym (size l))
@@ -109,17 +109,17 @@ fits-requires c κs =
     let l = turn o in
     (lent o, share_slots l, omega (arith, inside o, size l), held_fits o, held-fine (b l) (r l) _ _ (s l) (passing l) o.first-j.ensures)
 
-abbrev tried : tie.After-fits-then-fits invariant-loop decreases-loop → tie.After-flip-out invariant-loop decreases-loop
-tried c = c.before.before.before
+abbrev tried : tie.After-fits invariant-loop decreases-loop → tie.After-flip-out invariant-loop decreases-loop
+tried c = c.before
 
 fits-requires-2 : tie.Need-fits-requires-then-fits invariant-loop decreases-loop
 fits-requires-2 c κs =
-    let o = firsts (tried c.before.before) in
+    let o = firsts (tried c.before) in
     let l = turn o in
     (lent-funds o, cash_slots l, omega (arith, inside o, size l), funds-fits o, funds_fine (b l) (r l) _ _ (s l) (passing l) o.first-j.ensures)
 
-abbrev tried-both : tie.After-fits3 invariant-loop decreases-loop → tie.After-fits-then-fits invariant-loop decreases-loop
-tried-both c = c.before.before.before
+abbrev tried-both : tie.After-fits-then-fits invariant-loop decreases-loop → tie.After-fits invariant-loop decreases-loop
+tried-both c = c.before.before
 
 add-trade-requires : tie.Need-add_trade-requires invariant-loop decreases-loop
 add-trade-requires c κs =
@@ -127,7 +127,7 @@ add-trade-requires c κs =
     let l = turn o in
     (lent o, share_slots l, omega (arith, inside o, size l), held_fits o)
 
-abbrev held_more : tie.After-add_trade invariant-loop decreases-loop → tie.After-fits3 invariant-loop decreases-loop
+abbrev held_more : tie.After-add_trade invariant-loop decreases-loop → tie.After-fits-then-fits invariant-loop decreases-loop
 held_more c = c.before.before.before
 
 add-trade-requires-2 : tie.Need-add_trade-requires-then-fits-2 invariant-loop decreases-loop
@@ -166,7 +166,7 @@ loop-again-3 c = λ r s.
     let o = firsts v in
     let l = turn o in
     let w = l.loop-out.invariant r s in
-    let e = sym c.before.fits-then-fits.ensures ∙ c.if-fits.false in
+    let e = sym c.fits.ensures ∙ c.if-fits.false in
     refused (b l) r _ _ s w o.first-j.ensures v.flip-out.result v.flip-out.ensures (tested (b l) r _ _ s w o.first-j.ensures ∙ rw e)
 
 -- shares are, cash is not
@@ -176,8 +176,8 @@ loop-again-2 c = λ r s.
     let o = firsts v in
     let l = turn o in
     let w = l.loop-out.invariant r s in
-    let e = sym (tried-both c.before).fits-then-fits.ensures ∙ c.before.before.before.if-fits.true in
-    let d = sym c.before.fits3.ensures ∙ c.if-fits-2.false in
+    let e = sym (tried-both c.before).fits.ensures ∙ c.if-fits.true in
+    let d = sym c.fits-then-fits.ensures ∙ c.if-fits-2.false in
     refused (b l) r _ _ s w o.first-j.ensures v.flip-out.result v.flip-out.ensures (tested (b l) r _ _ s w o.first-j.ensures ∙ ap₂ ◌&&◌ e d)
 
 -- both are
@@ -191,8 +191,8 @@ loop-again c = λ r s.
     let l = turn o in
     let a = (entry l).args in
     let w = l.loop-out.invariant r s in
-    let e = sym (tried-both t).fits-then-fits.ensures ∙ t.before.before.if-fits.true in
-    let d = sym t.fits3.ensures ∙ h.before.before.if-fits-2.true in
+    let e = sym (tried-both t).fits.ensures ∙ t.if-fits.true in
+    let d = sym t.fits-then-fits.ensures ∙ h.if-fits-2.true in
     let fits = tested (b l) r _ _ s w o.first-j.ensures ∙ ap₂ ◌&&◌ e d in
     added (b l) r _ _ s w o.first-j.ensures v.flip-out.result v.flip-out.ensures fits c.flip-marks.result c.flip-marks.ensures _ _
     h.add_trade.ensures.1 g.add_trade-then-fits-2.ensures.1

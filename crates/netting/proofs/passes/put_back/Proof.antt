@@ -41,7 +41,7 @@ abbrev made : tie.After-slice_known-in-loop-marks-2-1 invariant-loop decreases-l
 made c = c.before.before.before.before
 
 loop-holds : tie.Need-loop-marks-init invariant-loop decreases-loop
-loop-holds c = let s = entry c in (s.requires.0.2, s.requires.1, (λ es d. starts _ _ es _ d), s.fits.kept.fits)
+loop-holds c = let s = entry c in (s.requires.0.2, s.requires.1, (λ es d. starts _ _ es _ d), s.ranges.kept.fits)
 
 one-pass-requires : tie.Need-one_pass-more-requires invariant-loop decreases-loop
 one-pass-requires c κs =

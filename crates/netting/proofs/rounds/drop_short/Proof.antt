@@ -114,7 +114,7 @@ less-sized m n legs slots j before after e d = subst (λ (x : ℕ). WithoutLeg x
 
 last-short-requires : tie.Need-last_short-found-requires invariant-loop decreases-loop
 last-short-requires c κs =
-    let l = c.before.before in
+    let l = c in
     let i = l.loop-j.invariant in
     let p = slots_low _ _ _ l.loop-j.held (few (counted l)) i.0 (share_slots l) in
     let q = slots_low _ _ _ l.loop-j.funds (few (counted l)) i.1 (cash_slots l) in

@@ -10,9 +10,9 @@ unfolding takes brings
 returns c =
     let bought = c.before in
     let sold = bought.before in (
-      sold.if-same.ensures ∙ rw sold.before.seller-of.ensures,
-      c.if-same2.ensures ∙ rw bought.buyer-of.ensures,
+      sold.if_same-taken.ensures ∙ rw sold.before.seller_of.ensures,
+      c.if_same-brought.ensures ∙ rw bought.buyer_of.ensures,
     )
 
-pub flow-of-spec : {M : Type 1} → statement M
-flow-of-spec = tie.close (tie.spec (λ c κs. search rules) (λ c κs. search rules) (λ c κs. search rules) (λ c κs. search rules) returns)
+pub flow_of_spec : {M : Type 1} → statement M
+flow_of_spec = tie.close (tie.spec (λ c κs. search rules) (λ c κs. search rules) (λ c κs. search rules) (λ c κs. search rules) returns)
