@@ -9,15 +9,15 @@ use Rattle.answer.proofs.put_answered.Statement.{statement}
 use Rattle.answer.proofs.put_answered.Tie as tie
 
 -- the day is read
-abbrev read : tie.After-put-day → tie.After-day
+abbrev read : tie.After-put_day → tie.After-day-day
 read c = c.before.before
 
 returns : tie.Need-returns
 returns c =
     let put = c.before.before in
-    let s = (read put).before.before.before in
-    subst (λ (d : Day). Means put.put-day.new.0 (put_day (cycle_answered d) (ledger_of s.args.book.now))) (read put).day.ensures
-    put.put-day.ensures
+    let s = read put in
+    subst (λ (d : Day). Means put.put_day.new.book (put_day (cycle_answered d) (ledger_of s.args.book.now))) s.day-day.ensures
+    put.put_day.ensures
 
-pub put-answered-spec : {M : Type 1} → statement M
-put-answered-spec = tie.close (tie.spec (λ c κs. search rules) (λ c κs. search rules) (λ c. search rules) returns)
+pub put_answered_spec : {M : Type 1} → statement M
+put_answered_spec = tie.close (tie.spec (λ c κs. search rules) (λ c κs. search rules) (λ c. search rules) returns)

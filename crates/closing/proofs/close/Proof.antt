@@ -4,15 +4,15 @@ use Rattle.closing.proofs.Closed.{day_closed}
 use Rattle.closing.proofs.close.Statement.{statement}
 use Rattle.closing.proofs.close.Tie as tie
 
-abbrev closed-items : tie.After-put-day → tie.After-close-items
+abbrev closed-items : tie.After-put_day → tie.After-close_items-counted
 closed-items c = c.before.before.before.before.before.before
 
 returns : tie.Need-returns
 returns c =
     let put = c.before.before in
-    let day = (closed-items put).before.before.before in
-    let a = day.before.before.before.before.args in
-    day_closed a.book.now a.order _ _ _ _ _ _ day.day.ensures (closed-items put).close-items.ensures put.put-day.ensures
+    let day = (closed-items put) in
+    let a = day.args in
+    day_closed a.book.now a.order _ _ _ _ _ _ day.day-day.ensures (closed-items put).close_items-counted.ensures put.put_day.ensures
 
 pub close_spec : {M : Type 1} → statement M
 close_spec =

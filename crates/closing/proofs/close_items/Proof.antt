@@ -12,102 +12,102 @@ use Rattle.closing.proofs.Closed.{settles-soon, one_stays, one_leaves, leaving-f
 use Rattle.closing.proofs.close_items.Statement.{statement}
 use Rattle.closing.proofs.close_items.Tie as tie
 
-abbrev invariant-loop : tie.invariant-loop
+abbrev invariant-loop : tie.invariant-loop-i
 invariant-loop book₀ number area₀ n counted₀ j₀ i₀ book area counted j i = (n ≡ length (ledger_of book₀).waiting) × Closing number book₀ area₀ book area counted j i
 
-abbrev decreases-loop : tie.decreases-loop
+abbrev decreases-loop : tie.decreases-loop-i
 decreases-loop book₀ number area₀ n counted₀ j₀ i₀ book area counted j i = n - i
 
-abbrev start : tie.At-loop invariant-loop decreases-loop → tie.Start invariant-loop decreases-loop
-start c = c.before.before.before.before.before.before
+abbrev start : tie.At-loop-i invariant-loop decreases-loop → tie.Start invariant-loop decreases-loop
+start c = c.before.before.before.before.before
 
 -- the turn of the loop
-abbrev turn : tie.After-close-kind invariant-loop decreases-loop → tie.At-loop invariant-loop decreases-loop
-turn c = c.before.before.before.before
+abbrev turn : tie.After-close_kind-kind invariant-loop decreases-loop → tie.At-loop-i invariant-loop decreases-loop
+turn c = c.before.before.before
 
-items-now : (c : tie.At-loop invariant-loop decreases-loop) → length (ledger_of c.loop.book).waiting ≡ length (ledger_of (start c).args.book.now).waiting
-items-now c = items_there _ _ _ (start c).requires.0 (start c).requires.1 c.loop.invariant.1
+items-now : (c : tie.At-loop-i invariant-loop decreases-loop) → length (ledger_of c.loop-i.book).waiting ≡ length (ledger_of (start c).args.book.now).waiting
+items-now c = items_there _ _ _ (start c).requires.0 (start c).requires.1 c.loop-i.invariant.1
 
-loop-holds : tie.Need-loop-init invariant-loop decreases-loop
+loop-holds : tie.Need-loop-i-init invariant-loop decreases-loop
 loop-holds c =
-    let s = c.before.before.before.before.before in
-    (c.before.items.ensures, none_closed _ _ _ s.requires.0 _ c.no-counts.ensures)
+    let s = c in
+    (c.items-n.ensures, none_closed _ _ _ s.requires.0 _ c.no_counts-counted.ensures)
 
-item-at-requires : tie.Need-item-at-requires invariant-loop decreases-loop
-item-at-requires c κs = let l = c.before.before in (l.loop.invariant.1.means.stored, omega (arith, items-now l))
+item-at-requires : tie.Need-item_at-item-requires invariant-loop decreases-loop
+item-at-requires c κs = let l = c.before in (l.loop-i.invariant.1.means.stored, omega (arith, items-now l))
 
-close-kind-requires : tie.Need-close-kind-requires invariant-loop decreases-loop
+close-kind-requires : tie.Need-close_kind-kind-requires invariant-loop decreases-loop
 close-kind-requires c κs =
-    let l = c.before.before.before in
-    settles-soon _ _ _ (start l).requires.0 (start l).requires.1 l.loop.invariant.1 (omega arith) c.item-at.ensures
+    let l = c.before.before in
+    settles-soon _ _ _ (start l).requires.0 (start l).requires.1 l.loop-i.invariant.1 (omega arith) c.item_at-item.ensures
 
-put-item-requires : tie.Need-put-item-requires invariant-loop decreases-loop
-put-item-requires c κs = let l = turn c.before.before.before in (l.loop.inv.1.means.stored, omega (arith, items-now l))
+put-item-requires : tie.Need-put_item-requires invariant-loop decreases-loop
+put-item-requires c κs = let l = turn c.before.before.before in (l.loop-i.invariant.1.means.stored, omega (arith, items-now l))
 
 -- the next notice has room
-room : (c : tie.Else1 invariant-loop decreases-loop) → let l = (turn c.before).loop in (l.counted.rows ≤ 64) × (16 * l.counted.rows + 16 ≤ length l.area)
+room : (c : tie.Else-kind-eq0 invariant-loop decreases-loop) → let l = (turn c.before).loop-i in (l.counted.rows ≤ 64) × (16 * l.counted.rows + 16 ≤ length l.area)
 room c =
     let l = turn c.before in
     let s = start l in
-    (rows_few _ _ _ s.pre.0 s.pre.1 l.loop.inv.1, row_room _ _ _ s.pre.0 s.pre.1 l.loop.inv.1)
+    (rows_few _ _ _ s.requires.0 s.requires.1 l.loop-i.invariant.1, row_room _ _ _ s.requires.0 s.requires.1 l.loop-i.invariant.1)
 
-write-notice-requires : tie.Need-write-notice-requires invariant-loop decreases-loop
+write-notice-requires : tie.Need-write_notice-requires invariant-loop decreases-loop
 write-notice-requires c κs =
     let e = c.before in
     let k = e.before in
     let l = turn k in
     let s = start l in
-    let at : ℕ = 16 * l.loop.counted.rows in
-    let long : length l.loop.area - at ≤ length (drop at l.loop.area) = rw length-drop (omega arith) in (
+    let at : ℕ = 16 * l.loop-i.counted.rows in
+    let long : length l.loop-i.area - at ≤ length (drop at l.loop-i.area) = rw length-drop (omega arith) in (
       rw length-take-le (omega (arith, (room e).1)),
-      leaving-fits _ _ _ s.pre.0 s.pre.1 l.loop.inv.1 (omega arith) k.before.item-at.ensures _ k.close-kind.ensures,
+      leaving-fits _ _ _ s.requires.0 s.requires.1 l.loop-i.invariant.1 (omega arith) k.item_at-item.ensures _ k.close_kind-kind.ensures,
     )
 
-count-leaving-requires : tie.Need-count-leaving-requires invariant-loop decreases-loop
+count-leaving-requires : tie.Need-count_leaving-counted-requires invariant-loop decreases-loop
 count-leaving-requires c κs =
     let l = turn c.before.before.before.before.before in
-    can_count _ _ _ (start l).pre.0 (start l).pre.1 l.loop.inv.1
+    can_count _ _ _ (start l).requires.0 (start l).requires.1 l.loop-i.invariant.1
 
-loop-again : tie.Need-loop-preserved invariant-loop decreases-loop
+loop-again : tie.Need-loop-i-preserved invariant-loop decreases-loop
 loop-again c =
     let k = c.before in
-    let x = k.before.item-at in
+    let x = k.item_at-item in
     let l = turn k in
     let s = start l in (
-      l.loop.inv.0,
+      l.loop-i.invariant.0,
       ⊎_elim
           (λ w.
           closing_so _ _ _ w.6 w.7 w.8 w.9
-          (one_stays _ _ _ s.pre.0 s.pre.1 l.loop.inv.1 (omega arith) x.ensures
-          (sym k.close-kind.ensures ∙ w.0.taken) _ w.2.ensures _ w.3.ensures))
+          (one_stays _ _ _ s.requires.0 s.requires.1 l.loop-i.invariant.1 (omega arith) x.ensures
+          (sym k.close_kind-kind.ensures ∙ w.0.taken) _ w.2.ensures _ w.3.ensures))
           (λ w.
           closing_so _ _ _ w.6 w.7 w.8 w.9
-          (one_leaves _ _ _ s.pre.0 s.pre.1 l.loop.inv.1 (omega arith) x.ensures
-          (λ e. w.0.left (k.close-kind.ensures ∙ e)) _ k.close-kind.ensures _ w.2.ensures _ w.5.ensures))
-          c.if1.branch,
+          (one_leaves _ _ _ s.requires.0 s.requires.1 l.loop-i.invariant.1 (omega arith) x.ensures
+          (λ e. w.0.left (k.close_kind-kind.ensures ∙ e)) _ k.close_kind-kind.ensures _ w.2.ensures _ w.5.ensures))
+          c.if-kind-eq0.branch,
     )
 
-keep-first-requires : tie.Need-keep-first-requires invariant-loop decreases-loop
-keep-first-requires c κs = let l = c.before.before in (l.loop.invariant.1.means.stored, omega (arith, items-now l))
+keep-first-requires : tie.Need-keep_first-requires invariant-loop decreases-loop
+keep-first-requires c κs = let l = c.before.before in (l.loop-i.invariant.1.means.stored, omega (arith, items-now l))
 
-same_length : tie.Need-same-length invariant-loop decreases-loop
+same_length : tie.Need-shape_of-book invariant-loop decreases-loop
 same_length c =
-    let k = c.before.before in
-    k.keep-first.ensures.stored.long ∙ sym (start k.before.before.before).pre.0.stored.long
+    let k = c in
+    k.keep_first.ensures.stored.long ∙ sym (start k.before.before.before.before.before).requires.0.stored.long
 
-same-length-2 : tie.Need-same-length-2 invariant-loop decreases-loop
+same-length-2 : tie.Need-shape_of-area invariant-loop decreases-loop
 same-length-2 c =
     let l = c.before.before.before.before.before in
-    area_long _ _ _ (start l).requires.0 (start l).requires.1 l.loop.invariant.1
+    area_long _ _ _ (start l).requires.0 (start l).requires.1 l.loop-i.invariant.1
 
 returns : tie.Need-returns invariant-loop decreases-loop
 returns c =
-    let k = c.before.before in
-    let l = k.before.before.before in
-    all_closed _ _ _ (start l).requires.0 (start l).requires.1 l.loop.invariant.1 (omega arith) _ k.keep-first.ensures
+    let k = c in
+    let l = k.before.before.before.before.before in
+    all_closed _ _ _ (start l).requires.0 (start l).requires.1 l.loop-i.invariant.1 (omega arith) _ k.keep_first.ensures
 
-pub close-items-spec : {M : Type 1} → statement M
-close-items-spec =
+pub close_items_spec : {M : Type 1} → statement M
+close_items_spec =
     tie.close
     (tie.spec
     invariant-loop

@@ -10,19 +10,19 @@ use Rattle.cycle.proofs.put_sent.Statement.{statement}
 use Rattle.cycle.proofs.put_sent.Tie as tie
 
 -- the day is read
-abbrev read : tie.After-put-day → tie.After-day
+abbrev read : tie.After-put_day → tie.After-day-day
 read c = c.before.before.before
 
 returns : tie.Need-returns
 returns c =
     let put = c.before.before in
-    let s = (read put).before.before.before in
-    subst (λ (d : Day). Means put.put-day.new.0 (put_day (cycle_sent d) (ledger_of s.args.book.now))) (read put).day.ensures
-    put.put-day.ensures
+    let s = (read put) in
+    subst (λ (d : Day). Means put.put_day.new.book (put_day (cycle_sent d) (ledger_of s.args.book.now))) (read put).day-day.ensures
+    put.put_day.ensures
 
-pub put-sent-spec : {M : Type 1} → statement M
-put-sent-spec =
+pub put_sent_spec : {M : Type 1} → statement M
+put_sent_spec =
     tie.close
     (tie.spec (λ c κs. search rules)
-    (λ c. let d = c.before in omega (arith, ap (λ (x : Day). x.cycles) d.day.ensures, d.before.before.before.requires.1))
+    (λ c. let d = c in omega (arith, ap (λ (x : Day). x.cycles) d.day-day.ensures, d.requires.1))
     (λ c κs. search rules) (λ c. search rules) returns)

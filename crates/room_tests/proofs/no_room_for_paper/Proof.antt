@@ -59,8 +59,8 @@ no-room-between-requires c κs =
     let s = asking c.before.before.before in (
       s.requires.0,
       subst AccountInRange (sym (awaiting c.before.before))
-          (awaiting-named (book s) (order s) s.requires.1 s.requires.0.premise s.requires.3 s.requires.2.request-request),
-      subst AccountInRange (sym (paper c.before)) (paper_named (book s) (order s) s.requires.1 s.requires.0.premise s.requires.3 s.requires.2.request-request),
+          (awaiting-named (book s) (order s) s.requires.1 s.requires.0.premise s.requires.3 s.requires.2.request),
+      subst AccountInRange (sym (paper c.before)) (paper_named (book s) (order s) s.requires.1 s.requires.0.premise s.requires.3 s.requires.2.request),
     )
 
 returns-2 : tie.Need-returns

@@ -71,7 +71,7 @@ fixed_flows_spec =
     (λ c κs. ((entry c.before).requires.stored, inside c))
     add-taken
     add-brought
-    (λ c. omega (arith, inside c.before.before.before, (entry c.before.before.before.before).requires.premise.sizes.items-n))
+    (λ c. omega (arith, inside c.before.before.before, (entry c.before.before.before.before).requires.premise.sizes.items))
     (λ c. omega (arith, c.before.before.before.loop-i-test.true))
     loop-again
     returns)

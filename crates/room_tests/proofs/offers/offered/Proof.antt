@@ -18,7 +18,7 @@ abbrev book : tie.Start → Ledger
 book s = ledger_of s.args.book.now
 
 -- the balance is the book's
-there : (c : tie.After-balance-balance) → c.balance-balance.result.0 ≡ (book c.before.before).holdings.balance-balance c.before.before.args.account
+there : (c : tie.After-balance-balance) → c.balance-balance.result.0 ≡ (book c.before.before).holdings.balance c.before.before.args.account
 there c = c.balance-balance.ensures
 
 left-of-requires : tie.Need-left_of-requires
