@@ -22,7 +22,7 @@ DECLARED = re.compile(
 RECORD = re.compile(r"^( *)(?:pub )?record [^\n]*where\n((?:\1  [^\n]*\n)+)", re.M)
 DEFINED = re.compile(rf"^\s*(?:abbrev|unfoldable)\s+(?:pub\s+)?({NAME})", re.M)
 # strings, and in src/ comments too
-STRING = r'b?"(?:[^"\\]|\\.)*"'
+STRING = r'b?"(?:[^"\\]|\\[\s\S])*"'
 KIT = os.environ.get("RATTLE_KIT", "")
 
 

@@ -26,7 +26,7 @@ const KINDS: [u8; 482] = *b"the file has nothing in it\n\
 
 fn put_kind(out: &mut [u8], at: usize, kind: u64) -> usize
     requires { (at + 80 ≤ length out.old) × (101 ≤ kind) }
-    ensures put { Put out.old at (text (kindName kind)) out.new result }
+    ensures put { Put out.old at (text (kind_name kind)) out.new result }
     ensures upper_bound { result ≤ at + 80 }
 {
     text::put_part(out, at, &KINDS, 10, kind - 100)
@@ -117,7 +117,7 @@ fn put_where(out: &mut [u8], file: &[u8], number: u64, column: u64, name: &[u8])
 // What is wrong, and the line's end.
 fn put_wrong(out: &mut [u8], at: usize, kind: u64) -> usize
     requires { at + 300 ≤ length out.old }
-    ensures { Put out.old at (text ": " ++ reason kind ++ (lineFeed ∷ [])) out.new result }
+    ensures { Put out.old at (text ": " ++ reason kind ++ (line_feed ∷ [])) out.new result }
 {
     let marked = text::put_bytes(out, at, b": ");
     let said = put_reason(out, marked, kind);

@@ -26,7 +26,7 @@ pub fn put_names(out: &mut [u8], at: usize) -> usize
 // An order's line. A name or a number takes at most 80 bytes.
 fn put_order(out: &mut [u8], at: usize, order: Order) -> usize
     requires { at + 1556 ≤ length out.old }
-    ensures put { Put out.old at (orderLine order) out.new result }
+    ensures put { Put out.old at (order_line order) out.new result }
     ensures upper_bound { result ≤ at + 1556 }
 {
     let fields = layout::fields_of(order);
@@ -36,7 +36,7 @@ fn put_order(out: &mut [u8], at: usize, order: Order) -> usize
 // A record's line.
 fn put_record(out: &mut [u8], at: usize, octets: &[u8]) -> usize
     requires { at + 1556 ≤ length out.old }
-    ensures put { Put out.old at (readLine (read_of octets.now)) out.new result }
+    ensures put { Put out.old at (read_line (read_of octets.now)) out.new result }
     ensures upper_bound { result ≤ at + 1556 }
 {
     let answer = record::read(octets);

@@ -11,6 +11,7 @@ use Rattle.closing.proofs.Closed.{Closing, closing_so, none_closed, items_there,
 use Rattle.closing.proofs.Closed.{settles-soon, one_stays, one_leaves, leaving-fits, all_closed}
 use Rattle.closing.proofs.close_items.Statement.{statement}
 use Rattle.closing.proofs.close_items.Tie as tie
+use Rattle.closing.proofs.close_items.Lts.{then-kind-eq0, else-kind-eq0}
 
 abbrev invariant-loop : tie.invariant-loop-i
 invariant-loop book₀ number area₀ n counted₀ j₀ i₀ book area counted j i = (n ≡ length (ledger_of book₀).waiting) × Closing number book₀ area₀ book area counted j i
@@ -75,16 +76,16 @@ loop-again c =
     let l = turn k in
     let s = start l in (
       l.loop-i.invariant.0,
-      ⊎_elim
-          (λ w.
-          closing_so _ _ _ w.6 w.7 w.8 w.9
-          (one_stays _ _ _ s.requires.0 s.requires.1 l.loop-i.invariant.1 (omega arith) x.ensures
-          (sym k.close_kind-kind.ensures ∙ w.0.taken) _ w.2.ensures _ w.3.ensures))
-          (λ w.
-          closing_so _ _ _ w.6 w.7 w.8 w.9
-          (one_leaves _ _ _ s.requires.0 s.requires.1 l.loop-i.invariant.1 (omega arith) x.ensures
-          (λ e. w.0.left (k.close_kind-kind.ensures ∙ e)) _ k.close_kind-kind.ensures _ w.2.ensures _ w.5.ensures))
-          c.if-kind-eq0.branch,
+      elim c.if-kind-eq0.branch [
+        | then-kind-eq0 w ↦
+            closing_so _ _ _ w.book-is w.area-is w.counted-is w.j-is
+            (one_stays _ _ _ s.requires.0 s.requires.1 l.loop-i.invariant.1 (omega arith) x.ensures
+            (sym k.close_kind-kind.ensures ∙ w.if-kind-eq0.true) _ w.unmark.ensures _ w.put_item.ensures)
+        | else-kind-eq0 w ↦
+            closing_so _ _ _ w.book-is w.area-is w.counted-is w.j-is
+            (one_leaves _ _ _ s.requires.0 s.requires.1 l.loop-i.invariant.1 (omega arith) x.ensures
+            (λ e. w.if-kind-eq0.false (k.close_kind-kind.ensures ∙ e)) _ k.close_kind-kind.ensures _ w.write_notice.ensures _ w.count_leaving-counted.ensures)
+      ],
     )
 
 keep-first-requires : tie.Need-keep_first-requires invariant-loop decreases-loop

@@ -9,4 +9,4 @@ unfolding outside_window
 outside_window_spec =
     tie.close
     (tie.spec (λ c κs. search rules) (λ c κs. search rules)
-    (λ c. rw (c.is_Within.ensures, c.before.window_of-window.ensures.0, c.before.window_of-window.ensures.1)))
+    (λ c. rw (c.is_within.ensures, c.before.window_of-window.ensures.0, c.before.window_of-window.ensures.1)))

@@ -26,7 +26,7 @@ not_1 : (c : tie.Else-form-eq1) → ((opened c).args.order.form is 1) ≡ false
 not_1 c = ne_eqb _ _ c.if-form-eq1.false
 
 not-moved : (c : tie.Else-is_within) → (within 3 9 (opened (moved c)).args.order.form || within 19 20 (opened (moved c)).args.order.form) ≡ false
-not-moved c = sym (ap₂ ◌||◌ c.before.before.is_Within.ensures c.before.is_within-2.ensures) ∙ c.if-is_within.false
+not-moved c = sym (ap₂ ◌||◌ c.before.before.is_within.ensures c.before.is_within-2.ensures) ∙ c.if-is_within.false
 
 not-12-13 : (c : tie.Else-is_within-2) → within 12 13 (opened (moved (instructed c))).args.order.form ≡ false
 not-12-13 c = sym c.before.is_within-3.ensures ∙ c.if-is_within-2.false
@@ -50,7 +50,7 @@ returns-2 c =
     let here = c.before.before in
     let one = here.before.before.before in
     let s = opened one in
-    let e = sym (ap₂ ◌||◌ here.before.before.is_Within.ensures here.before.is_within-2.ensures) ∙ here.if-is_within.true in
+    let e = sym (ap₂ ◌||◌ here.before.before.is_within.ensures here.before.is_within-2.ensures) ∙ here.if-is_within.true in
     let w = picked s.args.day s.args.order s.requires 510 (by_kind s.args.day.kind 870 750) (simp (not_1 one, e)) in
     (c.between-then-is_within.ensures.0 ∙ w.0, c.between-then-is_within.ensures.1 ∙ c.before.by_kind.ensures ∙ w.1)
 

@@ -10,5 +10,5 @@ returns c =
     let s = c.before.before.before.before.before.before in
     c.before.before.write.ensures ∙ whole s.args.values.now _ 6 s.requires
 
-pub put-counts-spec : {M : Type 1} → statement M
-put-counts-spec = tie.close (tie.spec (λ c. search rules) (λ c κs. search rules) (λ c. search rules) returns)
+pub put_counts_spec : {M : Type 1} → statement M
+put_counts_spec = tie.close (tie.spec (λ c. search rules) (λ c κs. search rules) (λ c. search rules) returns)

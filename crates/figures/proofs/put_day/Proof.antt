@@ -14,7 +14,7 @@ returns c =
     let s = opened.before.before in
     let day = s.args.day in
     write.write.ensures ∙ whole s.args.values.now _ 6 s.requires
-    ∙ (λ i. day.number ∷ opened.bit-of.ensures.0 i ∷ day.kind ∷ day.cycles ∷ day.minute ∷ sent.bit-of2.ensures.0 i ∷ [])
+    ∙ (λ i. day.number ∷ opened.bit_of-opened.ensures.0 i ∷ day.kind ∷ day.cycles ∷ day.minute ∷ sent.bit_of-sent.ensures.0 i ∷ [])
 
-pub put-day-spec : {M : Type 1} → statement M
-put-day-spec = tie.close (tie.spec (λ c κs. search rules) (λ c κs. search rules) (λ c. search rules) (λ c κs. search rules) (λ c. search rules) returns)
+pub put_day_spec : {M : Type 1} → statement M
+put_day_spec = tie.close (tie.spec (λ c κs. search rules) (λ c κs. search rules) (λ c. search rules) (λ c κs. search rules) (λ c. search rules) returns)

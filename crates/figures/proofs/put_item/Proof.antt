@@ -13,7 +13,7 @@ returns c =
     let state = sent.before in
     let s = state.before.before in
     write.write.ensures ∙ whole s.args.values.now _ 18 s.requires
-    ∙ (λ i. figures_with s.args.item (state.state-figures.ensures i) (sent.bit-of.ensures.0 i))
+    ∙ (λ i. figures_with s.args.item (state.state_figures-s.ensures i) (sent.bit_of-sent.ensures.0 i))
 
-pub put-item-spec : {M : Type 1} → statement M
-put-item-spec = tie.close (tie.spec (λ c κs. search rules) (λ c κs. search rules) (λ c. search rules) (λ c κs. search rules) (λ c. search rules) returns)
+pub put_item_spec : {M : Type 1} → statement M
+put_item_spec = tie.close (tie.spec (λ c κs. search rules) (λ c κs. search rules) (λ c. search rules) (λ c κs. search rules) (λ c. search rules) returns)

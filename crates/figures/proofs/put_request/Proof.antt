@@ -11,5 +11,5 @@ returns c =
     let s = write.before.before.before.before in
     write.write.ensures ∙ whole s.args.values.now _ 5 s.requires
 
-pub put-request-spec : {M : Type 1} → statement M
-put-request-spec = tie.close (tie.spec (λ c. search rules) (λ c κs. search rules) (λ c. search rules) returns)
+pub put_request_spec : {M : Type 1} → statement M
+put_request_spec = tie.close (tie.spec (λ c. search rules) (λ c κs. search rules) (λ c. search rules) returns)

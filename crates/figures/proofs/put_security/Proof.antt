@@ -11,5 +11,5 @@ returns c =
     let s = write.before.before.before.before in
     write.write.ensures ∙ whole s.args.values.now _ 4 s.requires
 
-pub put-security-spec : {M : Type 1} → statement M
-put-security-spec = tie.close (tie.spec (λ c. search rules) (λ c κs. search rules) (λ c. search rules) returns)
+pub put_security_spec : {M : Type 1} → statement M
+put_security_spec = tie.close (tie.spec (λ c. search rules) (λ c κs. search rules) (λ c. search rules) returns)

@@ -1,5 +1,5 @@
 -- `figures::state_figures` meets its contract. Assumes nothing.
-use Rattle.std.specs.Prelude.{if◌then◌else◌}
+use Rattle.std.specs.Prelude.{if◌then◌else◌, if◌then◌else◌}
 use Prim.Native.Nat.{ℕ, ◌-◌}
 use mathlib.Core.Bool.{Bool, true, false}
 use mathlib.Core.Path.{◌≡◌, refl, sym, ap, ◌∙◌}
@@ -17,25 +17,23 @@ single : (b : Bool) → 2 - bit b ≡ (if b then 1 else 2)
 single true = refl
 single false = refl
 
-returns : tie.Need-returns
+returns : tie.Need-returns-in-Single
 unfolding figures
 returns c =
-    let given = c.before.before.s.given in
-    ap (λ (n : ℕ). figures (2 - n) given.0.1.0 0 0 0) c.bit-of.ensures.0
-    ∙ ap (λ (n : ℕ). figures n given.0.1.0 0 0 0) (single given.0.0) ∙ ap state_figures (sym given.1)
+    ap (λ (n : ℕ). figures (2 - n) c.in-Single.reference 0 0 0) c.bit_of.ensures.0
+    ∙ ap (λ (n : ℕ). figures n c.in-Single.reference 0 0 0) (single c.in-Single.delivers) ∙ ap state_figures (sym c.in-Single.is)
 
-returns-2 : tie.Need-returns-2
+returns-2 : tie.Need-returns-in-Pair
 unfolding figures
 returns-2 c =
-    let g = c.before.before.before.s2.given in
-    ap (λ (n : ℕ). figures 3 g.0.0 g.0.1.0 n c.bit-of3.result) c.before.bit-of2.ensures.0
-    ∙ ap (figures 3 g.0.0 g.0.1.0 (bit g.0.1.1.0)) c.bit-of3.ensures.0 ∙ ap state_figures (sym g.1)
+    ap (λ (n : ℕ). figures 3 c.in-Pair.deliver_reference c.in-Pair.receive_reference n c.bit_of-in-Pair-2.result) c.bit_of-in-Pair.ensures.0
+    ∙ ap (figures 3 c.in-Pair.deliver_reference c.in-Pair.receive_reference (bit c.in-Pair.deliver_marked)) c.bit_of-in-Pair-2.ensures.0 ∙ ap state_figures (sym c.in-Pair.is)
 
-returns-3 : tie.Need-returns-3
-returns-3 c = ap state_figures (sym c.before.s3.given.1)
+returns-3 : tie.Need-returns-in-Trade
+returns-3 c = ap state_figures (sym c.in-Trade.is)
 
-pub state-figures-spec : {M : Type 1} → statement M
-state-figures-spec =
+pub state_figures_spec : {M : Type 1} → statement M
+state_figures_spec =
     tie.close
     (tie.spec (λ c. search rules) (λ c κs. search rules) (λ c. search rules) (λ c. search rules) (λ c κs. search rules) (λ c κs. search rules)
     (λ c. search rules) returns returns-2 returns-3)

@@ -10,41 +10,41 @@ use Rattle.line_blocks.proofs.step.Tie as tie
 
 -- ---- places
 
-abbrev start : tie.Else1 → tie.Start
+abbrev start : tie.Else-is_empty → tie.Start
 start c = c.before.before.before.before.before
 
-abbrev goes : tie.After-write-row → tie.Else2
+abbrev goes : tie.After-write_row-row → tie.Else-empty-ne0
 goes c = c.before.before
 
-full : (c : tie.Else1) → is_empty (start c).args.line.now ≡ false
-full c = sym c.before.is-empty.ensures ∙ c.if1.false
+full : (c : tie.Else-is_empty) → is_empty (start c).args.line.now ≡ false
+full c = sym c.is_empty.ensures ∙ c.if-is_empty.false
 
 -- ---- needs
 
-returns : tie.Need-returns
+returns : tie.Need-returns-then-is_empty
 unfolding step_of step_written
-returns c = let empty = sym c.before.before.is-empty.ensures ∙ c.before.if1.true in (simp (empty, c.first-empty.ensures), simp empty)
+returns c = let empty = sym c.is_empty.ensures ∙ c.if-is_empty.true in (simp (empty, c.first_empty.ensures), simp empty)
 
-returns-2 : tie.Need-returns-2
+returns-2 : tie.Need-returns-then-empty-ne0
 unfolding step_of step_written
-returns-2 c = (simp (full c.before, ne_eqb _ _ c.if2.true), simp (full c.before, ne_eqb _ _ c.if2.true))
+returns-2 c = (simp (full c.before, ne_eqb _ _ c.if-empty-ne0.true), simp (full c.before, ne_eqb _ _ c.if-empty-ne0.true))
 
-returns-3 : tie.Need-returns-3
+returns-3 : tie.Need-returns-in-Order
 unfolding step_row step_of step_written
 returns-3 c =
-    let write = c.before.before.before.before in
-    let none = eq-eqb _ _ (goes write).if2.false in (
-      sym (simp (full (goes write).before, none, sym write.write-row.ensures.0 ∙ c.enum_told.given.1)),
-      write.write-row.ensures.1 ∙ sym (simp (full (goes write).before, none, ← write.write-row.ensures.0)),
+    let write = c.before.before.before in
+    let none = eq-eqb _ _ (goes write).if-empty-ne0.false in (
+      sym (simp (full (goes write).before, none, sym write.write_row-row.ensures.0 ∙ c.in-Order.is)),
+      write.write_row-row.ensures.1 ∙ sym (simp (full (goes write).before, none, ← write.write_row-row.ensures.0)),
     )
 
-returns-4 : tie.Need-returns-4
+returns-4 : tie.Need-returns-in-Refused
 unfolding step_row step_of step_written
 returns-4 c =
-    let write = c.before.before.before.before.before in
-    let none = eq-eqb _ _ (goes write).if2.false in (
-      sym (simp (full (goes write).before, none, sym write.write-row.ensures.0 ∙ c.before.row.given.1)),
-      write.write-row.ensures.1 ∙ sym (simp (full (goes write).before, none, ← write.write-row.ensures.0)),
+    let write = c.before.before.before in
+    let none = eq-eqb _ _ (goes write).if-empty-ne0.false in (
+      sym (simp (full (goes write).before, none, sym write.write_row-row.ensures.0 ∙ c.in-Refused.is)),
+      write.write_row-row.ensures.1 ∙ sym (simp (full (goes write).before, none, ← write.write_row-row.ensures.0)),
     )
 
 pub step_spec : {M : Type 1} → statement M

@@ -9,32 +9,32 @@ use Rattle.order_line.proofs.form_in.Tie as tie
 
 -- ---- places
 
-abbrev some : tie.After-is-digit → tie.Else1
+abbrev some : tie.After-is_digit → tie.Else-text-eq0
 some c = c.before.before
 
-returns-3 : tie.Need-returns-3
+returns-3 : tie.Need-returns-then-form-eq0
 unfolding form_in
 returns-3 c =
     let form = c.before.before in
     let digit = form.before.before in
-    let none = eq-eqb _ _ (sym form.form-number.ensures ∙ c.before.if3.true) in
-    ap Number.Refused c.kind-of.ensures
-    ∙ sym (simp (ne_eqb _ _ (some digit).if1.false, sym digit.is_digit.ensures ∙ form.before.if2.false, none))
+    let none = eq-eqb _ _ (sym form.form_number-form.ensures ∙ c.before.if-form-eq0.true) in
+    ap Number.Refused c.kind_of.ensures
+    ∙ sym (simp (ne_eqb _ _ (some digit).if-text-eq0.false, sym digit.is_digit.ensures ∙ form.before.if-is_digit.false, none))
 
-returns-4 : tie.Need-returns-4
+returns-4 : tie.Need-returns
 unfolding form_in
 returns-4 c =
     let form = c.before in
     let digit = form.before.before in
-    let found = ne_eqb _ _ c.if3.false in
-    sym (simp (ne_eqb _ _ (some digit).if1.false, sym digit.is_digit.ensures ∙ form.before.if2.false, ← form.form-number.ensures, found))
+    let found = ne_eqb _ _ c.if-form-eq0.false in
+    sym (simp (ne_eqb _ _ (some digit).if-text-eq0.false, sym digit.is_digit.ensures ∙ form.before.if-is_digit.false, ← form.form_number-form.ensures, found))
 
-pub form-in-spec : {M : Type 1} → statement M
+pub form_in_spec : {M : Type 1} → statement M
 unfolding form_in
-form-in-spec =
+form_in_spec =
     tie.close
     (tie.spec
-    (λ c. sym (simp (eq-eqb _ _ c.if1.true))) (λ c. search rules) (λ c κs. search rules) (λ c κs. search rules)
+    (λ c. sym (simp (eq-eqb _ _ c.if-text-eq0.true))) (λ c. search rules) (λ c κs. search rules) (λ c κs. search rules)
     (λ c. c.number_in.ensures
-    ∙ sym (simp (ne_eqb _ _ (some c.before.before).if1.false, sym c.before.before.is_digit.ensures ∙ c.before.if2.true)))
+    ∙ sym (simp (ne_eqb _ _ (some c.before.before).if-text-eq0.false, sym c.before.before.is_digit.ensures ∙ c.before.if-is_digit.true)))
     (λ c κs. search rules) (λ c κs. search rules) returns-3 returns-4)

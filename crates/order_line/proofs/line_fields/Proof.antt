@@ -11,79 +11,78 @@ use Rattle.order_line.proofs.Numbers.{all-cells, many_cells, few_cells, bad_cell
 use Rattle.order_line.proofs.line_fields.Statement.{statement}
 use Rattle.order_line.proofs.line_fields.Tie as tie
 
-abbrev invariant-loop : tie.invariant-loop
+abbrev invariant-loop : tie.invariant-loop-column
 invariant-loop line places values₀ column₀ at₀ values column at =
     (column ≤ length places) × (at ≤ length line + 1) × (length values ≡ 19)
     × (fields_from (drop column places) (column + 1) values (parts_from comma line at) ≡ line_fields places line)
 
-abbrev decreases-loop : tie.decreases-loop
+abbrev decreases-loop : tie.decreases-loop-column
 decreases-loop line places values₀ column₀ at₀ values column at = length places - column
 
 -- ---- places
 
-abbrev start : tie.At-loop invariant-loop decreases-loop → tie.Start invariant-loop decreases-loop
+abbrev start : tie.At-loop-column invariant-loop decreases-loop → tie.Start invariant-loop decreases-loop
 start c = c.before.before.before
 
-abbrev read : tie.After-field-number invariant-loop decreases-loop → tie.After-end-of invariant-loop decreases-loop
+abbrev read : tie.After-field_number-number invariant-loop decreases-loop → tie.After-end_of-end invariant-loop decreases-loop
 read c = c.before.before
 
-abbrev turn : tie.After-end-of invariant-loop decreases-loop → tie.At-loop invariant-loop decreases-loop
+abbrev turn : tie.After-end_of-end invariant-loop decreases-loop → tie.At-loop-column invariant-loop decreases-loop
 turn c = c.before.before.before.before
 
 -- ---- needs
 
-returns : tie.Need-returns invariant-loop decreases-loop
+returns : tie.Need-returns-then-line-at invariant-loop decreases-loop
 returns c =
-    let here = c.before.before.before.before in (
-      c.refused.ensures.0 ∙ few_cells _ _ here.loop.column here.loop.at _ _ here.loop.invariant.3 (search rules) c.before.if1.true,
+    let here = c in (
+      c.refused.ensures.0 ∙ few_cells _ _ here.loop-column.column here.loop-column.at _ _ here.loop-column.invariant.3 (search rules) c.if-line-at.true,
       c.refused.ensures.1,
     )
 
-returns-2 : tie.Need-returns-2 invariant-loop decreases-loop
+returns-2 : tie.Need-returns-in-Refused invariant-loop decreases-loop
 returns-2 c =
-    let number = c.before.before in
+    let number = c in
     let found = number.before.before in
     let here = turn (read found) in (
-      c.refused2.ensures.0 ∙ bad_cell _ _ here.loop.column here.loop.at _ _ here.loop.inv.3 (search rules) (search rules) _
-          (read found).end_of_lem.ensures.0 _ (sym found.field-number.ensures ∙ number.number.given.1),
-      c.refused2.ensures.1,
+      c.refused-in-Refused.ensures.0 ∙ bad_cell _ _ here.loop-column.column here.loop-column.at _ _ here.loop-column.invariant.3 (search rules) (search rules) _
+          (read found).end_of-end.ensures.0 _ (sym found.field_number-number.ensures ∙ number.in-Refused.is),
+      c.refused-in-Refused.ensures.1,
     )
 
 -- a column's place lies inside the values
-inside : (c : tie.After-field-number invariant-loop decreases-loop) → get_or (start (turn (read c))).args.places.now (turn (read c)).loop.column 0 < 18
-inside c = let here = turn (read c) in (start here).pre.0.field here.loop.column (search rules)
+inside : (c : tie.After-field_number-number invariant-loop decreases-loop) → get_or (start (turn (read c))).args.places.now (turn (read c)).loop-column.column 0 < 18
+inside c = let here = turn (read c) in (start here).requires.0.field here.loop-column.column (search rules)
 
-loop-again : tie.Need-loop-preserved invariant-loop decreases-loop
+loop-again : tie.Need-loop-column-preserved invariant-loop decreases-loop
 loop-again c =
-    let found = c.before.before.before in
+    let found = c.before in
     let here = turn (read found) in (
       search rules,
       search rules,
-      simp length-set here.loop.inv.2,
-      good_cell _ _ here.loop.column here.loop.at _ _ here.loop.inv.3 (search rules) (search rules) _ (read found).end_of_lem.ensures.0 _
-          (sym found.field-number.ensures ∙ c.before.number2.given.1),
+      simp length-set here.loop-column.invariant.2,
+      good_cell _ _ here.loop-column.column here.loop-column.at _ _ here.loop-column.invariant.3 (search rules) (search rules) _ (read found).end_of-end.ensures.0 _
+          (sym found.field_number-number.ensures ∙ c.in-Value.is),
     )
 
-returns-3 : tie.Need-returns-3 invariant-loop decreases-loop
+returns-3 : tie.Need-returns-then-at-line invariant-loop decreases-loop
 returns-3 c =
-    let here = c.before.before.before in (
-      c.refused3.ensures.0 ∙ many_cells _ _ here.loop.column here.loop.at _ _ here.loop.invariant.3 (search rules) c.before.if2.true,
-      c.refused3.ensures.1,
+    let here = c in (
+      c.refused-then-at-line.ensures.0 ∙ many_cells _ _ here.loop-column.column here.loop-column.at _ _ here.loop-column.invariant.3 (search rules) c.if-at-line.true,
+      c.refused-then-at-line.ensures.1,
     )
 
-returns-4 : tie.Need-returns-4 invariant-loop decreases-loop
+returns-4 : tie.Need-returns invariant-loop decreases-loop
 returns-4 c =
-    let here = c.before.before in
-    (all-cells _ _ here.loop.column here.loop.at _ _ here.loop.invariant.3 (search rules) c.if2.false, here.loop.invariant.2)
+    let here = c in
+    (all-cells _ _ here.loop-column.column here.loop-column.at _ _ here.loop-column.invariant.3 (search rules) c.if-at-line.false, here.loop-column.invariant.2)
 
-pub line-fields-spec : {M : Type 1} → statement M
+pub line_fields_spec : {M : Type 1} → statement M
 unfolding line_fields
-line-fields-spec =
+line_fields_spec =
     tie.close
     (tie.spec
-    invariant-loop decreases-loop
-    (λ c. (search rules, search rules, refl, ap (fields_from _ 1 _) (parts-start comma _) ∙ sym (simp c.before.before.requires.1)))
-    (λ c. search rules) (λ c. search rules) (λ c. search rules) (λ c κs. search rules) returns (λ c κs. search rules)
-    (λ c. search rules) (λ c. search rules) (λ c. search rules) (λ c κs. search rules) (λ c. search rules) (λ c. search rules) (λ c κs. search rules)
-    returns-2 (λ c. search rules) (λ c. omega (arith, inside c.before.before.before)) (λ c. omega (arith, inside c.before.before.before))
-    (λ c. search rules) (λ c. search rules) (λ c. search rules) loop-again (λ c. search rules) (λ c κs. search rules) returns-3 returns-4)
+    invariant-loop decreases-loop (λ c. (search rules, search rules, refl, ap (fields_from _ 1 _) (parts-start comma _) ∙ sym (simp c.requires.1)))
+    (λ c. search rules) (λ c. search rules) (λ c. search rules) (λ c κs. search rules) returns (λ c κs. search rules) (λ c. search rules)
+    (λ c. search rules) (λ c. search rules) (λ c κs. search rules) (λ c. search rules) (λ c. search rules) (λ c κs. search rules) returns-2
+    (λ c. search rules) (λ c. omega (arith, inside c.before)) (λ c. omega (arith, inside c.before)) (λ c. search rules) (λ c. search rules)
+    (λ c. search rules) loop-again (λ c. search rules) (λ c κs. search rules) returns-3 returns-4)

@@ -6,9 +6,9 @@ use Rattle.table.specs.Lines.{optional_in}
 use Rattle.order_line.proofs.optional_in.Statement.{statement}
 use Rattle.order_line.proofs.optional_in.Tie as tie
 
-pub optional-in-spec : {M : Type 1} → statement M
+pub optional_in_spec : {M : Type 1} → statement M
 unfolding optional_in
-optional-in-spec =
+optional_in_spec =
     tie.close
     (tie.spec
-    (λ c. sym (simp (eq-eqb _ _ c.if1.true))) (λ c κs. search rules) (λ c. c.number_in.ensures ∙ sym (simp (ne_eqb _ _ c.before.if1.false))))
+    (λ c. sym (simp (eq-eqb _ _ c.if-text-eq0.true))) (λ c κs. search rules) (λ c. c.number_in.ensures ∙ sym (simp (ne_eqb _ _ c.before.if-text-eq0.false))))

@@ -8,9 +8,9 @@ use Rattle.order_line.proofs.refused_row.Tie as tie
 
 returns : tie.Need-returns
 returns c =
-    let place = c.before.refused-place.ensures ∙ ap refused_place c.before.before.before.fields-of.ensures in
-    let column = c.column-of.ensures ∙ ap (column_from 1 _) place in
+    let place = c.before.refused_place-place.ensures ∙ ap refused_place c.before.before.before.fields_of-fields.ensures in
+    let column = c.column_of.ensures ∙ ap (column_from 1 _) place in
     rw (place, column)
 
-pub refused-row-spec : {M : Type 1} → statement M
-refused-row-spec = tie.close (tie.spec (λ c κs. search rules) (λ c κs. search rules) (λ c κs. search rules) returns)
+pub refused_row_spec : {M : Type 1} → statement M
+refused_row_spec = tie.close (tie.spec (λ c κs. search rules) (λ c κs. search rules) (λ c κs. search rules) returns)

@@ -7,7 +7,8 @@ use Rattle.row_lines.proofs.put_notice.Tie as tie
 
 returns : tie.Need-returns
 unfolding notice_line
-returns c = let put = c.before.before.put-filled in (put.ensures.0, omega (arith, put.ensures.1))
+returns c = let put = c.before.before.put_filled in (put.ensures.0, omega (arith, put.ensures.1))
 
-pub put-notice-spec : {M : Type 1} → statement M
-put-notice-spec = tie.close (tie.spec (λ c. search rules) (λ c. search rules) (λ c κs. search rules) (λ c. search rules) returns)
+pub put_notice_spec : {M : Type 1} → statement M
+put_notice_spec = tie.close (tie.spec
+    (λ c. search rules) (λ c κs. search rules) (λ c. search rules) returns)

@@ -6,21 +6,20 @@ use Rattle.row_lines.specs.Rows.{side_word}
 use Rattle.row_lines.proofs.put_side.Statement.{statement}
 use Rattle.row_lines.proofs.put_side.Tie as tie
 
-returns : tie.Need-returns
+returns : tie.Need-returns-then-credit-eq1
 unfolding side_word
 returns c =
     let put = c.before.before in
-    (simp (eq-eqb _ _ put.before.before.before.if1.true) put.put-bytes.ensures, omega (arith, put.put-bytes.ensures.place))
+    (simp (eq-eqb _ _ put.before.before.before.if-credit-eq1.true) put.put_bytes.ensures, omega (arith, put.put_bytes.ensures.place))
 
-returns-2 : tie.Need-returns-2
+returns-2 : tie.Need-returns
 unfolding side_word
 returns-2 c =
     let put = c.before.before in
-    (simp (ne_eqb _ _ put.before.before.before.if1.false) put.put-bytes2.ensures, omega (arith, put.put-bytes2.ensures.place))
+    (simp (ne_eqb _ _ put.before.before.before.if-credit-eq1.false) put.put_bytes-2.ensures, omega (arith, put.put_bytes-2.ensures.place))
 
-pub put-side-spec : {M : Type 1} → statement M
-put-side-spec =
+pub put_side_spec : {M : Type 1} → statement M
+put_side_spec =
     tie.close
     (tie.spec
-    (λ c. search rules) (λ c κs. search rules) (λ c. search rules) returns
-    (λ c. search rules) (λ c κs. search rules) (λ c. search rules) returns-2)
+    (λ c κs. search rules) (λ c. search rules) returns (λ c κs. search rules) (λ c. search rules) returns-2)

@@ -13,14 +13,13 @@ returns c =
     let line = foot.before.before.before.before in
     let rate = line.before.before in
     let head = rate.before.before.before.before in (
-      rw (← rate.before.day.ensures, ← rate.rate.ensures)
-          (put_then (put_then head.put-in-page.ensures.0 line.put-line.ensures.0) foot.put-foot.ensures.0),
-      omega (arith, head.put-in-page.ensures.1, line.put-line.ensures.1, foot.put-foot.ensures.1),
+      rw (← rate.before.day-day.ensures, ← rate.rate-rate.ensures)
+          (put_then (put_then head.put_in_page-next.ensures.0 line.put_line-next.ensures.0) foot.put_foot.ensures.0),
+      omega (arith, head.put_in_page-next.ensures.1, line.put_line-next.ensures.1, foot.put_foot.ensures.1),
     )
 
-pub put-day-spec : {M : Type 1} → statement M
-put-day-spec =
+pub put_day_spec : {M : Type 1} → statement M
+put_day_spec =
     tie.close
     (tie.spec
-    (λ c. search rules) (λ c κs. search rules) (λ c κs. search rules) (λ c κs. search rules) (λ c κs. search rules)
-    (λ c κs. search rules) (λ c. search rules) returns)
+    (λ c κs. search rules) (λ c κs. search rules) (λ c κs. search rules) (λ c κs. search rules) (λ c κs. search rules) (λ c. search rules) returns)

@@ -9,8 +9,8 @@ returns : tie.Need-returns
 unfolding heading
 returns c = let put = c.before.before.put_one.ensures in (put.0, omega (arith, put.1))
 
-pub put-heading-spec : {M : Type 1} → statement M
-put-heading-spec =
+pub put_heading_spec : {M : Type 1} → statement M
+put_heading_spec =
     tie.close
     (tie.spec
-    (λ c. search rules) (λ c. search rules) (λ c κs. search rules) (λ c. search rules) returns)
+    (λ c κs. search rules) (λ c. search rules) returns)

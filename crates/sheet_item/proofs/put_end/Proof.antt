@@ -5,10 +5,10 @@ use Rattle.sheet_item.proofs.put_end.Statement.{statement}
 use Rattle.sheet_item.proofs.put_end.Tie as tie
 
 returns : tie.Need-returns
-returns c = let put = c.before.before.put-words.ensures in (put.0, omega (arith, put.1))
+returns c = let put = c.before.before.put_words.ensures in (put.0, omega (arith, put.1))
 
-pub put-end-spec : {M : Type 1} → statement M
-put-end-spec =
+pub put_end_spec : {M : Type 1} → statement M
+put_end_spec =
     tie.close
     (tie.spec
-    (λ c. search rules) (λ c. search rules) (λ c κs. search rules) (λ c. search rules) returns)
+    (λ c κs. search rules) (λ c. search rules) returns)

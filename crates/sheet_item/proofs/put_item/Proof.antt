@@ -14,20 +14,20 @@ returns c =
     let sent = marks.before.before.before.before in
     let terms = sent.before.before.before.before in
     let state = terms.before.before.before.before in
-    let behind = put_then (put_then state.put-state.ensures.0 terms.put-terms.ensures.0) sent.put-sent.ensures.0 in (
-      put_then (put_then behind marks.put-marks.ensures.0) end.put-end.ensures.0,
+    let behind = put_then (put_then state.put_state-next.ensures.0 terms.put_terms-next.ensures.0) sent.put_sent-next.ensures.0 in (
+      put_then (put_then behind marks.put_marks-next.ensures.0) end.put_end.ensures.0,
       omega (
         arith,
-        state.put-state.ensures.1,
-        terms.put-terms.ensures.1,
-        sent.put-sent.ensures.1,
-        marks.put-marks.ensures.1,
-        end.put-end.ensures.1,
+        state.put_state-next.ensures.1,
+        terms.put_terms-next.ensures.1,
+        sent.put_sent-next.ensures.1,
+        marks.put_marks-next.ensures.1,
+        end.put_end.ensures.1,
       ),
     )
 
-pub put-item-spec : {M : Type 1} → statement M
-put-item-spec =
+pub put_item_spec : {M : Type 1} → statement M
+put_item_spec =
     tie.close
     (tie.spec
     (λ c κs. search rules) (λ c κs. search rules) (λ c κs. search rules) (λ c κs. search rules) (λ c κs. search rules)

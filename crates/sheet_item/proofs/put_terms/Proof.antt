@@ -7,10 +7,10 @@ use Rattle.sheet_item.proofs.put_terms.Tie as tie
 
 returns : tie.Need-returns
 unfolding terms_of
-returns c = let put = c.before.before.Put-written.ensures in (put.0, omega (arith, put.1))
+returns c = let put = c.before.before.put_written.ensures in (put.0, omega (arith, put.1))
 
-pub put-terms-spec : {M : Type 1} → statement M
-put-terms-spec =
+pub put_terms_spec : {M : Type 1} → statement M
+put_terms_spec =
     tie.close
     (tie.spec
-    (λ c. search rules) (λ c. search rules) (λ c. search rules) (λ c κs. search rules) (λ c. search rules) returns)
+    (λ c. search rules) (λ c κs. search rules) (λ c. search rules) returns)

@@ -5,21 +5,21 @@ use Rattle.statement_lines.specs.Lines.{answer_line}
 use Rattle.statement_lines.proofs.put_answer.Statement.{statement}
 use Rattle.statement_lines.proofs.put_answer.Tie as tie
 
-returns : tie.Need-returns
+returns : tie.Need-returns-in-Accepted
 unfolding answer_line
 returns c =
-    let put = c.before.before in
-    (rw put.before.before.before.before.enum_told.given.1 put.put-filled.ensures.0, omega (arith, put.put-filled.ensures.1))
+    let put = c in
+    (rw put.in-Accepted.is put.put_filled.ensures.0, omega (arith, put.put_filled.ensures.1))
 
-returns-2 : tie.Need-returns-2
+returns-2 : tie.Need-returns-in-Refused
 unfolding answer_line
 returns-2 c =
-    let put = c.before.before in
-    (rw put.before.before.before.answer.given.1 put.Put-refused.ensures.0, omega (arith, put.Put-refused.ensures.1))
+    let put = c in
+    (rw put.in-Refused.is put.put_refused.ensures.0, omega (arith, put.put_refused.ensures.1))
 
-pub put-answer-spec : {M : Type 1} → statement M
-put-answer-spec =
+pub put_answer_spec : {M : Type 1} → statement M
+put_answer_spec =
     tie.close
     (tie.spec
-    (λ c. search rules) (λ c. search rules) (λ c. search rules) (λ c κs. search rules)
-    (λ c. search rules) (λ c κs. search rules) (λ c. search rules) returns (λ c. search rules) returns-2)
+    (λ c. search rules) (λ c. search rules) (λ c κs. search rules) (λ c. search rules) (λ c κs. search rules) (λ c. search rules) returns
+    (λ c. search rules) returns-2)

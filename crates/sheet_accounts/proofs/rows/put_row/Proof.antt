@@ -14,17 +14,17 @@ use native.Mathlib.Omega.{arith}
 use Rattle.sheet_accounts.proofs.rows.put_row.Statement.{statement}
 use Rattle.sheet_accounts.proofs.rows.put_row.Tie as tie
 
-returns : tie.Need-returns
+returns : tie.Need-returns-then-is_free
 returns c =
     let start = c.before.before.before.before.before in
     let args = start.args in
     let row = account_row args.page (ledger_of args.book.now).holdings in
     let account = account_of args.number in
-    let free = ap (λ (a : Account). is_free a.typ) (sym c.before.before.account-of.ensures) ∙ sym c.before.is_free.ensures ∙ c.if1.true in
+    let free = ap (λ (a : Account). is_free a.typ) (sym c.before.before.account_of-account.ensures) ∙ sym c.before.is_free.ensures ∙ c.if-is_free.true in
     let unlisted = listed-or_free (ledger_of args.book.now) start.requires.0.premise account start.requires.1 ∙ ap not free in
     (put-unlisted row account unlisted (search rules), omega arith)
 
-returns-2 : tie.Need-returns-2
+returns-2 : tie.Need-returns
 returns-2 c =
     let put = c.before.before in
     let balance = put.before.before in
@@ -34,14 +34,14 @@ returns-2 c =
     let args = start.args in
     let h = (ledger_of args.book.now).holdings in
     let account = account_of args.number in
-    let same = named.account-of.ensures in
-    let free = ap (λ (a : Account). is_free a.typ) (sym same) ∙ sym test.before.is_free.ensures ∙ test.if1.false in
+    let same = named.account_of-account.ensures in
+    let free = ap (λ (a : Account). is_free a.typ) (sym same) ∙ sym test.before.is_free.ensures ∙ test.if-is_free.false in
     let listed = listed-or_free (ledger_of args.book.now) start.requires.0.premise account start.requires.1 ∙ ap not free in
-    let line = ap (account_line args.page named.account-of.result) balance.balance.ensures ∙ ap (account_row args.page h) same in
-    (put-listed (account_row args.page h) account listed line put.put-line.ensures.0, put.put-line.ensures.1)
+    let line = ap (account_line args.page named.account_of-account.result) balance.balance-balance.ensures ∙ ap (account_row args.page h) same in
+    (put-listed (account_row args.page h) account listed line put.put_line.ensures.0, put.put_line.ensures.1)
 
-pub put-row-spec : {M : Type 1} → statement M
-put-row-spec =
+pub put_row_spec : {M : Type 1} → statement M
+put_row_spec =
     tie.close
     (tie.spec
     (λ c κs. search rules) (λ c κs. search rules) returns (λ c κs. search rules) (λ c κs. search rules)

@@ -13,14 +13,13 @@ returns c =
     let sent = rest.before.before.before.before in
     let state = sent.before.before.before.before in
     let number = state.before.before.before.before in
-    let started = put_then number.put_one.ensures.0 state.put-open-or-closed.ensures.0 in (
-      put_then (put_then started sent.put-unanswered.ensures.0) rest.put_rest.ensures.0,
-      omega (arith, number.put_one.ensures.1, state.put-open-or-closed.ensures.1, sent.put-unanswered.ensures.1, rest.put_rest.ensures.1),
+    let started = put_then number.put_one-next.ensures.0 state.put_open_or_closed-next.ensures.0 in (
+      put_then (put_then started sent.put_unanswered-next.ensures.0) rest.put_rest.ensures.0,
+      omega (arith, number.put_one-next.ensures.1, state.put_open_or_closed-next.ensures.1, sent.put_unanswered-next.ensures.1, rest.put_rest.ensures.1),
     )
 
-pub put-line-spec : {M : Type 1} → statement M
-put-line-spec =
+pub put_line_spec : {M : Type 1} → statement M
+put_line_spec =
     tie.close
     (tie.spec
-    (λ c. search rules) (λ c. search rules) (λ c κs. search rules) (λ c κs. search rules) (λ c κs. search rules)
-    (λ c κs. search rules) (λ c. search rules) returns)
+    (λ c κs. search rules) (λ c κs. search rules) (λ c κs. search rules) (λ c κs. search rules) (λ c. search rules) returns)

@@ -5,10 +5,10 @@ use Rattle.sheet_day.proofs.line.put_rest.Statement.{statement}
 use Rattle.sheet_day.proofs.line.put_rest.Tie as tie
 
 returns : tie.Need-returns
-returns c = let put = c.before.before.Put-written.ensures in (put.0, omega (arith, put.1))
+returns c = let put = c.before.before.put_written.ensures in (put.0, omega (arith, put.1))
 
-pub put-rest-spec : {M : Type 1} → statement M
-put-rest-spec =
+pub put_rest_spec : {M : Type 1} → statement M
+put_rest_spec =
     tie.close
     (tie.spec
-    (λ c. search rules) (λ c. search rules) (λ c. search rules) (λ c κs. search rules) (λ c. search rules) returns)
+    (λ c. search rules) (λ c κs. search rules) (λ c. search rules) returns)

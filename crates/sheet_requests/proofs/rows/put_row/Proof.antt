@@ -12,13 +12,13 @@ returns c =
     let behind = c.before.before.before.before.before.before in
     let start = behind.before in
     let args = start.args in
-    let asked = c.before.before.before.before.request.ensures in
-    let put = c.before.before.put-line.ensures in
+    let asked = c.before.before.before.before.request-request.ensures in
+    let put = c.before.before.put_line.ensures in
     let row = request_row args.page (ledger_of args.book.now).requests in
     (put-listed row (member_of args.number, reference_of args.number) start.requires.1 (rw asked) put.0, put.1)
 
-pub put-row-spec : {M : Type 1} → statement M
-put-row-spec =
+pub put_row_spec : {M : Type 1} → statement M
+put_row_spec =
     tie.close
     (tie.spec
     (λ c κs. search rules) (λ c κs. search rules) (λ c. search rules) returns)

@@ -9,13 +9,12 @@ returns : tie.Need-returns
 returns c =
     let last = c.before.before in
     let first = last.before.before.before.before.before.before in (
-      put_then first.put-where.ensures.0 last.put-where2.ensures.0,
-      omega (arith, first.put-where.ensures.1, last.put-where2.ensures.1),
+      put_then first.put_where-next.ensures.0 last.put_where.ensures.0,
+      omega (arith, first.put_where-next.ensures.1, last.put_where.ensures.1),
     )
 
-pub put-halves-spec : {M : Type 1} → statement M
-put-halves-spec =
+pub put_halves_spec : {M : Type 1} → statement M
+put_halves_spec =
     tie.close
     (tie.spec
-    (λ c. search rules) (λ c. search rules) (λ c κs. search rules) (λ c. search rules) (λ c. search rules)
-    (λ c κs. search rules) (λ c. search rules) returns)
+    (λ c κs. search rules) (λ c κs. search rules) (λ c. search rules) returns)

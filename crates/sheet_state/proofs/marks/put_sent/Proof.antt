@@ -7,10 +7,10 @@ use Rattle.sheet_state.proofs.marks.put_sent.Tie as tie
 
 returns : tie.Need-returns
 unfolding sent_of
-returns c = let put = c.before.before.put-where.ensures in (put.0, omega (arith, put.1))
+returns c = let put = c.before.before.put_where.ensures in (put.0, omega (arith, put.1))
 
-pub put-sent-spec : {M : Type 1} → statement M
-put-sent-spec =
+pub put_sent_spec : {M : Type 1} → statement M
+put_sent_spec =
     tie.close
     (tie.spec
-    (λ c. search rules) (λ c. search rules) (λ c κs. search rules) (λ c. search rules) returns)
+    (λ c κs. search rules) (λ c. search rules) returns)
