@@ -109,11 +109,11 @@ returns-in_default c =
     let has : HasForm n = (ranges _ c.requires.given.read).form in
     let rest = c.in_default-1.rest in
     elim c.in_default.branch [
-      in_default-via-then-form-lt1 w ↦ absurd (omega (arith, has.0))
-    | in_default-via-else-form-lt1+else-form-lt10+else-form-lt14 w ↦
-        let fourteen : 14 ≤ n = omega arith in
-        let cycle = past 15 _ (past 14 _ fourteen rest.0.0.0.0.0.0.0.1) rest.0.0.0.0.0.0.1 in
-        let rate = past 18 _ (past 17 _ (past 16 _ cycle rest.0.0.0.0.0.1) rest.0.0.0.0.1) rest.0.0.0.1 in
-        let paper = past 20 _ (past 19 _ rate rest.0.0.1) rest.0.1 in
-        absurd (omega (arith, past 21 _ paper rest.1, has.1))
+      | in_default-via-then-form-lt1 w ↦ absurd (omega (arith, has.0))
+      | in_default-via-else-form-lt1+else-form-lt10+else-form-lt14 w ↦
+          let fourteen : 14 ≤ n = omega arith in
+          let cycle = past 15 _ (past 14 _ fourteen rest.0.0.0.0.0.0.0.1) rest.0.0.0.0.0.0.1 in
+          let rate = past 18 _ (past 17 _ (past 16 _ cycle rest.0.0.0.0.0.1) rest.0.0.0.0.1) rest.0.0.0.1 in
+          let paper = past 20 _ (past 19 _ rate rest.0.0.1) rest.0.1 in
+          absurd (omega (arith, past 21 _ paper rest.1, has.1))
     ]
