@@ -7,14 +7,20 @@ ghost use Rattle.book.specs.Meaning.{ledger_of};
 ghost use Rattle.book.specs.Stored.{Kept};
 ghost use Rattle.desk.specs.Printed.{BLOCK, OUT, BlockPrinted, CustodyPrinted, ReadAndCalled, FileRead};
 
+use streams::Streams;
+
 // Bytes of a block of 1,024 records, whose lines fit the output buffer.
 const BLOCK: usize = 40960;
+
+// Bytes of the output buffer.
+const OUT: usize = 65536;
 
 // More records than any input has.
 const LAST: u64 = 1 << 63;
 
 // Prints the answer lines of a block, in one piece; false where the output takes no more.
 fn print_answers(
+    streams: Streams,
     out: &mut [u8],
     number: &mut u64,
     book: &mut [u64],
@@ -26,21 +32,30 @@ fn print_answers(
         book.new area.new out.new }
 {
     let end = printing::put_block(out, number, book, block, area);
-    streams::print(&out[..end], b"desk: standard output cannot be written")
+    streams::print(
+        streams,
+        &out[..end],
+        b"desk: standard output cannot be written",
+    )
 }
 
 // Prints the custody lines of a book.
-fn print_custody(out: &mut [u8], book: &[u64])
+fn print_custody(streams: Streams, out: &mut [u8], book: &[u64])
     requires { Kept book.now × (length out.old ≡ OUT) }
     ensures { CustodyPrinted (ledger_of book.now) out.old out.new }
 {
     let end = printing::put_custody(out, 0, book);
-    streams::print(&out[..end], b"desk: standard output cannot be written");
+    streams::print(
+        streams,
+        &out[..end],
+        b"desk: standard output cannot be written",
+    );
 }
 
 // Reads a block, calls its records and prints what they answer; true where more may follow. Where the input ends, the custody lines follow; after a
 // read that failed only the whole records before it are called.
 fn print_block(
+    streams: Streams,
     book: &mut [u64],
     area: &mut [u8],
     input: &mut [u8],
@@ -51,39 +66,58 @@ fn print_block(
     ensures { ReadAndCalled input.new result number.old book.old area.old number.new book.new
         area.new }
 {
-    let filled = streams::fill_records(input, b"desk: standard input cannot be read");
+    let filled = streams::fill_records(streams, input, b"desk: standard input cannot be read");
     let size = filled.size;
-    if !print_answers(out, number, book, &input[..size], area) {
+    if !print_answers(streams, out, number, book, &input[..size], area) {
         return false;
     }
     if filled.ended {
-        print_custody(out, book);
+        print_custody(streams, out, book);
     }
     filled.more
 }
 
 // Block after block, from the record of that number on.
-fn run(book: &mut [u64], area: &mut [u8], input: &mut [u8], out: &mut [u8], number: &mut u64)
+fn run(
+    streams: Streams,
+    book: &mut [u64],
+    area: &mut [u8],
+    input: &mut [u8],
+    out: &mut [u8],
+    number: &mut u64,
+)
     requires { Kept book.old × (length input.old ≡ BLOCK) × (length out.old ≡ OUT) }
     ensures { FileRead number.old book.old area.old number.new book.new area.new }
 {
     while *number < LAST {
-        if !print_block(book, area, input, out, number) {
+        if !print_block(streams, book, area, input, out, number) {
             return;
         }
     }
 }
 
-// Zeros for a block. Its contract gives only the length.
+// Zeros for a block, and for its lines. The contracts give only the lengths.
 fn input_buffer() -> [u8; BLOCK]
     ensures { length result ≡ BLOCK }
 {
     [0; BLOCK]
 }
 
-fn main() {
-    if 1 < os::arg_count() {
+fn output_buffer() -> [u8; OUT]
+    ensures { length result ≡ OUT }
+{
+    [0; OUT]
+}
+
+fn main(rt: HostRuntime) {
+    let streams = Streams {
+        input: rt.stdin(),
+        output: rt.stdout(),
+        error: rt.stderr(),
+    };
+    if streams::has_word(&rt, 1) {
         streams::tell(
+            streams.error,
             b"desk: takes no words on its command line; records come from standard input\n",
         );
         return;
@@ -91,9 +125,16 @@ fn main() {
     let mut book = [0u64; ledger::BOOK_WORDS];
     let mut area = [0u8; 4096];
     let mut input = input_buffer();
-    let mut out = io::large_buffer();
+    let mut out = output_buffer();
     let mut number: u64 = 1;
     if ledger::fresh(&mut book) {
-        run(&mut book, &mut area, &mut input, &mut out, &mut number);
+        run(
+            streams,
+            &mut book,
+            &mut area,
+            &mut input,
+            &mut out,
+            &mut number,
+        );
     }
 }

@@ -41,11 +41,6 @@ unfolding outcome having
 ordered-having met (stopped kind line column place others) o = record { met = o.met; is = o.is }
 ordered-having met (reached line empty others) o = record { met = met ++ others; is = refl }
 
--- the code's answer is that more may follow
-pub more-goes : (places : List ℕ) (reading : Reading) (input input' : List ℕ) (next : Next) (held line empty : ℕ) → next ≡ Next.More held line empty
-    → Goes places reading input input' next → Goes places reading input input' (Next.More held line empty)
-more-goes places reading input input' next held line empty e g = subst (λ (n : Next). Goes places reading input input' n) e g
-
 -- what was read so far, behind the bytes of a first reading, is walked on from the bytes of another; nothing was read where the file had ended
 pub record So (places input : List ℕ) (first : Reading) (input' : List ℕ) (reading : Reading) : Type 0 where
   pub seen : List ℕ

@@ -10,6 +10,12 @@ ghost use Rattle.std.specs.Prelude.{◌≡◌, ◌≤◌, length};
 ghost use Rattle.table_buffer.specs.Buffers.{INPUT, OUT};
 ghost use Rattle.import.specs.Reading.{FileRead};
 
+use std::env::FillError;
+use std::io::{Error, ErrorKind, Result};
+use std::rt::{Env, Files};
+use std::{fs, str};
+use streams::Streams;
+
 // Bytes of the records of a buffer's lines.
 const OUT: usize = 327720;
 
@@ -41,61 +47,111 @@ fn output_buffer() -> [u8; OUT]
     [0; OUT]
 }
 
+// Opens the file by its name, which has to be text.
+fn open_file<R: Files>(files: &R, file: &[u8]) -> Result<R::File> {
+    match str::from_utf8(file) {
+        Ok(name) => fs::open(files, name),
+        Err(_) => Err(Error::new(ErrorKind::InvalidFilename, "the name is not UTF-8")),
+    }
+}
+
 // Opens the file and reads it; where it is to be printed, its records are written.
-fn read_file(file: &[u8], input: &mut [u8], out: &mut [u8], print: bool) -> Read
+fn read_file(
+    files: &impl Files,
+    streams: Streams,
+    file: &[u8],
+    input: &mut [u8],
+    out: &mut [u8],
+    print: bool,
+) -> Read
     requires { (length file.now ≤ 4096) × (length input.old ≡ INPUT) × (length out.old ≡ OUT) }
     ensures { FileRead result }
 {
-    let fd = os::open_read(file);
-    if fd < 0 {
-        os::fail(file);
-        return Read::Failed;
+    match open_file(files, file) {
+        Ok(mut from) => tables::read_table(&mut from, streams, file, input, out, print),
+        Err(reason) => {
+            streams::fail(streams.error, file, reason);
+            Read::Failed
+        }
     }
-    let read = tables::read_table(fd, file, input, out, print);
-    libc::close(fd);
-    read
 }
 
 // The second reading comes to what the first came to, or the file has changed.
-fn write_file(file: &[u8], input: &mut [u8], out: &mut [u8], lines: u64)
+fn write_file(
+    files: &impl Files,
+    streams: Streams,
+    file: &[u8],
+    input: &mut [u8],
+    out: &mut [u8],
+    lines: u64,
+)
     requires { (length file.now ≤ 4096) × (length input.old ≡ INPUT) × (length out.old ≡ OUT) }
 {
-    let read = read_file(file, input, out, true);
+    let read = read_file(files, streams, file, input, out, true);
     match read {
         Read::Ended { line } => {
             if line != lines {
-                telling::tell_changed();
+                telling::tell_changed(streams);
             }
         }
-        Read::Refused { .. } => telling::tell_changed(),
+        Read::Refused { .. } => telling::tell_changed(streams),
         Read::Failed => (),
     }
 }
 
 // Checks the file, and writes its records where nothing is wrong with it.
-fn run(file: &[u8], input: &mut [u8], out: &mut [u8])
+fn run(files: &impl Files, streams: Streams, file: &[u8], input: &mut [u8], out: &mut [u8])
     requires { (length file.now ≤ 4096) × (length input.old ≡ INPUT) × (length out.old ≡ OUT) }
 {
-    let read = read_file(file, input, out, false);
+    let read = read_file(files, streams, file, input, out, false);
     match read {
-        Read::Ended { line } => write_file(file, input, out, line),
+        Read::Ended { line } => write_file(files, streams, file, input, out, line),
         Read::Refused { .. } => (),
         Read::Failed => (),
     }
 }
 
-fn main() {
-    if os::arg_count() != 2 {
-        telling::tell_use();
+// The system's numbers for a word that is missing, and for one that is too long.
+const MISSING: i32 = 22;
+
+const TOO_LONG: i32 = 36;
+
+// Why the name of the file was not taken.
+fn reason_of(error: FillError) -> Error {
+    match error {
+        FillError::NotPresent => Error::from_raw_os_error(MISSING),
+        FillError::TooLong => Error::from_raw_os_error(TOO_LONG),
+    }
+}
+
+// Takes the name of the file from the command line, and makes records of what it says.
+fn import(rt: &(impl Env + Files), streams: Streams) {
+    let mut name = [0u8; 4096];
+    match rt.arg(1, &mut name) {
+        Ok(size) => {
+            let mut input = input_buffer();
+            let mut out = output_buffer();
+            run(rt, streams, &name[..size], &mut input, &mut out);
+        }
+        Err(reason) => {
+            streams::fail(
+                streams.error,
+                b"import: the name of the file",
+                reason_of(reason),
+            );
+        }
+    }
+}
+
+fn main(rt: HostRuntime) {
+    let streams = Streams {
+        input: rt.stdin(),
+        output: rt.stdout(),
+        error: rt.stderr(),
+    };
+    if !streams::has_word(&rt, 1) || streams::has_word(&rt, 2) {
+        telling::tell_use(streams);
         return;
     }
-    let mut name = io::buffer();
-    let size = os::arg(1, &mut name);
-    if os::errno() != 0 {
-        os::fail(b"import: the name of the file");
-        return;
-    }
-    let mut input = input_buffer();
-    let mut out = output_buffer();
-    run(&name[..size], &mut input, &mut out);
+    import(&rt, streams);
 }

@@ -5,21 +5,24 @@ ghost use Rattle.table_buffer.specs.Blocks.{Given, Goes};
 ghost use Rattle.import.specs.Reading.{ReadOn, RowsRead, read_of};
 
 use crate::{Read, telling};
+use std::io;
+use streams::Streams;
 use table_buffer::{Next, Reading};
 
 // More blocks, and more lines, than any file has.
 const LAST: u64 = 1 << 62;
 
 // Writes records to standard output where they are to be printed; false where it takes no more.
-fn put(bytes: &[u8], print: bool) -> bool {
+fn put(streams: Streams, bytes: &[u8], print: bool) -> bool {
     if !print {
         return true;
     }
-    streams::print(bytes, b"import: standard output cannot be written")
+    streams::print(streams, bytes, b"import: standard output cannot be written")
 }
 
 // Converts the lines in the buffer, and writes their records.
 fn convert(
+    streams: Streams,
     input: &mut [u8],
     out: &mut [u8],
     places: &[usize],
@@ -31,15 +34,16 @@ fn convert(
 {
     let converted = table_buffer::lines::convert(input, out, places, reading);
     let wrote = converted.wrote;
-    if !put(&out[..wrote], print) {
+    if !put(streams, &out[..wrote], print) {
         return Next::Failed;
     }
     converted.next
 }
 
 // Reads on behind the bytes that are left at the buffer's start.
-pub fn read_on(
-    fd: i32,
+pub fn read_on<F: io::Read>(
+    from: &mut F,
+    streams: Streams,
     file: &[u8],
     input: &mut [u8],
     held: usize,
@@ -49,7 +53,7 @@ pub fn read_on(
     requires { (length input.old ≡ INPUT) × (held ≤ BLOCK) }
     ensures { ReadOn input.old held line empty input.new result }
 {
-    let filled = streams::fill(fd, &mut input[held..16383], file);
+    let filled = streams::fill(from, &mut input[held..16383], streams.error, file);
     Reading {
         from: 0,
         size: held + filled.size,
@@ -61,7 +65,7 @@ pub fn read_on(
 }
 
 // A refusal is told.
-fn told(file: &[u8], next: Next) -> Read
+fn told(streams: Streams, file: &[u8], next: Next) -> Read
     requires { length file.now ≤ 4096 }
     ensures { result ≡ read_of next }
 {
@@ -71,7 +75,7 @@ fn told(file: &[u8], next: Next) -> Read
             line,
             column,
             place,
-        } => { telling::refused(file, b"", kind, line, column, place) }
+        } => { telling::refused(streams, file, b"", kind, line, column, place) }
         Next::Ended { line } => Read::Ended { line: line },
         Next::More { .. } => Read::Failed,
         Next::Failed => Read::Failed,
@@ -79,8 +83,9 @@ fn told(file: &[u8], next: Next) -> Read
 }
 
 // The lines in the buffer, then those of the next block, until the file ends.
-pub fn rows(
-    fd: i32,
+pub fn rows<F: io::Read>(
+    from: &mut F,
+    streams: Streams,
     file: &[u8],
     input: &mut [u8],
     out: &mut [u8],
@@ -97,13 +102,13 @@ pub fn rows(
         if LAST <= reading.line {
             return Read::Failed;
         }
-        let next = convert(input, out, places, reading, print);
+        let next = convert(streams, input, out, places, reading, print);
         match next {
             Next::More { held, line, empty } => {
-                reading = read_on(fd, file, input, held, line, empty);
+                reading = read_on(from, streams, file, input, held, line, empty);
                 turns += 1;
             }
-            _ => return told(file, next),
+            _ => return told(streams, file, next),
         }
     }
     Read::Failed

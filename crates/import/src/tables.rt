@@ -4,6 +4,8 @@ ghost use Rattle.table_buffer.specs.Buffers.{INPUT, OUT};
 ghost use Rattle.import.specs.Reading.{FileRead};
 
 use crate::{Read, rows, telling};
+use std::io;
+use streams::Streams;
 use table_buffer::Reading;
 
 // The file could not be read.
@@ -17,11 +19,18 @@ fn failed(reading: Reading) -> bool
 }
 
 // Reads the first bytes, and what follows them.
-pub fn read_table(fd: i32, file: &[u8], input: &mut [u8], out: &mut [u8], print: bool) -> Read
+pub fn read_table<F: io::Read>(
+    from: &mut F,
+    streams: Streams,
+    file: &[u8],
+    input: &mut [u8],
+    out: &mut [u8],
+    print: bool,
+) -> Read
     requires { (length file.now ≤ 4096) × (length input.old ≡ INPUT) × (length out.old ≡ OUT) }
     ensures { FileRead result }
 {
-    let reading = rows::read_on(fd, file, input, 0, 2, 0);
+    let reading = rows::read_on(from, streams, file, input, 0, 2, 0);
     if failed(reading) {
         return Read::Failed;
     }
@@ -32,6 +41,7 @@ pub fn read_table(fd: i32, file: &[u8], input: &mut [u8], out: &mut [u8], print:
         let start = first.start;
         let end = first.end;
         return telling::refused(
+            streams,
             file,
             &input[start..end],
             columns.kind,
@@ -50,5 +60,14 @@ pub fn read_table(fd: i32, file: &[u8], input: &mut [u8], out: &mut [u8], print:
         line: 2,
         empty: 0,
     };
-    rows::rows(fd, file, input, out, &places[..count], behind, print)
+    rows::rows(
+        from,
+        streams,
+        file,
+        input,
+        out,
+        &places[..count],
+        behind,
+        print,
+    )
 }

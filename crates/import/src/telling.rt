@@ -3,27 +3,38 @@ ghost use Rattle.std.specs.Prelude.{◌≡◌, ◌≤◌, length};
 ghost use Rattle.import.specs.declared.Read;
 
 use crate::Read;
+use streams::Streams;
 
-pub fn tell_use() {
+pub fn tell_use(streams: Streams) {
     streams::tell(
+        streams.error,
         b"import: takes one word on its command line, the name of a file with a table of orders\n",
     );
 }
 
-pub fn tell_changed() {
+pub fn tell_changed(streams: Streams) {
     streams::tell(
+        streams.error,
         b"import: the file was not read alike twice; what was written is not its table\n",
     );
 }
 
 // Tells a refusal, with the first line of the table where it stands in that line, and answers it.
-pub fn refused(file: &[u8], first: &[u8], kind: u64, line: u64, column: usize, place: usize) -> Read
+pub fn refused(
+    streams: Streams,
+    file: &[u8],
+    first: &[u8],
+    kind: u64,
+    line: u64,
+    column: usize,
+    place: usize,
+) -> Read
     requires { length file.now ≤ 4096 }
     ensures { result ≡ Rattle.import.specs.declared.Read.Read.Refused kind line column place }
 {
     let mut out = [0u8; 8192];
     let end = import_lines::put_refused(&mut out, file, first, kind, line, column, place);
-    streams::tell(&out[..end]);
+    streams::tell(streams.error, &out[..end]);
     Read::Refused {
         kind: kind,
         line: line,

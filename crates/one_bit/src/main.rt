@@ -36,31 +36,30 @@ fn count_of(record: [u8; 40], number: u64) -> u64
     count
 }
 
-fn print(number: u64) {
-    io::write_all(1, b" ");
-    io::print_decimal(1, number);
+fn print(rt: &impl Print, number: u64) {
+    let _ = print!(rt; " {number}");
 }
 
 // Prints nothing where there is no such form: the writer refuses its order.
-fn print_form(form: u64) {
+fn print_form(rt: &impl Print, form: u64) {
     let mut record = [0u8; 40];
     let written = record::write(samples::sample(form), &mut record);
     let Written::Record = written else {
         return;
     };
-    io::print_decimal(1, form);
-    print(count_of(record, 0));
-    print(count_of(record, 2));
-    print(count_of(record, 3));
-    print(count_of(record, 4));
-    print(count_of(record, 5));
-    io::write_all(1, b"\n");
+    let _ = print!(rt; "{form}");
+    print(rt, count_of(record, 0));
+    print(rt, count_of(record, 2));
+    print(rt, count_of(record, 3));
+    print(rt, count_of(record, 4));
+    print(rt, count_of(record, 5));
+    let _ = println!(rt);
 }
 
 // All that five bits can name.
-fn main() {
-    io::write_all(1, b"form read 2 3 4 5\n");
+fn main(rt: HostRuntime) {
+    let _ = println!(rt; "form read 2 3 4 5");
     for form in 1..32 {
-        print_form(form);
+        print_form(&rt, form);
     }
 }

@@ -7,7 +7,8 @@ ghost use Rattle.book.specs.Meaning.{ledger_of};
 ghost use Rattle.book.specs.Stored.{Kept};
 ghost use Rattle.sheet.specs.HandedOver.{BLOCK, OUT, BlockCalled, FileRead, SheetPrinted, HandedOver};
 
-use streams::Filled;
+use std::rt::Env;
+use streams::{Filled, Streams};
 
 // Bytes of a block of 1,024 records.
 const BLOCK: usize = 40960;
@@ -24,6 +25,7 @@ const OTHERWISE: u64 = 2;
 
 // Reads a block and calls its records. Their lines are left unprinted in the output buffer.
 fn call_block(
+    streams: Streams,
     book: &mut [u64],
     area: &mut [u8],
     input: &mut [u8],
@@ -34,7 +36,7 @@ fn call_block(
     ensures { BlockCalled input.new result number.old book.old area.old number.new book.new
         area.new }
 {
-    let filled = streams::fill_records(input, b"sheet: standard input cannot be read");
+    let filled = streams::fill_records(streams, input, b"sheet: standard input cannot be read");
     let size = filled.size;
     printing::put_block(out, number, book, &input[..size], area);
     filled
@@ -42,6 +44,7 @@ fn call_block(
 
 // Block after block, from the record of that number on; true where the input ended.
 fn call_all(
+    streams: Streams,
     book: &mut [u64],
     area: &mut [u8],
     input: &mut [u8],
@@ -52,7 +55,7 @@ fn call_all(
     ensures { FileRead number.old book.old area.old number.new book.new area.new }
 {
     while *number < LAST {
-        let filled = call_block(book, area, input, out, number);
+        let filled = call_block(streams, book, area, input, out, number);
         if !filled.more {
             return filled.ended;
         }
@@ -61,16 +64,21 @@ fn call_all(
 }
 
 // Prints the sheet of a book.
-fn print_sheet(out: &mut [u8], page: bool, book: &[u64])
+fn print_sheet(streams: Streams, out: &mut [u8], page: bool, book: &[u64])
     requires { Kept book.now × (length out.old ≡ OUT) }
     ensures { SheetPrinted page (ledger_of book.now) out.old out.new }
 {
     let end = sheets::put_sheet(out, page, book);
-    streams::print(&out[..end], b"sheet: standard output cannot be written");
+    streams::print(
+        streams,
+        &out[..end],
+        b"sheet: standard output cannot be written",
+    );
 }
 
 // Calls all records, and prints the sheet where the input ended; after a read that failed nothing is printed.
 fn hand_over(
+    streams: Streams,
     page: bool,
     book: &mut [u64],
     area: &mut [u8],
@@ -82,9 +90,9 @@ fn hand_over(
     ensures { HandedOver page result number.old book.old area.old number.new book.new area.new
         out.new }
 {
-    let ended = call_all(book, area, input, out, number);
+    let ended = call_all(streams, book, area, input, out, number);
     if ended {
-        print_sheet(out, page, book);
+        print_sheet(streams, out, page, book);
     }
     ended
 }
@@ -103,23 +111,21 @@ fn sheet_buffer() -> [u8; sheets::SHEET_BYTES]
 }
 
 // No word asks for text, the word `html` for a page.
-fn asked_for() -> u64 {
-    let words = os::arg_count();
-    if words < 2 {
+fn asked_for(words: &impl Env) -> u64 {
+    if !streams::has_word(words, 1) {
         return AS_TEXT;
     }
-    if 2 < words {
+    if streams::has_word(words, 2) {
         return OTHERWISE;
     }
     let mut word = [0u8; 5];
-    let size = os::arg(1, &mut word);
-    if text::same(&word[..size], b"html") {
-        return AS_PAGE;
+    match words.arg(1, &mut word) {
+        Ok(size) if text::same(&word[..size], b"html") => AS_PAGE,
+        _ => OTHERWISE,
     }
-    OTHERWISE
 }
 
-fn run(page: bool) {
+fn run(streams: Streams, page: bool) {
     let mut book = [0u64; ledger::BOOK_WORDS];
     let mut area = [0u8; 4096];
     let mut input = input_buffer();
@@ -127,6 +133,7 @@ fn run(page: bool) {
     let mut number: u64 = 1;
     if ledger::fresh(&mut book) {
         hand_over(
+            streams,
             page,
             &mut book,
             &mut area,
@@ -137,13 +144,19 @@ fn run(page: bool) {
     }
 }
 
-fn main() {
-    let asked = asked_for();
+fn main(rt: HostRuntime) {
+    let streams = Streams {
+        input: rt.stdin(),
+        output: rt.stdout(),
+        error: rt.stderr(),
+    };
+    let asked = asked_for(&rt);
     if asked == OTHERWISE {
         streams::tell(
+            streams.error,
             b"sheet: takes no word, or the word html, on its command line; records come from standard input\n",
         );
         return;
     }
-    run(asked == AS_PAGE);
+    run(streams, asked == AS_PAGE);
 }

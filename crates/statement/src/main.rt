@@ -6,6 +6,8 @@ ghost use Rattle.std.specs.Prelude.{◌≡◌, ◌+◌, ◌^◌, ◌≤◌, ◌<
 ghost use Rattle.book.specs.Stored.{Kept};
 ghost use Rattle.statement.specs.Read.{BLOCK, OUT, FileStated, BlockStated, FileRead};
 
+use streams::Streams;
+
 // Bytes of a block of 1,024 records.
 const BLOCK: usize = 40960;
 
@@ -23,12 +25,17 @@ struct Pending {
 }
 
 // Writes lines to standard output; false where it takes no more.
-fn print(lines: &[u8]) -> bool {
-    streams::print(lines, b"statement: standard output cannot be written")
+fn print(streams: Streams, lines: &[u8]) -> bool {
+    streams::print(
+        streams,
+        lines,
+        b"statement: standard output cannot be written",
+    )
 }
 
 // Calls the records of a file. The buffer is printed where the next record's lines might not fit.
 fn state_file(
+    streams: Streams,
     out: &mut [u8],
     at: usize,
     number: &mut u64,
@@ -52,7 +59,7 @@ fn state_file(
                 more: true,
             };
         }
-        if !print(&out[..end]) {
+        if !print(streams, &out[..end]) {
             return Pending {
                 end: 0,
                 more: false,
@@ -65,6 +72,7 @@ fn state_file(
 
 // Reads a block and calls its records; after a read that failed only the whole records before it.
 fn state_block(
+    streams: Streams,
     book: &mut [u64],
     area: &mut [u8],
     input: &mut [u8],
@@ -76,9 +84,9 @@ fn state_block(
     ensures { BlockStated input.new number.old book.old area.old (take at out.old) result number.new
         book.new area.new out.new }
 {
-    let filled = streams::fill_records(input, b"statement: standard input cannot be read");
+    let filled = streams::fill_records(streams, input, b"statement: standard input cannot be read");
     let size = filled.size;
-    let pending = state_file(out, at, number, book, &input[..size], area);
+    let pending = state_file(streams, out, at, number, book, &input[..size], area);
     Pending {
         end: pending.end,
         more: pending.more & filled.more,
@@ -86,20 +94,27 @@ fn state_block(
 }
 
 // Block after block, from the record of that number on. What is left in the buffer at the end is printed.
-fn run(book: &mut [u64], area: &mut [u8], input: &mut [u8], out: &mut [u8], number: &mut u64)
+fn run(
+    streams: Streams,
+    book: &mut [u64],
+    area: &mut [u8],
+    input: &mut [u8],
+    out: &mut [u8],
+    number: &mut u64,
+)
     requires { Kept book.old × (length input.old ≡ BLOCK) × (length out.old ≡ OUT) }
     ensures { FileRead number.old book.old area.old number.new book.new area.new out.new }
 {
     let mut at: usize = 0;
     while *number < LAST {
-        let pending = state_block(book, area, input, out, at, number);
+        let pending = state_block(streams, book, area, input, out, at, number);
         at = pending.end;
         if !pending.more {
-            print(&out[..at]);
+            print(streams, &out[..at]);
             return;
         }
     }
-    print(&out[..at]);
+    print(streams, &out[..at]);
 }
 
 // Zeros for a block. Its contract gives only the length.
@@ -115,9 +130,15 @@ fn output_buffer() -> [u8; OUT]
     [0; OUT]
 }
 
-fn main() {
-    if 1 < os::arg_count() {
+fn main(rt: HostRuntime) {
+    let streams = Streams {
+        input: rt.stdin(),
+        output: rt.stdout(),
+        error: rt.stderr(),
+    };
+    if streams::has_word(&rt, 1) {
         streams::tell(
+            streams.error,
             b"statement: takes no words on its command line; records come from standard input\n",
         );
         return;
@@ -128,6 +149,13 @@ fn main() {
     let mut out = output_buffer();
     let mut number: u64 = 1;
     if ledger::fresh(&mut book) {
-        run(&mut book, &mut area, &mut input, &mut out, &mut number);
+        run(
+            streams,
+            &mut book,
+            &mut area,
+            &mut input,
+            &mut out,
+            &mut number,
+        );
     }
 }

@@ -4,6 +4,18 @@
 ghost use Rattle.std.specs.Prelude.{length};
 ghost use Rattle.streams.specs.Input.{Within, RecordsWithin};
 
+use std::env::FillError;
+use std::io::{Error, Read, Stderr, Stdin, Stdout};
+use std::rt::Env;
+
+// The streams that a program has from its start.
+#[derive(Clone, Copy)]
+pub struct Streams {
+    pub input: Stdin,
+    pub output: Stdout,
+    pub error: Stderr,
+}
+
 // What a filling of a buffer brought: how many bytes; whether the buffer is full, so that more may follow; whether the input ended. Where neither, a
 // read has failed.
 #[derive(Clone, Copy)]
@@ -13,30 +25,30 @@ pub struct Filled {
     pub ended: bool,
 }
 
-// Fills a buffer from an open file. A read that fails is told.
-pub fn fill(from: i32, input: &mut [u8], complaint: &[u8]) -> Filled
+// Fills a buffer from a reader. A read that fails is told.
+pub fn fill<R: Read>(from: &mut R, input: &mut [u8], told: Stderr, complaint: &[u8]) -> Filled
     ensures { Within result (length input.old) }
 {
     let mut done: usize = 0;
     while done < input.len() {
-        let got = libc::read(from, &mut input[done..]);
-        if got < 0 {
-            os::fail(complaint);
-            return Filled {
-                size: done,
-                more: false,
-                ended: false,
-            };
+        match from.read(&mut input[done..]) {
+            Ok(0) => {
+                return Filled {
+                    size: done,
+                    more: false,
+                    ended: true,
+                };
+            }
+            Ok(n) => done += n,
+            Err(reason) => {
+                fail(told, complaint, reason);
+                return Filled {
+                    size: done,
+                    more: false,
+                    ended: false,
+                };
+            }
         }
-        let n = io::count(got, &input[done..]);
-        if n == 0 {
-            return Filled {
-                size: done,
-                more: false,
-                ended: true,
-            };
-        }
-        done += n;
     }
     Filled {
         size: done,
@@ -46,10 +58,11 @@ pub fn fill(from: i32, input: &mut [u8], complaint: &[u8]) -> Filled
 }
 
 // Fills a buffer with records from standard input. After a read that failed only the whole records before it are to be called.
-pub fn fill_records(input: &mut [u8], complaint: &[u8]) -> Filled
+pub fn fill_records(streams: Streams, input: &mut [u8], complaint: &[u8]) -> Filled
     ensures { RecordsWithin result (length input.old) }
 {
-    let filled = fill(libc::STDIN_FILENO, input, complaint);
+    let mut from = streams.input;
+    let filled = fill(&mut from, input, streams.error, complaint);
     if filled.more {
         return filled;
     }
@@ -64,15 +77,33 @@ pub fn fill_records(input: &mut [u8], complaint: &[u8]) -> Filled
 }
 
 // Writes bytes to standard output; false where it takes no more, which is told.
-pub fn print(bytes: &[u8], complaint: &[u8]) -> bool {
-    if io::write_all(libc::STDOUT_FILENO, bytes) {
-        return true;
+pub fn print(streams: Streams, bytes: &[u8], complaint: &[u8]) -> bool {
+    match streams.output.write_all(bytes) {
+        Ok(()) => true,
+        Err(reason) => {
+            fail(streams.error, complaint, reason);
+            false
+        }
     }
-    os::fail(complaint);
-    false
 }
 
 // Writes a line to standard error.
-pub fn tell(line: &[u8]) {
-    io::write_all(libc::STDERR_FILENO, line);
+pub fn tell(told: Stderr, line: &[u8]) {
+    let _ = told.write_all(line);
+}
+
+// Writes a complaint and the reason for it to standard error, in one line.
+pub fn fail(told: Stderr, complaint: &[u8], reason: Error) {
+    let _ = told.write_all(complaint);
+    let _ = told.write_all(b": ");
+    let _ = told.println(reason);
+}
+
+// Whether the command line has a word at that place. The program's name stands at 0.
+pub fn has_word(words: &impl Env, at: usize) -> bool {
+    let mut word = [0u8; 1];
+    match words.arg(at, &mut word) {
+        Err(FillError::NotPresent) => false,
+        _ => true,
+    }
 }

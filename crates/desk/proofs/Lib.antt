@@ -1,0 +1,2 @@
+-- records, block after block
+pub mod Blocks

@@ -1,8 +1,0 @@
--- `sheet::sheet_buffer` meets its contract. Assumes nothing.
-use Prim.Native.Nat.{ℕ}
-use lib.ListN.{length-replicate}
-use Rattle.sheet.proofs.sheet_buffer.Statement.{statement}
-use Rattle.sheet.proofs.sheet_buffer.Tie as tie
-
-pub sheet-buffer-spec : {M : Type 1} → statement M
-sheet-buffer-spec = tie.close (tie.spec (λ c. length-replicate {A = ℕ} _ 0))

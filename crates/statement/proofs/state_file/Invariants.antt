@@ -1,0 +1,16 @@
+-- The records before a place were called. What is left of the file falls at each turn, or what stands in the buffer does.
+use Rattle.std.proofs.Common.{◌≡◌, ◌+◌, ◌*◌, ◌≤◌, length, take, drop}
+use Rattle.file.specs.Records.{records_of}
+use Rattle.statement.proofs.Parts.{Walked}
+use Rattle.statement.proofs.state_file.Given as goal
+
+abbrev pub invariant-loop-streams : goal.invariant-loop-streams
+invariant-loop-streams l =
+    Walked l.file l.fn.number l.fn.book l.fn.area (take l.fn.at l.fn.out) l.from l.number l.book l.area (take l.begin l.out)
+    × (l.begin ≤ length l.out)
+    × (length l.out ≡ length l.fn.out)
+    × (length l.book ≡ length l.fn.book)
+    × (length l.area ≡ length l.fn.area)
+
+abbrev pub decreases-loop-streams : goal.decreases-loop-streams
+decreases-loop-streams l = length (records_of (drop l.from l.file)) * 524289 + l.begin
