@@ -1,5 +1,5 @@
 -- The cash words as what each member has in each currency.
-use Rattle.std.specs.Prelude.{if◌then◌else◌, if◌then◌else◌, ℕ, ◌+◌, ◌-◌, ◌*◌, Bool, ◌&&◌, List, get_or}
+use Rattle.std.specs.Prelude.{if◌then◌else◌, ℕ, ◌+◌, ◌-◌, ◌*◌, Bool, ◌&&◌, List, get_or}
 use Rattle.plain.specs.Lists.{within, sum_below}
 use Rattle.rulebook.specs.Ledger.{Holdings}
 

@@ -1,5 +1,5 @@
 -- Bytes to lines, a line to cells, a cell to a number.
-use Rattle.std.specs.Prelude.{if◌then◌else◌, if◌then◌else◌, ℕ, ◌+◌, ◌-◌, ◌*◌, ◌^◌, Bool, not, ◌||◌, List, [], ◌∷◌, length}
+use Rattle.std.specs.Prelude.{if◌then◌else◌, ℕ, ◌+◌, ◌-◌, ◌*◌, ◌^◌, Bool, not, ◌||◌, List, [], ◌∷◌, length}
 use Rattle.plain.specs.Lists.{◌is◌, ◌below◌, ◌one_of◌, within}
 use Rattle.text.specs.Parts.{line_feed, up_to, joined, split}
 use Rattle.cells.specs.Kinds.{empty_cell, not_aNumber, too_large, quoted}

@@ -1,7 +1,7 @@
 // What the stages of the checking order share.
 #![tactic(auto)]
 
-ghost use Rattle.std.specs.Prelude.{if◌then◌else◌, if◌then◌else◌, ◌≡◌};
+ghost use Rattle.std.specs.Prelude.{if◌then◌else◌, ◌≡◌};
 ghost use Rattle.plain.specs.Lists.{within};
 
 // A refusal's number where its test applies, else what the later tests give. A stage puts its last test first.

@@ -1,5 +1,5 @@
 -- Pay-ins with which nothing is short over a list of trades.
-use Rattle.std.specs.Prelude.{if◌then◌else◌, if◌then◌else◌, ℕ, ◌+◌, ◌≤◌, Bool, true, not, ◌||◌, List, ◌≡◌}
+use Rattle.std.specs.Prelude.{if◌then◌else◌, ℕ, ◌+◌, ◌≤◌, Bool, true, not, ◌||◌, List, ◌≡◌}
 use Rattle.plain.specs.Lists.{◌is_not◌, ◌below◌, some}
 use Rattle.rulebook.specs.declared.Account.{Account}
 use Rattle.rulebook.specs.declared.Item.{Item}

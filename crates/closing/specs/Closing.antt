@@ -1,5 +1,5 @@
 -- The close of a day before the day itself is closed: what leaves, what stays, and what is counted.
-use Rattle.std.specs.Prelude.{if◌then◌else◌, if◌then◌else◌, ℕ, ◌+◌, ◌<◌, ◌^◌, not, List, map, length}
+use Rattle.std.specs.Prelude.{if◌then◌else◌, ℕ, ◌+◌, ◌<◌, ◌^◌, not, List, map, length}
 use Rattle.plain.specs.Lists.{◌is◌, keep}
 use Rattle.rulebook.specs.Ledger.{Ledger, put_waiting}
 use Rattle.rulebook.specs.Waiting.{sides_of, sides, unmarked}

@@ -1,5 +1,5 @@
 -- Parts of a form's window.
-use Rattle.std.specs.Prelude.{if◌then◌else◌, if◌then◌else◌, ℕ, length}
+use Rattle.std.specs.Prelude.{if◌then◌else◌, ℕ, length}
 use Rattle.plain.specs.Lists.{◌is◌}
 use Rattle.rulebook.specs.Windows.{by_kind, office_end, cycle_minutes, all_run}
 use Rattle.rulebook.specs.declared.Day.{Day}

@@ -1,5 +1,5 @@
 -- What a C program lends: buffers of words, each by a pointer and a length. A wrong length is answered by a number of its own, above every refusal's.
-use Rattle.std.specs.Prelude.{if◌then◌else◌, if◌then◌else◌, ℕ, List, ◌≡◌, length}
+use Rattle.std.specs.Prelude.{if◌then◌else◌, ℕ, List, ◌≡◌, length}
 use Rattle.plain.specs.Lists.{◌is◌}
 use Rattle.rulebook.specs.Ledger.{fresh}
 use Rattle.book.specs.Meaning.{book_length, ledger_of}

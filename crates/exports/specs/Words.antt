@@ -1,5 +1,5 @@
 -- Calls, reader and writer over the words that a C program lends.
-use Rattle.std.specs.Prelude.{if◌then◌else◌, if◌then◌else◌, ℕ, List, ◌≡◌, length, take}
+use Rattle.std.specs.Prelude.{if◌then◌else◌, ℕ, List, ◌≡◌, length, take}
 use Rattle.plain.specs.Lists.{◌is_not◌}
 use Rattle.rulebook.specs.Record.{read_of, read_number, order_of, written_of, written_number, area_written, fields_of}
 use Rattle.rulebook.specs.Call.{call_of, answer_number}

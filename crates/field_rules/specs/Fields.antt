@@ -1,5 +1,5 @@
 -- The refusals of a record's fields, which reader and writer share, and a form's rules as sets of fields.
-use Rattle.std.specs.Prelude.{if◌then◌else◌, if◌then◌else◌, ℕ, ◌/◌, ◌^◌, ◌<◌, Bool, true, false, not, ◌&&◌, List, [], ◌∷◌, ◌≡◌, length, get_or}
+use Rattle.std.specs.Prelude.{if◌then◌else◌, ℕ, ◌/◌, ◌^◌, ◌<◌, Bool, true, false, not, ◌&&◌, List, [], ◌∷◌, ◌≡◌, length, get_or}
 use Rattle.std.specs.Int.Bits.{bit_and}
 use Rattle.plain.specs.Lists.{◌is◌, ◌is_not◌, ◌below◌, within, first}
 use Rattle.rulebook.specs.Field as Field

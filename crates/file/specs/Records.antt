@@ -1,5 +1,5 @@
 -- The records of a file, and what a walk finds at a place of it.
-use Rattle.std.specs.Prelude.{if◌then◌else◌, if◌then◌else◌, ℕ, zero, suc, ◌+◌, ◌-◌, ◌/◌, List, [], ◌∷◌, length, take, drop}
+use Rattle.std.specs.Prelude.{if◌then◌else◌, ℕ, zero, suc, ◌+◌, ◌-◌, ◌/◌, List, [], ◌∷◌, length, take, drop}
 use Rattle.plain.specs.Lists.{◌below◌}
 use Rattle.file.specs.declared.Next.{Next}
 use Rattle.file.specs.declared.Next.TheVariants.{Record, End}

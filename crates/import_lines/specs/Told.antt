@@ -1,5 +1,5 @@
 -- The line that is told of a refused table (RULES 15.9).
-use Rattle.std.specs.Prelude.{if◌then◌else◌, if◌then◌else◌, ℕ, ◌-◌, List, [], ◌∷◌, ◌++◌, map, get_or, take}
+use Rattle.std.specs.Prelude.{if◌then◌else◌, ℕ, ◌-◌, List, [], ◌∷◌, ◌++◌, map, get_or, take}
 use Prim.Native.String.{String}
 use Rattle.plain.specs.Lists.{◌is◌, ◌below◌, within}
 use Rattle.rulebook.specs.Names.{name_from1, field_name}

@@ -1,5 +1,5 @@
 -- The pair that an arriving single makes with the one that waits.
-use Rattle.std.specs.Prelude.{if◌then◌else◌, if◌then◌else◌}
+use Rattle.std.specs.Prelude.{if◌then◌else◌}
 use Rattle.rulebook.specs.Waiting.{is_deliver}
 use Rattle.rulebook.specs.Matching.{pair_of}
 use Rattle.rulebook.specs.declared.Item.{Item}

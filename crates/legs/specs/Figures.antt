@@ -1,5 +1,5 @@
 -- Legs of trades, and the figures that their debits are held against, in columns of 64 words.
-use Rattle.std.specs.Prelude.{if◌then◌else◌, if◌then◌else◌, ℕ, zero, suc, ◌+◌, ◌*◌, ◌^◌, ◌≤◌, ◌<◌, Bool, ◌&&◌, ◌||◌, List, ◌≡◌, length, get_or}
+use Rattle.std.specs.Prelude.{if◌then◌else◌, ℕ, zero, suc, ◌+◌, ◌*◌, ◌^◌, ◌≤◌, ◌<◌, Bool, ◌&&◌, ◌||◌, List, ◌≡◌, length, get_or}
 use Rattle.plain.specs.Lists.{◌is◌, ◌below◌, sum_below}
 use Rattle.words.specs.declared.Found.{Found}
 use Rattle.words.specs.declared.Found.TheVariants.{At, Nothing}

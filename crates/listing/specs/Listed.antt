@@ -1,5 +1,5 @@
 -- RULES 18: what a handover sheet lists, in order. The book's maps have no order of their own, so the lists go over all that a record's fields can name.
-use Rattle.std.specs.Prelude.{if◌then◌else◌, if◌then◌else◌, ℕ, ◌+◌, ◌^◌, Bool, ◌&&◌, List, [], ◌∷◌}
+use Rattle.std.specs.Prelude.{if◌then◌else◌, ℕ, ◌+◌, ◌^◌, Bool, ◌&&◌, List, [], ◌∷◌}
 use Rattle.plain.specs.Lists.{◌is_not◌, ◌one_of◌}
 use Rattle.rulebook.specs.AccountTypes.{state_of}
 use Rattle.rulebook.specs.Ledger.{Holdings, Requests}

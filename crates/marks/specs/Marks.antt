@@ -1,5 +1,5 @@
 -- Marks on a waiting list's items: a mask of 64 bits, the first item's the most significant.
-use Rattle.std.specs.Prelude.{if◌then◌else◌, if◌then◌else◌, ℕ, ◌-◌, ◌*◌, ◌/◌, ◌%◌, ◌^◌, ◌<◌, Bool, true, false, not, List, ◌++◌, map, ◌≡◌, length, get_or, drop}
+use Rattle.std.specs.Prelude.{if◌then◌else◌, ℕ, ◌-◌, ◌*◌, ◌/◌, ◌%◌, ◌^◌, ◌<◌, Bool, true, false, not, List, ◌++◌, map, ◌≡◌, length, get_or, drop}
 use Rattle.plain.specs.Lists.{◌is◌, total, keep, sum_below}
 use Rattle.rulebook.specs.Cycle.{legs}
 use Rattle.rulebook.specs.Rows.{Row, posting_rows, rows_bytes}

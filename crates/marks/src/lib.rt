@@ -1,7 +1,7 @@
 // Marks on the items of a waiting list: a mask of 64 bits, the first item's the most significant.
 #![tactic(auto)]
 
-ghost use Rattle.std.specs.Prelude.{if◌then◌else◌, if◌then◌else◌, ◌≡◌, not, ℕ, ◌<◌, ◌≤◌};
+ghost use Rattle.std.specs.Prelude.{if◌then◌else◌, ◌≡◌, not, ℕ, ◌<◌, ◌≤◌};
 ghost use Rattle.plain.specs.Lists.{◌is◌};
 ghost use Rattle.marks.specs.Marks.{is_on, First, count_on};
 

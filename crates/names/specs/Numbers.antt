@@ -1,5 +1,5 @@
 -- The field and the form that a name means.
-use Rattle.std.specs.Prelude.{if◌then◌else◌, if◌then◌else◌, ℕ, suc, List, map, length}
+use Rattle.std.specs.Prelude.{if◌then◌else◌, ℕ, suc, List, map, length}
 use Rattle.plain.specs.Lists.{◌below◌}
 use Rattle.rulebook.specs.Forms.{forms}
 use Rattle.rulebook.specs.Names.{field_names}

@@ -1,5 +1,5 @@
 -- The rounds of a selection, by marks on the waiting list.
-use Rattle.std.specs.Prelude.{if◌then◌else◌, if◌then◌else◌, ℕ, zero, suc, Bool, false, ◌&&◌, List, [], ◌∷◌}
+use Rattle.std.specs.Prelude.{if◌then◌else◌, ℕ, zero, suc, Bool, false, ◌&&◌, List, [], ◌∷◌}
 use Rattle.plain.specs.Lists.{some}
 use Rattle.rulebook.specs.Ledger.{Holdings}
 use Rattle.rulebook.specs.Shortfall.{debits_short, any_short}

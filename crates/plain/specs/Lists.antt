@@ -1,5 +1,5 @@
 -- Plain words for tests on numbers, a few operations on lists, and sums.
-use Rattle.std.specs.Prelude.{ℕ, zero, suc, ◌+◌, Bool, true, false, not, ◌||◌, ◌&&◌, List, [], ◌∷◌, leb, ltb, eqb, if◌then◌else◌, if◌then◌else◌}
+use Rattle.std.specs.Prelude.{ℕ, zero, suc, ◌+◌, Bool, true, false, not, ◌||◌, ◌&&◌, List, [], ◌∷◌, leb, ltb, eqb, if◌then◌else◌}
 
 infix 50 ◌is◌ ◌is_not◌ ◌below◌ ◌at_most◌ ◌one_of◌
 abbrev pub ◌is◌ : ℕ → ℕ → Bool

@@ -1,5 +1,5 @@
 -- The words as a map from member and reference to request, and what is kept true of them.
-use Rattle.std.specs.Prelude.{if◌then◌else◌, if◌then◌else◌, ℕ, ◌^◌, ◌≤◌, List, [], ◌∷◌, ◌≡◌, length}
+use Rattle.std.specs.Prelude.{if◌then◌else◌, ℕ, ◌^◌, ◌≤◌, List, [], ◌∷◌, ◌≡◌, length}
 use Rattle.plain.specs.Lists.{◌below◌}
 use Rattle.rulebook.specs.Ledger.{Requests, no_request}
 use Rattle.rulebook.specs.declared.Request.{Request}

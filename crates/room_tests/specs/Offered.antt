@@ -1,5 +1,5 @@
 -- What the items that a sent cycle has fixed take from an account, and what they bring to it.
-use Rattle.std.specs.Prelude.{if◌then◌else◌, if◌then◌else◌, ℕ}
+use Rattle.std.specs.Prelude.{if◌then◌else◌, ℕ}
 use Rattle.rulebook.specs.Movements.{account}
 use Rattle.rulebook.specs.Shortfall.{takes, brings}
 use Rattle.rulebook.specs.declared.Account.{Account}

@@ -1,5 +1,5 @@
 // What an account offers while a cycle is sent (RULES 9.22): all but the shares by which the fixed trades debit it more than they credit it.
-ghost use Rattle.std.specs.Prelude.{if◌then◌else◌, if◌then◌else◌, ◌≡◌, ◌-◌, ◌≤◌, ◌<◌, length, get_or};
+ghost use Rattle.std.specs.Prelude.{if◌then◌else◌, ◌≡◌, ◌-◌, ◌≤◌, ◌<◌, length, get_or};
 ghost use Rattle.plain.specs.Lists.{total};
 ghost use Rattle.rulebook.specs.Ledger.{same_account};
 ghost use Rattle.rulebook.specs.Cycle.{fixed, offers};

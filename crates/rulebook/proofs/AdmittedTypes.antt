@@ -1,6 +1,6 @@
 -- Each form allows the types and pairs of specs/AdmittedTypes, and no others: lists that the rows make, compared with those that are written out there.
 -- Assumes nothing.
-use Rattle.std.specs.Prelude.{if◌then◌else◌, if◌then◌else◌}
+use Rattle.std.specs.Prelude.{if◌then◌else◌}
 use mathlib.Core.Path.{◌≡◌, refl, sym, ap, ◌∙◌}
 use mathlib.Core.Bool.{Bool, true, false, not, ◌&&◌, ◌||◌, beq, or-false, and_assoc}
 use mathlib.Core.List.{List, [], ◌∷◌, map}

@@ -1,5 +1,5 @@
 -- One call: a record and a lent area, on a book (RULES 1.3 to 1.11).
-use Rattle.std.specs.Prelude.{if◌then◌else◌, if◌then◌else◌, ℕ, ◌*◌, Bool, List, ◌++◌, length, drop}
+use Rattle.std.specs.Prelude.{if◌then◌else◌, ℕ, ◌*◌, Bool, List, ◌++◌, length, drop}
 use Rattle.plain.specs.Lists.{◌is◌, ◌below◌, first}
 use Rattle.rulebook.specs.Ledger.{Ledger, put_day, with_minute}
 use Rattle.rulebook.specs.Record.{read_of}

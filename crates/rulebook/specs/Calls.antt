@@ -1,5 +1,5 @@
 -- Lists of calls, and what holds after every such list (RULES 12).
-use Rattle.std.specs.Prelude.{if◌then◌else◌, if◌then◌else◌, ℕ, zero, suc, ◌+◌, Bool, false, not, ◌&&◌, List, [], ◌∷◌, ◌++◌, ◌≡◌, take, drop, T}
+use Rattle.std.specs.Prelude.{if◌then◌else◌, ℕ, zero, suc, ◌+◌, Bool, false, not, ◌&&◌, List, [], ◌∷◌, ◌++◌, ◌≡◌, take, drop, T}
 use Rattle.plain.specs.Lists.{◌is◌, ◌is_not◌, ◌one_of◌, total}
 use Rattle.rulebook.specs.AccountTypes.{pledged_or_blocked, is_outside}
 use Rattle.rulebook.specs.Record.{read_of}

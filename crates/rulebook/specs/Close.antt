@@ -1,5 +1,5 @@
 -- Which items leave at the close of a day (RULES 4.12).
-use Rattle.std.specs.Prelude.{if◌then◌else◌, if◌then◌else◌, ℕ, ◌+◌, Bool, [], ◌∷◌}
+use Rattle.std.specs.Prelude.{if◌then◌else◌, ℕ, ◌+◌, Bool, [], ◌∷◌}
 use Rattle.plain.specs.Lists.{◌is◌, ◌is_not◌, ◌at_most◌, ◌one_of◌}
 use Rattle.rulebook.specs.Rows.{Row, notice, notice_of}
 use Rattle.rulebook.specs.declared.Item.{Item}

@@ -1,5 +1,5 @@
 -- The held counts that a book keeps with its securities, beside what its accounts hold (RULES 3.19, 12.24 to 12.26).
-use Rattle.std.specs.Prelude.{if◌then◌else◌, if◌then◌else◌, ℕ, ◌+◌, ◌&&◌, List, ◌≡◌}
+use Rattle.std.specs.Prelude.{if◌then◌else◌, ℕ, ◌+◌, ◌&&◌, List, ◌≡◌}
 use Rattle.plain.specs.Lists.{◌is◌, first, Each}
 use Rattle.rulebook.specs.AccountTypes.{is_outside}
 use Rattle.rulebook.specs.Record.{read_of}

@@ -1,5 +1,5 @@
 -- The fields of a record: their places, their widths, and what a form may say of a field (RULES 2.1 to 2.4).
-use Rattle.std.specs.Prelude.{if◌then◌else◌, if◌then◌else◌, ℕ, ◌-◌, ◌^◌, List, [], ◌∷◌, ◌++◌, get_or}
+use Rattle.std.specs.Prelude.{if◌then◌else◌, ℕ, ◌-◌, ◌^◌, List, [], ◌∷◌, ◌++◌, get_or}
 use Rattle.plain.specs.Lists.{◌is◌, ◌is_not◌, ◌one_of◌, keep}
 
 -- RULES 2.1: the places of the fields, one behind the other

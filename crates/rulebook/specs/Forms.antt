@@ -1,5 +1,5 @@
 -- The forms: what each does to the book, with its rows and its counts, and the table that says everything of a form.
-use Rattle.std.specs.Prelude.{if◌then◌else◌, if◌then◌else◌, ℕ, zero, suc, Bool, true, false, not, List, [], ◌∷◌, ◌++◌, map, length, get_or}
+use Rattle.std.specs.Prelude.{if◌then◌else◌, ℕ, zero, suc, Bool, true, false, not, List, [], ◌∷◌, ◌++◌, map, length, get_or}
 use Prim.Native.String.{String}
 use Rattle.plain.specs.Lists.{◌is◌, keep, some}
 use Rattle.rulebook.specs.Field.{Rule, from1, from1_to, always, rule_in, D, C, all, all_but, security, currency, debited_member, debited_type, credited_member, credited_type, quantity, amount, settlement_day, reference}

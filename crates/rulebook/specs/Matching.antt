@@ -1,5 +1,5 @@
 -- Matching of deliver and receive instructions (RULES 8).
-use Rattle.std.specs.Prelude.{if◌then◌else◌, if◌then◌else◌, ℕ, ◌-◌, ◌*◌, Bool, false, ◌||◌, ◌&&◌, List, [], ◌∷◌, ◌++◌}
+use Rattle.std.specs.Prelude.{if◌then◌else◌, ℕ, ◌-◌, ◌*◌, Bool, false, ◌||◌, ◌&&◌, List, [], ◌∷◌, ◌++◌}
 use Rattle.plain.specs.Lists.{◌is◌, ◌at_most◌}
 use Rattle.rulebook.specs.declared.Item.{Item}
 use Rattle.rulebook.specs.declared.State.TheVariants.{Pair}

@@ -1,5 +1,5 @@
 -- What is proved of the rate (RULES 3.14, 6.18, 8.4, 8.9, 12.18).
-use Rattle.std.specs.Prelude.{if◌then◌else◌, if◌then◌else◌, ℕ, ◌+◌, ◌*◌, true, List, [], ◌∷◌, ◌≡◌}
+use Rattle.std.specs.Prelude.{if◌then◌else◌, ℕ, ◌+◌, ◌*◌, true, List, [], ◌∷◌, ◌≡◌}
 use Rattle.plain.specs.Lists.{◌is◌, ◌one_of◌, first}
 use Rattle.rulebook.specs.Ledger.{Ledger, first_rate, fresh, put_rate}
 use Rattle.rulebook.specs.Waiting.{single_of, is_deliver, is_receive}

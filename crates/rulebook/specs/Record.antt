@@ -1,5 +1,5 @@
 -- The record of 40 bytes: what reading one gives, and what writing one gives (RULES 2).
-use Rattle.std.specs.Prelude.{if◌then◌else◌, if◌then◌else◌, ℕ, Bool, not, ◌&&◌, List, [], ◌∷◌, ◌++◌, length, get_or, drop}
+use Rattle.std.specs.Prelude.{if◌then◌else◌, ℕ, Bool, not, ◌&&◌, List, [], ◌∷◌, ◌++◌, length, get_or, drop}
 use Rattle.plain.specs.Lists.{◌is◌, ◌is_not◌, ◌below◌, within, some, first}
 use Rattle.rulebook.specs.Field as Field
 use Rattle.rulebook.specs.Field.{places, widths}

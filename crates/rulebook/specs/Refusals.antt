@@ -1,5 +1,5 @@
 -- Refusals 6 to 24, in checking order (RULES 7).
-use Rattle.std.specs.Prelude.{if◌then◌else◌, if◌then◌else◌, ℕ, ◌+◌, Bool, not, ◌||◌, ◌&&◌, List, [], ◌∷◌, ◌++◌, length}
+use Rattle.std.specs.Prelude.{if◌then◌else◌, ℕ, ◌+◌, Bool, not, ◌||◌, ◌&&◌, List, [], ◌∷◌, ◌++◌, length}
 use Rattle.plain.specs.Lists.{◌is◌, ◌is_not◌, ◌below◌, ◌one_of◌, within, some}
 use Rattle.rulebook.specs.AccountTypes.{wrong_types, ends}
 use Rattle.rulebook.specs.Windows.{all_run}

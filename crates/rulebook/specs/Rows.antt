@@ -1,5 +1,5 @@
 -- Posting rows and notices, as values and as their 16 bytes (RULES 11).
-use Rattle.std.specs.Prelude.{if◌then◌else◌, if◌then◌else◌, ℕ, List, [], ◌∷◌, ◌++◌, get_or}
+use Rattle.std.specs.Prelude.{if◌then◌else◌, ℕ, List, [], ◌∷◌, ◌++◌, get_or}
 use Rattle.bits.specs.Bits.{bytes}
 use Rattle.bits.specs.Layout.{pack, cut}
 use Rattle.rulebook.specs.Movements.{Place, account, type91, type90, cash_of, member0, Movement}

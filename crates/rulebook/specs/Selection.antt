@@ -1,6 +1,6 @@
 -- Which of the waiting trades a cycle fixes (RULES 9.1, 9.5 to 9.7, 9.25, 9.26): the due ones are in; while something is short the last that draws on it
 -- goes; then passes over those that went put back what fits.
-use Rattle.std.specs.Prelude.{if◌then◌else◌, if◌then◌else◌, ℕ, zero, suc, Bool, true, false, not, ◌||◌, ◌&&◌, List, [], ◌∷◌, ◌++◌, map, length}
+use Rattle.std.specs.Prelude.{if◌then◌else◌, ℕ, zero, suc, Bool, true, false, not, ◌||◌, ◌&&◌, List, [], ◌∷◌, ◌++◌, map, length}
 use Rattle.plain.specs.Lists.{◌is◌, ◌at_most◌, some, total, keep}
 use Rattle.rulebook.specs.declared.Item.{Item}
 use Rattle.rulebook.specs.declared.State.{State}

@@ -1,5 +1,5 @@
 -- What is proved of cycles that are sent and answered (RULES 6.21, 12.27 to 12.31, 12.33).
-use Rattle.std.specs.Prelude.{if◌then◌else◌, if◌then◌else◌, ℕ, zero, suc, ◌+◌, ◌-◌, ◌≤◌, Bool, true, false, not, ◌&&◌, List, [], ◌∷◌, ◌++◌, map, ◌≡◌, length}
+use Rattle.std.specs.Prelude.{if◌then◌else◌, ℕ, zero, suc, ◌+◌, ◌-◌, ◌≤◌, Bool, true, false, not, ◌&&◌, List, [], ◌∷◌, ◌++◌, map, ◌≡◌, length}
 use Rattle.plain.specs.Lists.{◌is◌, ◌below◌, some, first, keep, Each}
 use Rattle.rulebook.specs.Ledger.{Ledger, Holdings, put_day, put_waiting, cycle_answered}
 use Rattle.rulebook.specs.Movements.{account, type91, move, booked}

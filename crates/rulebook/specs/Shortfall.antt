@@ -1,5 +1,5 @@
 -- What is missing at a place where trades settle together (RULES 9.2 to 9.5).
-use Rattle.std.specs.Prelude.{if◌then◌else◌, if◌then◌else◌, ℕ, ◌+◌, ◌-◌, Bool, ◌||◌, ◌&&◌, List, ◌≡◌}
+use Rattle.std.specs.Prelude.{if◌then◌else◌, ℕ, ◌+◌, ◌-◌, Bool, ◌||◌, ◌&&◌, List, ◌≡◌}
 use Rattle.plain.specs.Lists.{◌is◌, ◌is_not◌, some, total}
 use Rattle.rulebook.specs.declared.Account.{Account}
 use Rattle.rulebook.specs.declared.Item.{Item}

@@ -1,5 +1,5 @@
 -- The table of account types (RULES 5.1): one row says all that the rules know of a type.
-use Rattle.std.specs.Prelude.{if◌then◌else◌, if◌then◌else◌, ℕ, Bool, true, false, List, [], ◌∷◌}
+use Rattle.std.specs.Prelude.{if◌then◌else◌, ℕ, Bool, true, false, List, [], ◌∷◌}
 use Prim.Native.String.{String}
 use Rattle.plain.specs.Lists.{◌is◌}
 

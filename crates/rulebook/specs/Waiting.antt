@@ -1,5 +1,5 @@
 -- Waiting items: their states, sides, senders and marks (RULES 1.19 to 1.23, 10).
-use Rattle.std.specs.Prelude.{if◌then◌else◌, if◌then◌else◌, ℕ, Bool, true, false, not, ◌||◌, ◌&&◌, List, map}
+use Rattle.std.specs.Prelude.{if◌then◌else◌, ℕ, Bool, true, false, not, ◌||◌, ◌&&◌, List, map}
 use Rattle.plain.specs.Lists.{◌is◌, total, keep}
 use Rattle.rulebook.specs.declared.Order.{Order}
 use Rattle.rulebook.specs.declared.Item.{Item}

@@ -1,5 +1,5 @@
 -- Windows: minutes of the day, both ends inside (RULES 4.7).
-use Rattle.std.specs.Prelude.{if◌then◌else◌, if◌then◌else◌, ℕ, Bool, List, [], ◌∷◌, length, get_or}
+use Rattle.std.specs.Prelude.{if◌then◌else◌, ℕ, Bool, List, [], ◌∷◌, length, get_or}
 use Rattle.plain.specs.Lists.{◌is◌, ◌at_most◌}
 use Rattle.rulebook.specs.declared.Day.{Day}
 use Rattle.rulebook.specs.declared.Order.{Order}

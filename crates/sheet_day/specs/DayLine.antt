@@ -1,5 +1,5 @@
 -- The heading, and the day's line (RULES 18.3).
-use Rattle.std.specs.Prelude.{if◌then◌else◌, if◌then◌else◌, ℕ, Bool, List, [], ◌∷◌, ◌++◌}
+use Rattle.std.specs.Prelude.{if◌then◌else◌, ℕ, Bool, List, [], ◌∷◌, ◌++◌}
 use Rattle.rulebook.specs.declared.Day.{Day}
 use Rattle.text.specs.Text.{text}
 use Rattle.text_or_page.specs.Written.{written, written_where, cents, clock}

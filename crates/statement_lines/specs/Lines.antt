@@ -1,5 +1,5 @@
 -- The lines of a statement (RULES 17): what an answer and each row that a call wrote say in words.
-use Rattle.std.specs.Prelude.{if◌then◌else◌, if◌then◌else◌, ℕ, zero, suc, Bool, List, [], ◌∷◌, ◌++◌, take, drop}
+use Rattle.std.specs.Prelude.{if◌then◌else◌, ℕ, zero, suc, Bool, List, [], ◌∷◌, ◌++◌, take, drop}
 use Rattle.plain.specs.Lists.{◌is◌}
 use Rattle.rulebook.specs.Rows.{Row, posting, notice, posting_in, notice_in}
 use Rattle.rulebook.specs.declared.Answer.{Answer}

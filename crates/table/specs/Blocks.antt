@@ -1,5 +1,5 @@
 -- A table that is read in blocks: what is known behind the lines read so far.
-use Rattle.std.specs.Prelude.{if◌then◌else◌, if◌then◌else◌, ℕ, ◌+◌, ◌-◌, ◌*◌, List, [], ◌∷◌, ◌++◌, length}
+use Rattle.std.specs.Prelude.{if◌then◌else◌, ℕ, ◌+◌, ◌-◌, ◌*◌, List, [], ◌∷◌, ◌++◌, length}
 use Rattle.plain.specs.Lists.{◌is◌}
 use Rattle.rulebook.specs.declared.Order.{Order}
 use Rattle.cells.specs.Kinds.{empty_line}

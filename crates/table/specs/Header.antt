@@ -1,5 +1,5 @@
 -- The first line of a table: the field of each column, by its name alone.
-use Rattle.std.specs.Prelude.{if◌then◌else◌, if◌then◌else◌, ℕ, ◌+◌, ◌<◌, ◌≤◌, not, List, [], ◌∷◌, ◌++◌, ◌≡◌, length, get_or, take}
+use Rattle.std.specs.Prelude.{if◌then◌else◌, ℕ, ◌+◌, ◌<◌, ◌≤◌, not, List, [], ◌∷◌, ◌++◌, ◌≡◌, length, get_or, take}
 use Rattle.plain.specs.Lists.{◌is◌, ◌at_most◌, ◌one_of◌}
 use Rattle.rulebook.specs.Field.{form, minute}
 use Rattle.names.specs.Numbers.{field_place}

@@ -1,5 +1,5 @@
 -- A whole table: its orders, or its first refusal.
-use Rattle.std.specs.Prelude.{if◌then◌else◌, if◌then◌else◌, ℕ, Bool, true, false, List, [], ◌∷◌, ◌++◌, take, drop}
+use Rattle.std.specs.Prelude.{if◌then◌else◌, ℕ, Bool, true, false, List, [], ◌∷◌, ◌++◌, take, drop}
 use Rattle.text.specs.Parts.{same_text}
 use Rattle.cells.specs.Kinds.{no_header}
 use Rattle.cells.specs.Cells.{lines_of, full_lines}

@@ -1,5 +1,5 @@
 -- The lines of a table: the orders that they say.
-use Rattle.std.specs.Prelude.{if◌then◌else◌, if◌then◌else◌, ℕ, ◌+◌, ◌*◌, List, [], ◌∷◌, ◌++◌, length, get_or, set, replicate, drop}
+use Rattle.std.specs.Prelude.{if◌then◌else◌, ℕ, ◌+◌, ◌*◌, List, [], ◌∷◌, ◌++◌, length, get_or, set, replicate, drop}
 use Rattle.plain.specs.Lists.{◌is◌, within, first}
 use Rattle.rulebook.specs.Field.{form, minute}
 use Rattle.rulebook.specs.Record.{fields_of, order_of, field_tests, record_of}

@@ -1,5 +1,5 @@
 -- How a program is told what a book says: in words that it lends, each buffer by a pointer and a length.
-use Rattle.std.specs.Prelude.{if◌then◌else◌, if◌then◌else◌, ℕ, List, ◌≡◌, length, get_or}
+use Rattle.std.specs.Prelude.{if◌then◌else◌, ℕ, List, ◌≡◌, length, get_or}
 use Rattle.plain.specs.Lists.{◌is_not◌, ◌below◌}
 use Rattle.book.specs.Meaning.{book_length}
 use Rattle.book.specs.Stored.{Kept}

@@ -1,5 +1,5 @@
 -- A sheet is written as lines of text, or as a page of tables. Each thing is said once: the same numbers in the place of the signs of a line, or of a row.
-use Rattle.std.specs.Prelude.{if◌then◌else◌, if◌then◌else◌, ℕ, ◌/◌, ◌%◌, Bool, List, [], ◌∷◌}
+use Rattle.std.specs.Prelude.{if◌then◌else◌, ℕ, ◌/◌, ◌%◌, Bool, List, [], ◌∷◌}
 use Prim.Native.String.{String}
 use Rattle.text.specs.Text.{text}
 use Rattle.wording.specs.Fill.{fill}

@@ -1,7 +1,7 @@
 // A sheet is lines of text, or a page of tables. Each function puts bytes into a buffer from a place on, and answers the place behind them.
 #![tactic(auto)]
 
-ghost use Rattle.std.specs.Prelude.{if◌then◌else◌, if◌then◌else◌, [], ◌∷◌, ◌+◌, ◌*◌, ◌≤◌, length};
+ghost use Rattle.std.specs.Prelude.{if◌then◌else◌, [], ◌∷◌, ◌+◌, ◌*◌, ◌≤◌, length};
 ghost use Rattle.text.specs.Text.{Put};
 ghost use Rattle.wording.specs.Fill.{fill};
 ghost use Rattle.text_or_page.specs.Table.{table_foot};

@@ -1,5 +1,5 @@
 -- How the code has the table of account types: a row is a word.
-use Rattle.std.specs.Prelude.{if◌then◌else◌, if◌then◌else◌, ℕ, ◌+◌, ◌*◌, ◌^◌, ◌/◌, ◌%◌, Bool, ◌&&◌}
+use Rattle.std.specs.Prelude.{if◌then◌else◌, ℕ, ◌+◌, ◌*◌, ◌^◌, ◌/◌, ◌%◌, Bool, ◌&&◌}
 use Rattle.plain.specs.Lists.{◌is◌, ◌is_not◌, total}
 use Rattle.rulebook.specs.TypeTable.{type_row}
 use Rattle.rulebook.specs.AccountTypes.{is_paper}

@@ -1,5 +1,5 @@
 -- The waiting list's words as a list of items.
-use Rattle.std.specs.Prelude.{if◌then◌else◌, if◌then◌else◌, ℕ, ◌+◌, ◌*◌, ◌/◌, ◌%◌, ◌≤◌, List, [], ◌∷◌, ◌≡◌, length, get_or, take, drop}
+use Rattle.std.specs.Prelude.{if◌then◌else◌, ℕ, ◌+◌, ◌*◌, ◌/◌, ◌%◌, ◌≤◌, List, [], ◌∷◌, ◌≡◌, length, get_or, take, drop}
 use borrow.Rule.Slice.PartMut.{put_mid}
 use Rattle.plain.specs.Lists.{◌is◌}
 use Rattle.rulebook.specs.declared.Item.{Item}

@@ -1,5 +1,5 @@
 -- A line is a pattern whose signs stand for the numbers that it is given, each in its turn.
-use Rattle.std.specs.Prelude.{if◌then◌else◌, if◌then◌else◌, ℕ, Bool, true, false, List, [], ◌∷◌, ◌++◌}
+use Rattle.std.specs.Prelude.{if◌then◌else◌, ℕ, Bool, true, false, List, [], ◌∷◌, ◌++◌}
 use Prim.Native.String.{String}
 use Rattle.plain.specs.Lists.{◌is◌, ◌one_of◌}
 use Rattle.rulebook.specs.Names.{form_name, type_name, currency_name, refusal_name, notice_name}

@@ -1,5 +1,5 @@
 -- Numbers in ascending order: the next one that passes a test, and the next key of a table.
-use Rattle.std.specs.Prelude.{if◌then◌else◌, if◌then◌else◌, ℕ, ◌≤◌, ◌<◌, Bool, true, false, List, ◌≡◌}
+use Rattle.std.specs.Prelude.{if◌then◌else◌, ℕ, ◌≤◌, ◌<◌, Bool, true, false, List, ◌≡◌}
 use Rattle.plain.specs.Lists.{◌below◌}
 use Rattle.words.specs.Tables.{rows, key_at}
 

@@ -1,5 +1,5 @@
 -- A table of words: how many rows it has, then their keys, and columns of values behind them.
-use Rattle.std.specs.Prelude.{if◌then◌else◌, if◌then◌else◌, ℕ, ◌+◌, ◌-◌, ◌≤◌, Bool, List, [], ◌∷◌, get_or, set}
+use Rattle.std.specs.Prelude.{if◌then◌else◌, ℕ, ◌+◌, ◌-◌, ◌≤◌, Bool, List, [], ◌∷◌, get_or, set}
 use Rattle.plain.specs.Lists.{◌is◌, sum_below}
 use Rattle.words.specs.Places.{first_from}
 use Rattle.words.specs.declared.Found.{Found}

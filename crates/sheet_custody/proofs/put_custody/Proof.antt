@@ -11,13 +11,13 @@ unfolding table_of
 returns c =
     let foot = c.before.before in
     let rows = foot.before.before.before.before in
-    let head = rows.before.before.before.before.put-in-page.ensures in (
-      put_then (put_then head.0 rows.put-rows.ensures.0) foot.put-foot.ensures.0,
-      omega (arith, head.1, rows.put-rows.ensures.1, foot.put-foot.ensures.1),
+    let head = rows.before.before.before.before.put_in_page-next.ensures in (
+      put_then (put_then head.0 rows.put_rows-next.ensures.0) foot.put_foot.ensures.0,
+      omega (arith, head.1, rows.put_rows-next.ensures.1, foot.put_foot.ensures.1),
     )
 
-pub put-custody-spec : {M : Type 1} → statement M
-put-custody-spec =
+pub put_custody_spec : {M : Type 1} → statement M
+put_custody_spec =
     tie.close
     (tie.spec
-    (λ c. search rules) (λ c κs. search rules) (λ c κs. search rules) (λ c κs. search rules) (λ c. search rules) returns)
+    (λ c κs. search rules) (λ c κs. search rules) (λ c κs. search rules) (λ c. search rules) returns)

@@ -7,10 +7,10 @@ use Rattle.sheet_custody.proofs.line.put_line.Tie as tie
 
 returns : tie.Need-returns
 unfolding security_line
-returns c = let put = c.before.before.Put-written.ensures in (put.0, omega (arith, put.1))
+returns c = let put = c.before.before.put_written.ensures in (put.0, omega (arith, put.1))
 
-pub put-line-spec : {M : Type 1} → statement M
-put-line-spec =
+pub put_line_spec : {M : Type 1} → statement M
+put_line_spec =
     tie.close
     (tie.spec
-    (λ c. search rules) (λ c. search rules) (λ c. search rules) (λ c κs. search rules) (λ c. search rules) returns)
+    (λ c. search rules) (λ c κs. search rules) (λ c. search rules) returns)

@@ -12,43 +12,43 @@ use Rattle.sheet_custody.proofs.Nobody.{no_security}
 use Rattle.sheet_custody.proofs.rows.put_rows.Statement.{statement}
 use Rattle.sheet_custody.proofs.rows.put_rows.Tie as tie
 
-abbrev invariant-loop : tie.invariant-loop
+abbrev invariant-loop : tie.invariant-loop-i
 invariant-loop out₀ at page book n next₀ i₀ out next i =
     (i ≤ n) × Counted (security_line page) (placed (ledger_of book).holdings.securities no_security) 500 out₀ at out next i
 
-abbrev decreases-loop : tie.decreases-loop
+abbrev decreases-loop : tie.decreases-loop-i
 decreases-loop out₀ at page book n next₀ i₀ out next i = n - i
 
-abbrev start : tie.At-loop invariant-loop decreases-loop → tie.Start invariant-loop decreases-loop
+abbrev start : tie.At-loop-i invariant-loop decreases-loop → tie.Start invariant-loop decreases-loop
 start c = c.before.before.before.before
 
-put-row-requires : tie.Need-put-row-requires invariant-loop decreases-loop
+put-row-requires : tie.Need-put_row-next-requires invariant-loop decreases-loop
 put-row-requires c κs =
     let l = c.before.before in
-    let many = l.before.securities.ensures in
-    let few = (start l).requires.0.premise.sizes.securities in
+    let many = l.before.securities-n.ensures in
+    let few = (start l).requires.0.premise.sizes.securities-n in
     ((start l).requires.0, omega arith, omega arith)
 
-loop-again : tie.Need-loop-preserved invariant-loop decreases-loop
+loop-again : tie.Need-loop-i-preserved invariant-loop decreases-loop
 loop-again c =
-    let put = c.before.before.put-row in
+    let put = c.before.before.put_row-next in
     let l = c.before.before.before.before.before in
     let args = (start l).args in
-    let row = put-placed (ledger_of args.book.now).holdings.securities no_security (security_line args.page) l.loop.i (put.ensures.0 no_security) in
-    (omega arith, counted-more _ _ _ l.loop.invariant.1 row put.ensures.1 put.auto.0)
+    let row = put-placed (ledger_of args.book.now).holdings.securities-n no_security (security_line args.page) l.loop-i.i (put.ensures.0 no_security) in
+    (omega arith, counted-more _ _ _ l.loop-i.invariant.1 row put.ensures.1 put.auto.0)
 
 returns : tie.Need-returns invariant-loop decreases-loop
 unfolding custody_rows
 returns c =
     let l = c.before in
-    let few = (start l).requires.0.premise.sizes.securities in
-    let many = l.before.securities.ensures in
-    let items = (ledger_of (start l).args.book.now).holdings.securities in
-    let all : l.loop.i ≡ length items = omega arith in
-    (rw (all, all_placed items no_security) at l.loop.invariant.1.put, omega arith)
+    let few = (start l).requires.0.premise.sizes.securities-n in
+    let many = l.before.securities-n.ensures in
+    let items = (ledger_of (start l).args.book.now).holdings.securities-n in
+    let all : l.loop-i.i ≡ length items = omega arith in
+    (rw (all, all_placed items no_security) at l.loop-i.invariant.1.put, omega arith)
 
-pub put-rows-spec : {M : Type 1} → statement M
-put-rows-spec =
+pub put_rows_spec : {M : Type 1} → statement M
+put_rows_spec =
     tie.close
     (tie.spec
     invariant-loop
@@ -59,5 +59,5 @@ put-rows-spec =
     (λ c. search rules)
     (λ c. search rules)
     loop-again
-    (λ c. c.before.loop.invariant.1.long)
+    (λ c. c.before.loop-i.invariant.1.long)
     returns)
