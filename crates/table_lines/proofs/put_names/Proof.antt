@@ -8,7 +8,8 @@ use Rattle.table_lines.proofs.put_names.Tie as tie
 
 returns : tie.Need-returns
 unfolding name_line join field_names
-returns c = c.before.before.put-bytes.ensures
+returns c = c.before.before.put_bytes.ensures
 
-pub put-names-spec : {M : Type 1} → statement M
-put-names-spec = tie.close (tie.spec (λ c. search rules) (λ c κs. search rules) (λ c. search rules) returns)
+pub put_names_spec : {M : Type 1} → statement M
+put_names_spec = tie.close (tie.spec
+    (λ c κs. search rules) (λ c. search rules) returns)

@@ -8,11 +8,12 @@ use Rattle.table_lines.proofs.put_order.Tie as tie
 returns : tie.Need-returns
 unfolding order_line
 returns c =
-    let put = c.before.before.put-filled.ensures in
-    let fields = c.before.before.before.before.before.before.fields-of.ensures in
+    let put = c.before.before.put_filled.ensures in
+    let fields = c.before.before.before.before.before.before.fields_of-fields.ensures in
     (rw (← fields) put.0, omega (arith, put.1))
 
-pub put-order-spec : {M : Type 1} → statement M
-put-order-spec =
+pub put_order_spec : {M : Type 1} → statement M
+put_order_spec =
     tie.close
-    (tie.spec (λ c κs. search rules) (λ c. search rules) (λ c. search rules) (λ c κs. search rules) (λ c. search rules) returns)
+    (tie.spec
+    (λ c κs. search rules) (λ c. search rules) (λ c κs. search rules) (λ c. search rules) returns)

@@ -26,7 +26,7 @@ put-row-requires : tie.Need-put_row-next-requires invariant-loop decreases-loop
 put-row-requires c κs =
     let l = c.before.before in
     let many = l.before.securities-n.ensures in
-    let few = (start l).requires.0.premise.sizes.securities-n in
+    let few = (start l).requires.0.premise.sizes.securities in
     ((start l).requires.0, omega arith, omega arith)
 
 loop-again : tie.Need-loop-i-preserved invariant-loop decreases-loop
@@ -34,14 +34,14 @@ loop-again c =
     let put = c.before.before.put_row-next in
     let l = c.before.before.before.before.before in
     let args = (start l).args in
-    let row = put-placed (ledger_of args.book.now).holdings.securities-n no_security (security_line args.page) l.loop-i.i (put.ensures.0 no_security) in
+    let row = put-placed (ledger_of args.book.now).holdings.securities no_security (security_line args.page) l.loop-i.i (put.ensures.0 no_security) in
     (omega arith, counted-more _ _ _ l.loop-i.invariant.1 row put.ensures.1 put.auto.0)
 
 returns : tie.Need-returns invariant-loop decreases-loop
 unfolding custody_rows
 returns c =
     let l = c.before in
-    let few = (start l).requires.0.premise.sizes.securities-n in
+    let few = (start l).requires.0.premise.sizes.securities in
     let many = l.before.securities-n.ensures in
     let items = (ledger_of (start l).args.book.now).holdings.securities-n in
     let all : l.loop-i.i ≡ length items = omega arith in
