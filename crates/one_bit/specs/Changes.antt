@@ -1,5 +1,5 @@
 -- A record with one bit changed, and how many such changes get an answer.
-use Rattle.std.specs.Prelude.{if◌then◌else◌, if◌then◌else◌, ℕ, zero, suc, ◌+◌, ◌/◌, ◌%◌, ◌^◌, List, get_or, set}
+use Rattle.std.specs.Prelude.{if◌then◌else◌, ℕ, zero, suc, ◌+◌, ◌/◌, ◌%◌, ◌^◌, List, get_or, set}
 use Rattle.std.specs.Int.Bits.{bit_xor}
 use Rattle.plain.specs.Lists.{◌is◌}
 use Rattle.rulebook.specs.Record.{read_of, read_number}
