@@ -1,6 +1,7 @@
 -- A turn counts one change more.
 use Rattle.std.proofs.Common.{◌≡◌, ℕ, ◌+◌, List, Bool, true, false, refl, sym, ◌∙◌, arith, add-one, add-zero, eq-eqb, ne_eqb}
-use Rattle.plain.specs.Lists.{if◌then◌else◌, ◌is◌}
+use Rattle.std.specs.Bool.{if◌then◌else◌}
+use Rattle.plain.specs.Lists.{◌is◌}
 use Rattle.one_bit.specs.Changes.{answer_to, count_of}
 use Rattle.one_bit.proofs.count_of.Goals as goal
 use Rattle.one_bit.proofs.count_of.Goals.{then-answer_to-number, else-answer_to-number}
