@@ -36,8 +36,7 @@ loop-records-preserved c =
     let l = c.loop-records in
     let size = put.ensures.whole (not-false _ c.if-not-pending.false) in
     let full : length (take put.ensures.size put.new.input) ≡ BLOCK =
-    length-take-le _ _ (omega (arith, size, put.auto.input, l.invariant.2, c.requires.0)) ∙ size in
-    (
+    length-take-le _ _ (omega (arith, size, put.auto.input, l.invariant.2, c.requires.0)) ∙ size in (
       whole-more (whole-printed l.invariant.0 room.printed room.lines) put.ensures.written full,
       put.ensures.inside,
       put.auto.input ∙ l.invariant.2,

@@ -8,35 +8,35 @@ use Rattle.import_lines.proofs.Showing.{no_brackets, some-brackets, short_bracke
 use Rattle.import_lines.proofs.put_name.Statement.{statement}
 use Rattle.import_lines.proofs.put_name.Tie as tie
 
-returns : tie.Need-returns
+returns : tie.Need-returns-then-name-eq0
 returns c =
-    let start = c.before.before.before in
-    (rw (no_brackets start.args.name.now c.if1.true) (put-none start.args.out.now start.args.at (omega arith)), search rules)
+    let start = c in
+    (rw (no_brackets start.args.name.now c.if-name-eq0.true) (put-none start.args.out.now start.args.at (omega arith)), search rules)
 
-slice-aggregate-put-brackets : tie.Need-slice-aggregate-put-brackets
-slice-aggregate-put-brackets c = sym (length-take-le 80 c.before.before.before.before.before.before.args.name.now (search rules))
+slice-aggregate-put-brackets : tie.Need-slice_bounds-put_brackets-end
+slice-aggregate-put-brackets c = sym (length-take-le 80 c.args.name.now (search rules))
 
-put-brackets-requires : tie.Need-put-brackets-requires
+put-brackets-requires : tie.Need-put_brackets-requires
 put-brackets-requires c κs =
-    let start = c.before.before.before.before.before.before in
+    let start = c in
     (search rules, omega (arith, length-take-le 80 start.args.name.now (search rules)))
 
-returns-2 : tie.Need-returns-2
+returns-2 : tie.Need-returns-then-name-gt80
 returns-2 c =
-    let some = c.before.before.before.before.before.before in
-    let start = some.before.before.before in
-    let put = c.before.before.put-brackets.ensures in
-    (rw (some-brackets start.args.name.now some.if1.false) put.0, put.1)
+    let some = c in
+    let start = some in
+    let put = c.put_brackets.ensures in
+    (rw (some-brackets start.args.name.now some.if-name-eq0.false) put.0, put.1)
 
-returns-3 : tie.Need-returns-3
+returns-3 : tie.Need-returns
 returns-3 c =
-    let some = c.before.before.before.before.before in
-    let start = some.before.before.before in
-    let put = c.before.before.put-brackets2.ensures in
-    (rw (short_brackets start.args.name.now some.if1.false (search rules)) put.0, put.1)
+    let some = c in
+    let start = some in
+    let put = c.put_brackets-2.ensures in
+    (rw (short_brackets start.args.name.now some.if-name-eq0.false (search rules)) put.0, put.1)
 
-pub put-name-spec : {M : Type 1} → statement M
-put-name-spec =
+pub put_name_spec : {M : Type 1} → statement M
+put_name_spec =
     tie.close
     (tie.spec
     returns slice-aggregate-put-brackets put-brackets-requires (λ c. search rules) returns-2 (λ c κs. search rules) (λ c. search rules) returns-3)

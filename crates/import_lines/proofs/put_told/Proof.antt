@@ -9,7 +9,7 @@ returns : tie.Need-returns
 unfolding told
 returns c =
     let wrong = c.before.before in
-    put_then wrong.before.before.before.before.put-where.ensures.0 wrong.put_wrong.ensures
+    put_then wrong.before.before.before.before.put_where-next.ensures.0 wrong.put_wrong.ensures
 
-pub put-told-spec : {M : Type 1} → statement M
-put-told-spec = tie.close (tie.spec (λ c κs. search rules) (λ c κs. search rules) (λ c. search rules) returns)
+pub put_told_spec : {M : Type 1} → statement M
+put_told_spec = tie.close (tie.spec (λ c κs. search rules) (λ c κs. search rules) (λ c. search rules) returns)

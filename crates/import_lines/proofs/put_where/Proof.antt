@@ -10,9 +10,9 @@ returns c =
     let named = c.before.before in
     let placed = named.before.before.before.before in
     let filed = placed.before.before.before.before in (
-      put_then (put_then filed.put-bytes.ensures placed.put-place.ensures.0) named.put-name.ensures.0,
-      omega (arith, named.put-name.ensures.1, placed.put-place.ensures.1, filed.put-bytes.ensures.place),
+      put_then (put_then filed.put_bytes-filed.ensures placed.put_place-placed.ensures.0) named.put_name.ensures.0,
+      omega (arith, named.put_name.ensures.1, placed.put_place-placed.ensures.1, filed.put_bytes-filed.ensures.place),
     )
 
-pub put-where-spec : {M : Type 1} → statement M
-put-where-spec = tie.close (tie.spec (λ c κs. search rules) (λ c κs. search rules) (λ c κs. search rules) (λ c. search rules) returns)
+pub put_where_spec : {M : Type 1} → statement M
+put_where_spec = tie.close (tie.spec (λ c κs. search rules) (λ c κs. search rules) (λ c κs. search rules) (λ c. search rules) returns)

@@ -8,10 +8,10 @@ returns : tie.Need-returns
 returns c =
     let ended = c.before.before in
     let said = ended.before.before.before.before.before in
-    put_then (put_then said.before.before.before.before.put-bytes.ensures said.put-reason.ensures.0) ended.put-bytes2.ensures
+    put_then (put_then said.before.before.before.before.put_bytes-marked.ensures said.put_reason-said.ensures.0) ended.put_bytes.ensures
 
-pub put-wrong-spec : {M : Type 1} → statement M
-put-wrong-spec =
+pub put_wrong_spec : {M : Type 1} → statement M
+put_wrong_spec =
     tie.close
     (tie.spec
-    (λ c. search rules) (λ c κs. search rules) (λ c κs. search rules) (λ c. search rules) (λ c κs. search rules) (λ c. search rules) returns)
+    (λ c κs. search rules) (λ c κs. search rules) (λ c κs. search rules) (λ c. search rules) returns)

@@ -20,11 +20,11 @@ pub loop-bit-preserved : goal.loop-bit-preserved
 loop-bit-preserved c =
     let told : answer_to c.args.record c.loop-bit.bit ≡ c.answer_to.result = sym c.answer_to.ensures in
     elim c.if-answer_to-number.branch [
-      then-answer_to-number w ↦ (
+      | then-answer_to-number w ↦ (
         omega (arith, w.count-is),
         w.count-is ∙ one_more _ _ _ _ true (eq-eqb _ _ (told ∙ w.if-answer_to-number.true)) c.loop-bit.invariant.1,
       )
-    | else-answer_to-number w ↦ (
+      | else-answer_to-number w ↦ (
         omega (arith, w.count-is),
         w.count-is ∙ sym (add-zero _) ∙ one_more _ _ _ _ false (ne_eqb _ _ (λ e. w.if-answer_to-number.false (sym told ∙ e))) c.loop-bit.invariant.1,
       )

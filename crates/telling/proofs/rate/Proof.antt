@@ -8,26 +8,26 @@ use Rattle.telling.proofs.Answers.{one_word, lengths_right, tells_wrong, tells}
 use Rattle.telling.proofs.rate.Statement.{statement}
 use Rattle.telling.proofs.rate.Tie as tie
 
-abbrev start : tie.After-lengths → tie.Start
+abbrev start : tie.After-lengths-wrong → tie.Start
 start c = c.before.before.before
 
-right : (c : tie.Else1) → (length (start c.before).args.book.now ≡ book_length) × (length (start c.before).args.values.now ≡ 1)
-right c = lengths_right _ _ _ (sym c.before.lengths.ensures ∙ c.if1.false)
+right : (c : tie.Else-wrong-ne0) → (length (start c.before).args.book.now ≡ book_length) × (length (start c.before).args.values.now ≡ 1)
+right c = lengths_right _ _ _ (sym c.before.lengths-wrong.ensures ∙ c.if-wrong-ne0.false)
 
-returns : tie.Need-returns
-returns c = tells_wrong _ _ _ _ c.before.lengths.ensures c.if1.true
+returns : tie.Need-returns-then-wrong-ne0
+returns c = tells_wrong _ _ _ _ c.before.lengths-wrong.ensures c.if-wrong-ne0.true
 
-rate-requires : tie.Need-rate-requires
+rate-requires : tie.Need-rate-rate-requires
 rate-requires c κs = ((start c.before).requires (right c).0).stored
 
-slice-write-values : tie.Need-slice-write-values
+slice-write-values : tie.Need-bounds-values-0
 slice-write-values c = omega (arith, (right c.before).1)
 
-returns-2 : tie.Need-returns-2
+returns-2 : tie.Need-returns
 returns-2 c =
     let lengths = c.before.before in
-    tells _ _ _ _ _ lengths.lengths.ensures c.before.if1.false
-    (one_word (start lengths).args.values.now _ _ (right c.before).1 c.rate.ensures)
+    tells _ _ _ _ _ lengths.lengths-wrong.ensures c.before.if-wrong-ne0.false
+    (one_word (start lengths).args.values.now _ _ (right c.before).1 c.rate-rate.ensures)
 
-pub rate-spec : {M : Type 1} → statement M
-rate-spec = tie.close (tie.spec (λ c κs. search rules) returns rate-requires slice-write-values (λ c. search rules) returns-2)
+pub rate_spec : {M : Type 1} → statement M
+rate_spec = tie.close (tie.spec (λ c κs. search rules) returns rate-requires slice-write-values (λ c. search rules) returns-2)

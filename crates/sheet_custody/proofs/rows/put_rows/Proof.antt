@@ -35,7 +35,7 @@ loop-again c =
     let l = c.before.before.before.before.before in
     let args = (start l).args in
     let row = put-placed (ledger_of args.book.now).holdings.securities no_security (security_line args.page) l.loop-i.i (put.ensures.0 no_security) in
-    (omega arith, counted-more _ _ _ l.loop-i.invariant.1 row put.ensures.1 put.auto.0)
+    (omega arith, counted-more _ _ _ l.loop-i.invariant.1 row put.ensures.1 put.auto.out)
 
 returns : tie.Need-returns invariant-loop decreases-loop
 unfolding custody_rows
@@ -43,7 +43,7 @@ returns c =
     let l = c.before in
     let few = (start l).requires.0.premise.sizes.securities in
     let many = l.before.securities-n.ensures in
-    let items = (ledger_of (start l).args.book.now).holdings.securities-n in
+    let items = (ledger_of (start l).args.book.now).holdings.securities in
     let all : l.loop-i.i ≡ length items = omega arith in
     (rw (all, all_placed items no_security) at l.loop-i.invariant.1.put, omega arith)
 

@@ -13,14 +13,13 @@ returns c =
     let day = waiting.before.before.before.before in
     let heading = day.before.before.before.before in
     let head = heading.before.before.before.before in
-    let named = rw head.before.before.before.day.ensures at heading.put-heading.ensures.0 in (
-      put_then (put_then (put_then head.put-in-page.ensures.0 named) day.put-day.ensures.0) waiting.put-waiting.ensures.0,
-      omega (arith, head.put-in-page.ensures.1, heading.put-heading.ensures.1, day.put-day.ensures.1, waiting.put-waiting.ensures.1),
+    let named = rw head.before.before.before.day-day.ensures at heading.put_heading-next.ensures.0 in (
+      put_then (put_then (put_then head.put_in_page-next.ensures.0 named) day.put_day-next.ensures.0) waiting.put_waiting.ensures.0,
+      omega (arith, head.put_in_page-next.ensures.1, heading.put_heading-next.ensures.1, day.put_day-next.ensures.1, waiting.put_waiting.ensures.1),
     )
 
-pub put-first-parts-spec : {M : Type 1} → statement M
-put-first-parts-spec =
+pub put_first_parts_spec : {M : Type 1} → statement M
+put_first_parts_spec =
     tie.close
     (tie.spec
-    (λ c κs. search rules) (λ c. search rules) (λ c κs. search rules) (λ c κs. search rules) (λ c κs. search rules)
-    (λ c κs. search rules) (λ c. search rules) returns)
+    (λ c κs. search rules) (λ c κs. search rules) (λ c κs. search rules) (λ c κs. search rules) (λ c κs. search rules) (λ c. search rules) returns)

@@ -13,12 +13,11 @@ returns c =
     let requests = custody.before.before.before.before in
     let cash = requests.before.before.before.before in
     let accounts = cash.before.before.before.before in
-    let both = put_then accounts.put-accounts.ensures.0 cash.put-cash.ensures.0 in
-    put_then (put_then (put_then both requests.put-requests.ensures.0) custody.put-custody.ensures.0) foot.put-in-page.ensures.0
+    let both = put_then accounts.put_accounts-next.ensures.0 cash.put_cash-next.ensures.0 in
+    put_then (put_then (put_then both requests.put_requests-next.ensures.0) custody.put_custody-next.ensures.0) foot.put_in_page.ensures.0
 
-pub put-other-parts-spec : {M : Type 1} → statement M
-put-other-parts-spec =
+pub put_other_parts_spec : {M : Type 1} → statement M
+put_other_parts_spec =
     tie.close
     (tie.spec
-    (λ c κs. search rules) (λ c κs. search rules) (λ c κs. search rules) (λ c κs. search rules) (λ c. search rules)
-    (λ c κs. search rules) (λ c. search rules) returns)
+    (λ c κs. search rules) (λ c κs. search rules) (λ c κs. search rules) (λ c κs. search rules) (λ c κs. search rules) (λ c. search rules) returns)

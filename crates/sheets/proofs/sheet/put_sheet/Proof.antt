@@ -7,10 +7,10 @@ use Rattle.sheets.proofs.sheet.put_sheet.Tie as tie
 
 returns : tie.Need-returns
 unfolding sheet_of
-returns c = put_then c.before.before.before.before.before.before.put-first-parts.ensures.0 c.before.before.put-other-parts.ensures
+returns c = put_then c.before.before.before.before.before.before.put_first_parts-next.ensures.0 c.before.before.put_other_parts.ensures
 
-pub put-sheet-spec : {M : Type 1} → statement M
-put-sheet-spec =
+pub put_sheet_spec : {M : Type 1} → statement M
+put_sheet_spec =
     tie.close
     (tie.spec
     (λ c κs. search rules) (λ c κs. search rules) (λ c. search rules) returns)

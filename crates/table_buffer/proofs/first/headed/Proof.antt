@@ -6,9 +6,9 @@ use Rattle.table_buffer.proofs.first.headed.Tie as tie
 
 returns : tie.Need-returns
 returns c =
-    let next = c.before.before.behind.ensures in
-    record { at_start = refl; at_end = refl; behind = next.0; rest = next.1; columns = c.header.ensures.0; usable = c.header.ensures.1 }
+    let next = c.before.before.behind-from.ensures in
+    record { at_start = refl; at_end = refl; behind = next.0; rest = next.1; columns = c.header-columns.ensures.0; usable = c.header-columns.ensures.1 }
 
-pub headed-spec : {M : Type 1} → statement M
-headed-spec =
+pub headed_spec : {M : Type 1} → statement M
+headed_spec =
     tie.close (tie.spec (λ c κs. search rules) (λ c. search rules) (λ c. search rules) (λ c. search rules) (λ c κs. search rules) returns)

@@ -10,16 +10,16 @@ use Rattle.words.proofs.Regions.{copy_none, copy_more, copy_ahead}
 use Rattle.table_buffer.proofs.lines.move_down.Statement.{statement}
 use Rattle.table_buffer.proofs.lines.move_down.Tie as tie
 
-abbrev invariant-loop : tie.invariant-loop
+abbrev invariant-loop : tie.invariant-loop-i
 invariant-loop input₀ from count i₀ input i = (i ≤ count) × (length input ≡ length input₀) × (input ≡ paste input₀ 0 (drop from input₀) i)
 
-abbrev decreases-loop : tie.decreases-loop
+abbrev decreases-loop : tie.decreases-loop-i
 decreases-loop input₀ from count i₀ input i = count - i
 
-loop-again : tie.Need-loop-preserved invariant-loop decreases-loop
+loop-again : tie.Need-loop-i-preserved invariant-loop decreases-loop
 loop-again c =
     let a = c.before.before.before.args in
-    let l = c.before.before.loop in
+    let l = c.before.before.loop-i in
     let bytes : List ℕ = a.input.now in
     let s : List ℕ = drop a.from bytes in
     let long : l.i < length s = rw length-drop (omega arith) in
@@ -34,7 +34,7 @@ loop-again c =
 returns : tie.Need-returns invariant-loop decreases-loop
 returns c =
     let a = c.before.before.args in
-    let l = c.before.loop in
+    let l = c.before.loop-i in
     let bytes : List ℕ = a.input.now in
     let all : l.i ≡ a.count = omega arith in
     let size : length (take a.count (drop a.from bytes)) ≡ a.count =
