@@ -6,26 +6,26 @@ use Rattle.exports.proofs.Answers.{write_wrong, write_answered}
 use Rattle.exports.proofs.depository_write.Statement.{statement}
 use Rattle.exports.proofs.depository_write.Tie as tie
 
-returns : tie.Need-returns
-returns c = write_wrong _ _ c.if1.true
+returns : tie.Need-returns-then-fields-ne-FIELD_WORDS
+returns c = write_wrong _ _ c.if-fields-ne-FIELD_WORDS.true
 
-returns-2 : tie.Need-returns-2
+returns-2 : tie.Need-returns-in-Record
 unfolding written_number
 returns-2 c =
-    let written = c.before.before.before.before in
-    let order = written.before.before in
-    write_answered _ _ order.before.if1.false _ _ _ _ order.order-of.ensures written.write.ensures (ap written_number c.enum_told.given.1)
+    let written = c in
+    let order = written in
+    write_answered _ _ order.if-fields-ne-FIELD_WORDS.false _ _ _ _ order.order_of.ensures written.write-written.ensures (ap written_number c.in-Record.is)
 
-returns-3 : tie.Need-returns-3
+returns-3 : tie.Need-returns-in-Refused
 unfolding written_number
 returns-3 c =
-    let written = c.before.before.before.before.before in
-    let order = written.before.before in
-    write_answered _ _ order.before.if1.false _ _ _ _ order.order-of.ensures written.write.ensures
-    (ap written_number c.before.written.given.1)
+    let written = c in
+    let order = written in
+    write_answered _ _ order.if-fields-ne-FIELD_WORDS.false _ _ _ _ order.order_of.ensures written.write-written.ensures
+    (ap written_number c.in-Refused.is)
 
-pub depository-write-spec : {M : Type 1} → statement M
-depository-write-spec =
+pub depository_write_spec : {M : Type 1} → statement M
+depository_write_spec =
     tie.close
     (tie.spec returns (λ c κs. search rules) (λ c κs. search rules) (λ c. search rules) (λ c. search rules) (λ c. search rules) returns-2
     (λ c. search rules) returns-3)

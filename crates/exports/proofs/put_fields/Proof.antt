@@ -13,11 +13,11 @@ use Rattle.exports.proofs.put_fields.Statement.{statement}
 use Rattle.exports.proofs.put_fields.Tie as tie
 
 -- the words that are written
-words_of : (c : tie.After-fields) → length (take field_words c.before.before.fields-of.result) ≡ field_words
+words_of : (c : tie.After-fields-1) → length (take field_words c.before.before.fields_of-fields.result) ≡ field_words
 unfolding fields_of
-words_of c = ap (λ (l : List ℕ). length (take field_words l)) c.before.before.fields-of.ensures
+words_of c = ap (λ (l : List ℕ). length (take field_words l)) c.before.before.fields_of-fields.ensures
 
-slice-aggregate-write : tie.Need-slice-aggregate-write
+slice-aggregate-write : tie.Need-slice_bounds-write-end
 slice-aggregate-write c = sym (words_of c)
 
 write-requires : tie.Need-write-requires
@@ -30,8 +30,8 @@ returns c =
     let fields = wrote.before in
     let s = fields.before.before.before.before in
     wrote.write.ensures
-    ∙ whole s.args.words.now (take field_words fields.before.before.fields-of.result) _ (s.requires ∙ sym (words_of fields))
-    ∙ ap (take field_words) fields.before.before.fields-of.ensures
+    ∙ whole s.args.words.now (take field_words fields.before.before.fields_of-fields.result) _ (s.requires ∙ sym (words_of fields))
+    ∙ ap (take field_words) fields.before.before.fields_of-fields.ensures
 
-pub put-fields-spec : {M : Type 1} → statement M
-put-fields-spec = tie.close (tie.spec (λ c κs. search rules) (λ c. search rules) slice-aggregate-write write-requires (λ c. search rules) returns)
+pub put_fields_spec : {M : Type 1} → statement M
+put_fields_spec = tie.close (tie.spec (λ c κs. search rules) (λ c. search rules) slice-aggregate-write write-requires (λ c. search rules) returns)

@@ -21,8 +21,7 @@ pub loop-turns-preserved : goal.loop-turns-preserved
 unfolding Goes
 loop-turns-preserved g c =
     let l = c.loop-turns in
-    let on = c.read_on-reading.ensures in
-    (
+    let on = c.read_on-reading.ensures in (
       so_on l.invariant.0 c.in-More.ensures on,
       omega (arith, on.starts),
       on.ends,

@@ -17,51 +17,51 @@ use Rattle.printing.proofs.custody.put_custody.Tie as tie
 none : Security
 none = record { code = 0; issued = record { 0 = 0 }; outside = record { 0 = 0 }; held = record { 0 = 0 } }
 
-abbrev invariant-loop : tie.invariant-loop
+abbrev invariant-loop : tie.invariant-loop-i
 invariant-loop out₀ at book n next₀ i₀ out next i =
     (i ≤ n) × (next ≤ at + 112 * i) × (length out ≡ length out₀) × Put out₀ at (custody_from (take i (ledger_of book).holdings.securities)) out next
 
-abbrev decreases-loop : tie.decreases-loop
+abbrev decreases-loop : tie.decreases-loop-i
 decreases-loop out₀ at book n next₀ i₀ out next i = n - i
 
-loop-holds : tie.Need-loop-init invariant-loop decreases-loop
+loop-holds : tie.Need-loop-i-init invariant-loop decreases-loop
 unfolding custody_from
 loop-holds c = (search rules, search rules, search rules, put-none _ _ (search rules))
 
-abbrev start : tie.At-loop invariant-loop decreases-loop → tie.Start invariant-loop decreases-loop
+abbrev start : tie.At-loop-i invariant-loop decreases-loop → tie.Start invariant-loop decreases-loop
 start c = c.before.before.before.before
 
-abbrev turn : tie.After-put-security invariant-loop decreases-loop → tie.At-loop invariant-loop decreases-loop
+abbrev turn : tie.After-put_security-next invariant-loop decreases-loop → tie.At-loop-i invariant-loop decreases-loop
 turn c = c.before.before.before
 
-put-security-requires : tie.Need-put-security-requires invariant-loop decreases-loop
+put-security-requires : tie.Need-put_security-next-requires invariant-loop decreases-loop
 put-security-requires c κs =
     let l = c.before.before in
-    let inside = l.before.securities.ensures in
+    let inside = l.before.securities-n.ensures in
     let few = (start l).requires.0.premise.sizes.securities in
     ((start l).requires.0, omega arith, omega arith)
 
-loop-again : tie.Need-loop-preserved invariant-loop decreases-loop
+loop-again : tie.Need-loop-i-preserved invariant-loop decreases-loop
 loop-again c =
     let put = c.before.before in
     let l = turn put in
-    let inside = l.before.securities.ensures in
+    let inside = l.before.securities-n.ensures in
     let securities = (ledger_of (start l).args.book.now).holdings.securities in (
       omega arith,
       omega arith,
-      put.put-security.auto.0 ∙ l.loop.inv.2,
-      rw (one_line_more securities l.loop.i none (omega arith)) (put_then l.loop.inv.3 (put.put-security.ensures.0 none)),
+      put.put_security-next.auto.out ∙ l.loop-i.invariant.2,
+      rw (one_line_more securities l.loop-i.i none (omega arith)) (put_then l.loop-i.invariant.3 (put.put_security-next.ensures.0 none)),
     )
 
 returns : tie.Need-returns invariant-loop decreases-loop
 unfolding custody_lines
 returns c =
     let l = c.before in
-    let all : length (ledger_of (start l).args.book.now).holdings.securities ≤ l.loop.i = omega (arith, l.before.securities.ensures) in
-    rw (take_all _ _ all) at l.loop.invariant.3
+    let all : length (ledger_of (start l).args.book.now).holdings.securities ≤ l.loop-i.i = omega (arith, l.before.securities-n.ensures) in
+    rw (take_all _ _ all) at l.loop-i.invariant.3
 
-pub put-custody-spec : {M : Type 1} → statement M
-put-custody-spec =
+pub put_custody_spec : {M : Type 1} → statement M
+put_custody_spec =
     tie.close
     (tie.spec
     invariant-loop
@@ -72,5 +72,5 @@ put-custody-spec =
     (λ c. search rules)
     (λ c. search rules)
     loop-again
-    (λ c. c.before.loop.invariant.2)
+    (λ c. c.before.loop-i.invariant.2)
     returns)

@@ -5,8 +5,8 @@ use Rattle.printing.proofs.custody.put_security.Tie as tie
 
 returns : tie.Need-returns
 returns c =
-    let put = c.before.before.put-custody-line.ensures in
-    (λ d. rw (← c.before.before.before.before.security-at.ensures.0 d) put.0, put.1)
+    let put = c.before.before.put_custody_line.ensures in
+    (λ d. rw (← c.before.before.before.before.security_at-security.ensures.0 d) put.0, put.1)
 
-pub put-security-spec : {M : Type 1} → statement M
-put-security-spec = tie.close (tie.spec (λ c κs. search rules) (λ c κs. search rules) (λ c. search rules) returns)
+pub put_security_spec : {M : Type 1} → statement M
+put_security_spec = tie.close (tie.spec (λ c κs. search rules) (λ c κs. search rules) (λ c. search rules) returns)
