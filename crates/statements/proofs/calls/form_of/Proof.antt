@@ -5,13 +5,13 @@ use Rattle.statements.specs.Stated.{form_in}
 use Rattle.statements.proofs.calls.form_of.Statement.{statement}
 use Rattle.statements.proofs.calls.form_of.Tie as tie
 
-returns : tie.Need-returns
+returns : tie.Need-returns-in-Order
 unfolding form_in
-returns c = ap form_in (sym c.before.read2.given.1 ∙ c.before.before.before.read.ensures.answered)
+returns c = ap form_in (sym c.in-Order.is ∙ c.read-read.ensures.answered)
 
-returns-2 : tie.Need-returns-2
+returns-2 : tie.Need-returns-in-Refused
 unfolding form_in
-returns-2 c = ap form_in (sym c.enum_told.given.1 ∙ c.before.before.read.ensures.answered)
+returns-2 c = ap form_in (sym c.in-Refused.is ∙ c.read-read.ensures.answered)
 
-pub form-of-spec : {M : Type 1} → statement M
-form-of-spec = tie.close (tie.spec (λ c κs. search rules) (λ c. search rules) (λ c. search rules) returns returns-2)
+pub form_of_spec : {M : Type 1} → statement M
+form_of_spec = tie.close (tie.spec (λ c κs. search rules) (λ c. search rules) (λ c. search rules) returns returns-2)

@@ -5,13 +5,13 @@ use Rattle.rulebook.specs.Call.{answer_rows}
 use Rattle.statements.proofs.calls.rows_of.Statement.{statement}
 use Rattle.statements.proofs.calls.rows_of.Tie as tie
 
-returns : tie.Need-returns
+returns : tie.Need-returns-in-Accepted
 unfolding answer_rows
-returns c = ap answer_rows (sym c.before.answer.given.1)
+returns c = ap answer_rows (sym c.in-Accepted.is)
 
-returns-2 : tie.Need-returns-2
+returns-2 : tie.Need-returns-in-Refused
 unfolding answer_rows
-returns-2 c = ap answer_rows (sym c.enum_told.given.1)
+returns-2 c = ap answer_rows (sym c.in-Refused.is)
 
-pub rows-of-spec : {M : Type 1} → statement M
-rows-of-spec = tie.close (tie.spec (λ c. search rules) (λ c. search rules) returns returns-2)
+pub rows_of_spec : {M : Type 1} → statement M
+rows_of_spec = tie.close (tie.spec (λ c. search rules) (λ c. search rules) returns returns-2)
