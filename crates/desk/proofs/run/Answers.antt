@@ -32,8 +32,7 @@ loop-number-preserved c =
     let before = c.loop-number.invariant in
     let size = printed.ensures.whole c.if-not-print_block.false in
     let full : length (take printed.ensures.size printed.new.input) ≡ BLOCK =
-    length-take-le _ _ (omega (arith, size, printed.auto.input, before.3, c.requires.1)) ∙ size in
-    (
+    length-take-le _ _ (omega (arith, size, printed.auto.input, before.3, c.requires.1)) ∙ size in (
       whole_more before.0 printed.ensures.called full,
       printed.auto.book ∙ before.1,
       printed.auto.area ∙ before.2,

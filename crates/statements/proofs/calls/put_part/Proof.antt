@@ -37,7 +37,7 @@ called c = c.before.before.before.before.before.before
 -- what is found at the loop's place
 there :
     (c : tie.In-Record invariant-loop decreases-loop)
-    →     next_at (start (turn (searched c))).args.file.now (turn (searched c)).loop-out.cursor.at ≡ Record c.in-Record.start c.in-Record.end c.in-Record.next
+    → next_at (start (turn (searched c))).args.file.now (turn (searched c)).loop-out.cursor.at ≡ Record c.in-Record.start c.in-Record.end c.in-Record.next
 there c = sym (searched c).next_record-found.ensures ∙ c.in-Record.is
 
 loop-holds : tie.Need-loop-out-init invariant-loop decreases-loop
@@ -66,9 +66,9 @@ loop-again c =
     let inv = (turn (searched f)).loop-out.invariant in
     let put = (called c).put_record-place in (
       walked_more inv.0 (there f) _ put.ensures.0,
-      put.kept.0 ∙ inv.1,
-      put.kept.1.1.1.0 ∙ inv.2,
-      put.kept.1.1.1.1.1.0 ∙ inv.3,
+      put.auto.out ∙ inv.1,
+      put.auto.book ∙ inv.2,
+      put.auto.area ∙ inv.3,
     )
 
 returns : tie.Need-returns-after-loop-out invariant-loop decreases-loop

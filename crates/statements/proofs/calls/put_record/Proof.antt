@@ -33,19 +33,19 @@ counted c = c.rows_of.ensures ∙ ap answer_rows (called (formed (answered c.bef
 
 put-rows-requires : tie.Need-put_rows-requires
 put-rows-requires c κs =
-    let rows = c.before in
+    let rows = c in
     let put = answered rows.before in
     let call = called (formed put) in
     let s = start call in
     let few = rows_few (ledger_of s.args.book.now) s.args.octets.now s.args.area.now s.requires.0.premise in (
       omega (arith, few.1, counted rows, ap length call.call-answer.ensures.written),
-      omega (arith, few.0, counted rows, put.put_answer-next.ensures.1, put.put_answer-next.auto.0, s.requires.1),
+      omega (arith, few.0, counted rows, put.put_answer-next.ensures.1, put.put_answer-next.auto.out, s.requires.1),
     )
 
 returns : tie.Need-returns
 returns c =
     let told = c.before.before in
-    let rows = told.before.before in
+    let rows = told.before in
     let put = answered rows.before in
     let form = formed put in
     let call = called form in
