@@ -33,8 +33,7 @@ loop-number-preserved c =
     let before = c.loop-number.invariant in
     let size = called.ensures.whole (not-false _ c.if-not-filled.false) in
     let full : length (take called.result.size called.new.input) ≡ BLOCK =
-    length-take-le _ _ (omega (arith, size, called.auto.input, before.3, c.requires.1)) ∙ size in
-    (
+    length-take-le _ _ (omega (arith, size, called.auto.input, before.3, c.requires.1)) ∙ size in (
       whole_more before.0 called.ensures.called full,
       called.auto.book ∙ before.1,
       called.auto.area ∙ before.2,

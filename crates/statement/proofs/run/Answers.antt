@@ -32,8 +32,7 @@ loop-number-preserved c =
     let more = not-false _ c.if-not-pending.false in
     let size = stated.ensures.whole more in
     let full : length (take stated.ensures.size stated.new.input) ≡ BLOCK =
-    length-take-le _ _ (omega (arith, size, stated.auto.input, before.4, c.requires.1)) ∙ size in
-    (
+    length-take-le _ _ (omega (arith, size, stated.auto.input, before.4, c.requires.1)) ∙ size in (
       whole-block before.0 stated.ensures.called full more,
       stated.ensures.called.inside,
       stated.auto.book ∙ before.2,

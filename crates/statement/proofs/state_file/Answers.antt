@@ -10,8 +10,7 @@ loop-streams-init c = (walked_none _ _ _ _ _ c.requires.0, omega (arith, c.requi
 
 pub put_part-part-requires : goal.put_part-part-requires
 put_part-part-requires c =
-    let before = c.loop-streams.invariant in
-    (
+    let before = c.loop-streams.invariant in (
       before.0.stated.kept,
       before.1,
       omega (arith, before.0.stated.numbered, walked_length before.0, records_length c.args.file.now, c.requires.3, c.requires.4),
@@ -52,8 +51,7 @@ loop-streams-smaller c =
 pub loop-streams-preserved : goal.loop-streams-preserved
 loop-streams-preserved c =
     let before = c.loop-streams.invariant in
-    let part = c.put_part-part in
-    (
+    let part = c.put_part-part in (
       walked_printed (walked_part before.0 part.ensures),
       omega arith,
       part.auto.out ∙ before.2,
