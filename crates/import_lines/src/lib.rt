@@ -3,9 +3,11 @@
 
 ghost use Rattle.std.specs.Prelude.{◌++◌, ◌∷◌, [], map, ◌≡◌, ◌+◌, ◌≤◌, length};
 ghost use Rattle.rulebook.specs.Names.{field_name};
-ghost use Rattle.text.specs.Text.{text, Put};
+ghost use Rattle.text.specs.Text.{text};
 ghost use Rattle.text.specs.Parts.{line_feed};
 ghost use Rattle.import_lines.specs.Told.{kind_name, reason, place, shown, bracketed, told, name_at};
+
+use text::Buffer;
 
 // From kind 101.
 const KINDS: [u8; 482] = *b"the file has nothing in it\n\
@@ -24,34 +26,34 @@ const KINDS: [u8; 482] = *b"the file has nothing in it\n\
     the line is empty\n\
     the line is too long";
 
-fn put_kind(out: &mut [u8], at: usize, kind: u64) -> usize
-    requires { (at + 80 ≤ length out.old) × (101 ≤ kind) }
-    ensures put { Put out.old at (text (kind_name kind)) out.new result }
-    ensures upper_bound { result ≤ at + 80 }
+fn put_kind<const N: usize>(out: &mut Buffer<N>, kind: u64)
+    requires { (length out.old + 80 ≤ N) × (101 ≤ kind) }
+    ensures put { out.new ≡ out.old ++ text (kind_name kind) }
+    ensures upper_bound { length out.new ≤ length out.old + 80 }
 {
-    text::put_part(out, at, &KINDS, 10, kind - 100)
+    text::put_part(out, &KINDS, 10, kind - 100)
 }
 
-fn put_reason(out: &mut [u8], at: usize, kind: u64) -> usize
-    requires { at + 200 ≤ length out.old }
-    ensures put { Put out.old at (reason kind) out.new result }
-    ensures upper_bound { result ≤ at + 200 }
+fn put_reason<const N: usize>(out: &mut Buffer<N>, kind: u64)
+    requires { length out.old + 200 ≤ N }
+    ensures put { out.new ≡ out.old ++ reason kind }
+    ensures upper_bound { length out.new ≤ length out.old + 200 }
 {
     if kind < 101 {
-        return wording::put_filled(out, at, b"refused by #, !", &[kind, kind]);
+        return wording::put_filled(out, b"refused by #, !", &[kind, kind]);
     }
-    put_kind(out, at, kind)
+    put_kind(out, kind)
 }
 
-fn put_place(out: &mut [u8], at: usize, number: u64, column: u64) -> usize
-    requires { at + 200 ≤ length out.old }
-    ensures put { Put out.old at (place number column) out.new result }
-    ensures upper_bound { result ≤ at + 200 }
+fn put_place<const N: usize>(out: &mut Buffer<N>, number: u64, column: u64)
+    requires { length out.old + 200 ≤ N }
+    ensures put { out.new ≡ out.old ++ place number column }
+    ensures upper_bound { length out.new ≤ length out.old + 200 }
 {
     if column == 0 {
-        return wording::put_filled(out, at, b": line #", &[number]);
+        return wording::put_filled(out, b": line #", &[number]);
     }
-    wording::put_filled(out, at, b": line #, column #", &[number, column])
+    wording::put_filled(out, b": line #, column #", &[number, column])
 }
 
 fn visible(b: u8) -> u8
@@ -66,10 +68,10 @@ fn visible(b: u8) -> u8
     b
 }
 
-fn put_visible(out: &mut [u8], at: usize, bytes: &[u8]) -> usize
-    requires { at + length bytes.now ≤ length out.old }
-    ensures put { Put out.old at (map shown bytes.now) out.new result }
-    ensures upper_bound { result ≤ at + length bytes.now }
+fn put_visible<const N: usize>(out: &mut Buffer<N>, bytes: &[u8])
+    requires { length out.old + length bytes.now ≤ N }
+    ensures put { out.new ≡ out.old ++ map shown bytes.now }
+    ensures upper_bound { length out.new ≤ length out.old + length bytes.now }
 {
     let mut i: usize = 0;
     while i < bytes.len() {
@@ -79,28 +81,28 @@ fn put_visible(out: &mut [u8], at: usize, bytes: &[u8]) -> usize
     at + i
 }
 
-fn put_brackets(out: &mut [u8], at: usize, name: &[u8]) -> usize
-    requires { (at + 83 ≤ length out.old) × (length name.now ≤ 80) }
-    ensures put { Put out.old at (text " (" ++ map shown name.now ++ text ")") out.new result }
-    ensures upper_bound { result ≤ at + 83 }
+fn put_brackets<const N: usize>(out: &mut Buffer<N>, name: &[u8])
+    requires { (length out.old + 83 ≤ N) × (length name.now ≤ 80) }
+    ensures put { out.new ≡ out.old ++ text " (" ++ map shown name.now ++ text ")" }
+    ensures upper_bound { length out.new ≤ length out.old + 83 }
 {
-    let opened = text::put_bytes(out, at, b" (");
-    let named = put_visible(out, opened, name);
-    text::put_bytes(out, named, b")")
+    let opened = out.put(b" (");
+    let named = put_visible(out, name);
+    out.put(b")")
 }
 
-fn put_name(out: &mut [u8], at: usize, name: &[u8]) -> usize
-    requires { at + 83 ≤ length out.old }
-    ensures put { Put out.old at (bracketed name.now) out.new result }
-    ensures upper_bound { result ≤ at + 83 }
+fn put_name<const N: usize>(out: &mut Buffer<N>, name: &[u8])
+    requires { length out.old + 83 ≤ N }
+    ensures put { out.new ≡ out.old ++ bracketed name.now }
+    ensures upper_bound { length out.new ≤ length out.old + 83 }
 {
     if name.len() == 0 {
         return at;
     }
     if 80 < name.len() {
-        return put_brackets(out, at, &name[..80]);
+        return put_brackets(out, &name[..80]);
     }
-    put_brackets(out, at, name)
+    put_brackets(out, name)
 }
 
 // The file, and where in it.
@@ -115,13 +117,13 @@ fn put_where(out: &mut [u8], file: &[u8], number: u64, column: u64, name: &[u8])
 }
 
 // What is wrong, and the line's end.
-fn put_wrong(out: &mut [u8], at: usize, kind: u64) -> usize
-    requires { at + 300 ≤ length out.old }
-    ensures { Put out.old at (text ": " ++ reason kind ++ (line_feed ∷ [])) out.new result }
+fn put_wrong<const N: usize>(out: &mut Buffer<N>, kind: u64)
+    requires { length out.old + 300 ≤ N }
+    ensures { out.new ≡ out.old ++ text ": " ++ reason kind ++ (line_feed ∷ []) }
 {
-    let marked = text::put_bytes(out, at, b": ");
-    let said = put_reason(out, marked, kind);
-    text::put_bytes(out, said, b"\n")
+    let marked = out.put(b": ");
+    let said = put_reason(out, kind);
+    out.put(b"\n")
 }
 
 // The whole line, with a name that is given.

@@ -1,12 +1,12 @@
 // The lines of the printing program. Each function puts bytes into a buffer from a place on, and answers the place behind them.
 #![tactic(auto)]
 
-ghost use Rattle.std.specs.Prelude.{◌≡◌, ◌+◌, ◌≤◌, length};
+ghost use Rattle.std.specs.Prelude.{◌++◌, ◌≡◌, ◌+◌, ◌≤◌, length};
 ghost use Rattle.rulebook.specs.Call.{answer_number, answer_rows};
-ghost use Rattle.text.specs.Text.{Put};
 ghost use Rattle.lines.specs.Lines.{answer_line, custody_line};
 
 use rulebook::{Answer, Security};
+use text::Buffer;
 
 fn number_of(answer: Answer) -> u64
     ensures { result ≡ answer_number answer }
@@ -27,26 +27,28 @@ fn rows_of(answer: Answer) -> u64
 }
 
 // A record's line: its number, the answer, rows.
-pub fn put_answer_line(out: &mut [u8], at: usize, number: u64, answer: Answer) -> usize
-    requires { at + 63 ≤ length out.old }
-    ensures put { Put out.old at (answer_line number answer) out.new result }
-    ensures upper_bound { result ≤ at + 63 }
+#[tactic(auto, unfolding(crate::specs::Lines::answer_line))]
+pub fn put_answer_line<const N: usize>(out: &mut Buffer<N>, number: u64, answer: Answer)
+    requires { length out.old + 63 ≤ N }
+    ensures put { out.new ≡ out.old ++ answer_line number answer }
+    ensures upper_bound { length out.new ≤ length out.old + 63 }
 {
-    let mut next = text::put_number(out, at, number);
-    next = text::put_figure(out, next, b" ", number_of(answer));
-    next = text::put_figure(out, next, b" ", rows_of(answer));
-    text::put_bytes(out, next, b"\n")
+    out.put_number(number);
+    out.put_figure(b" ", number_of(answer));
+    out.put_figure(b" ", rows_of(answer));
+    out.put(b"\n");
 }
 
 // A security's line.
-pub fn put_custody_line(out: &mut [u8], at: usize, security: Security) -> usize
-    requires { at + 112 ≤ length out.old }
-    ensures put { Put out.old at (custody_line security) out.new result }
-    ensures upper_bound { result ≤ at + 112 }
+#[tactic(auto, unfolding(crate::specs::Lines::custody_line))]
+pub fn put_custody_line<const N: usize>(out: &mut Buffer<N>, security: Security)
+    requires { length out.old + 112 ≤ N }
+    ensures put { out.new ≡ out.old ++ custody_line security }
+    ensures upper_bound { length out.new ≤ length out.old + 112 }
 {
-    let mut next = text::put_figure(out, at, b"CUSTODY ", security.code);
-    next = text::put_figure(out, next, b" ISSUED ", security.issued.0);
-    next = text::put_figure(out, next, b" HELD ", security.held.0);
-    next = text::put_figure(out, next, b" OUTSIDE ", security.outside.0);
-    text::put_bytes(out, next, b"\n")
+    out.put_figure(b"CUSTODY ", security.code);
+    out.put_figure(b" ISSUED ", security.issued.0);
+    out.put_figure(b" HELD ", security.held.0);
+    out.put_figure(b" OUTSIDE ", security.outside.0);
+    out.put(b"\n");
 }

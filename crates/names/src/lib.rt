@@ -4,11 +4,12 @@
 mod tables;
 mod types;
 
-ghost use Rattle.std.specs.Prelude.{◌≡◌, ◌+◌, ◌≤◌, length};
+ghost use Rattle.std.specs.Prelude.{◌++◌, ◌≡◌, ◌+◌, ◌≤◌, length};
 ghost use Rattle.rulebook.specs.Names.{field_name, form_name, currency_name, refusal_name, notice_name};
-ghost use Rattle.text.specs.Text.{text, Put};
+ghost use Rattle.text.specs.Text.{text};
 ghost use Rattle.names.specs.Numbers.{field_place, form_number};
 
+use text::Buffer;
 pub use types::put_type;
 
 // The place of the field with this name, or 18.
@@ -30,45 +31,44 @@ pub fn form_number(name: &[u8]) -> u64
 }
 
 // The name of the field at a place.
-pub fn put_field(out: &mut [u8], at: usize, place: usize) -> usize
-    requires { at + 80 ≤ length out.old }
-    ensures put { Put out.old at (text (field_name place)) out.new result }
-    ensures upper_bound { result ≤ at + 80 }
+pub fn put_field<const N: usize>(out: &mut Buffer<N>, place: usize)
+    requires { length out.old + 80 ≤ N }
+    ensures put { out.new ≡ out.old ++ text (field_name place) }
+    ensures upper_bound { length out.new ≤ length out.old + 80 }
 {
-    if 18 <= place {
-        return at;
+    if place < 18 {
+        text::put_part(out, &tables::FIELDS, 10, place as u64 + 1);
     }
-    text::put_part(out, at, &tables::FIELDS, 10, place as u64 + 1)
 }
 
-pub fn put_form(out: &mut [u8], at: usize, form: u64) -> usize
-    requires { at + 80 ≤ length out.old }
-    ensures put { Put out.old at (text (form_name form)) out.new result }
-    ensures upper_bound { result ≤ at + 80 }
+pub fn put_form<const N: usize>(out: &mut Buffer<N>, form: u64)
+    requires { length out.old + 80 ≤ N }
+    ensures put { out.new ≡ out.old ++ text (form_name form) }
+    ensures upper_bound { length out.new ≤ length out.old + 80 }
 {
-    text::put_part(out, at, &tables::FORMS, 10, form)
+    text::put_part(out, &tables::FORMS, 10, form);
 }
 
-pub fn put_currency(out: &mut [u8], at: usize, currency: u64) -> usize
-    requires { at + 80 ≤ length out.old }
-    ensures put { Put out.old at (text (currency_name currency)) out.new result }
-    ensures upper_bound { result ≤ at + 80 }
+pub fn put_currency<const N: usize>(out: &mut Buffer<N>, currency: u64)
+    requires { length out.old + 80 ≤ N }
+    ensures put { out.new ≡ out.old ++ text (currency_name currency) }
+    ensures upper_bound { length out.new ≤ length out.old + 80 }
 {
-    text::put_part(out, at, &tables::CURRENCIES, 10, currency)
+    text::put_part(out, &tables::CURRENCIES, 10, currency);
 }
 
-pub fn put_refusal(out: &mut [u8], at: usize, number: u64) -> usize
-    requires { at + 80 ≤ length out.old }
-    ensures put { Put out.old at (text (refusal_name number)) out.new result }
-    ensures upper_bound { result ≤ at + 80 }
+pub fn put_refusal<const N: usize>(out: &mut Buffer<N>, number: u64)
+    requires { length out.old + 80 ≤ N }
+    ensures put { out.new ≡ out.old ++ text (refusal_name number) }
+    ensures upper_bound { length out.new ≤ length out.old + 80 }
 {
-    text::put_part(out, at, &tables::REFUSALS, 10, number)
+    text::put_part(out, &tables::REFUSALS, 10, number);
 }
 
-pub fn put_notice(out: &mut [u8], at: usize, kind: u64) -> usize
-    requires { at + 80 ≤ length out.old }
-    ensures put { Put out.old at (text (notice_name kind)) out.new result }
-    ensures upper_bound { result ≤ at + 80 }
+pub fn put_notice<const N: usize>(out: &mut Buffer<N>, kind: u64)
+    requires { length out.old + 80 ≤ N }
+    ensures put { out.new ≡ out.old ++ text (notice_name kind) }
+    ensures upper_bound { length out.new ≤ length out.old + 80 }
 {
-    text::put_part(out, at, &tables::NOTICES, 10, kind)
+    text::put_part(out, &tables::NOTICES, 10, kind);
 }

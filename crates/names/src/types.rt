@@ -1,10 +1,11 @@
 // The names of account types.
-ghost use Rattle.std.specs.Prelude.{◌∷◌, map, ◌≡◌, ◌+◌, ◌≤◌, length, get_or};
+ghost use Rattle.std.specs.Prelude.{◌++◌, ◌∷◌, map, ◌≡◌, ◌+◌, ◌≤◌, length, get_or};
 ghost use Rattle.rulebook.specs.TypeTable.{type_table};
 ghost use Rattle.rulebook.specs.Names.{type_name};
-ghost use Rattle.text.specs.Text.{text, Put};
+ghost use Rattle.text.specs.Text.{text};
 
 use crate::tables;
+use text::Buffer;
 
 // A type's row in the table, counted from 1; 0 where it has none.
 fn row_of(typ: u64) -> u64
@@ -28,10 +29,10 @@ fn row_of(typ: u64) -> u64
     }
 }
 
-pub fn put_type(out: &mut [u8], at: usize, typ: u64) -> usize
-    requires { at + 80 ≤ length out.old }
-    ensures put { Put out.old at (text (type_name typ)) out.new result }
-    ensures upper_bound { result ≤ at + 80 }
+pub fn put_type<const N: usize>(out: &mut Buffer<N>, typ: u64)
+    requires { length out.old + 80 ≤ N }
+    ensures put { out.new ≡ out.old ++ text (type_name typ) }
+    ensures upper_bound { length out.new ≤ length out.old + 80 }
 {
-    text::put_part(out, at, &tables::TYPES, 10, row_of(typ))
+    text::put_part(out, &tables::TYPES, 10, row_of(typ));
 }

@@ -1,39 +1,38 @@
 // The answer lines of the records of a file.
-ghost use Rattle.std.specs.Prelude.{◌∷◌, [], ◌+◌, ◌*◌, ◌^◌, ◌≤◌, ◌<◌, length};
+ghost use Rattle.std.specs.Prelude.{◌++◌, ◌≡◌, ◌∷◌, [], ◌+◌, ◌*◌, ◌^◌, ◌≤◌, ◌<◌, length};
 ghost use Rattle.book.specs.Stored.{Kept};
 ghost use Rattle.file.specs.Records.{records_of};
 ghost use Rattle.printing.specs.Printed.{lent, Answered, BlockPut};
 
 use file::{Cursor, Next};
+use text::Buffer;
 
 // One record is called, and its line put.
-fn put_answer(
-    out: &mut [u8],
-    at: usize,
+fn put_answer<const N: usize>(
+    out: &mut Buffer<N>,
     number: u64,
     book: &mut [u64],
     octets: &[u8],
     area: &mut [u8],
-) -> usize
-    requires { Kept book.old × (at + 63 ≤ length out.old) }
+)
+    requires { Kept book.old × (length out.old + 63 ≤ N) }
     ensures answered { Answered number (octets.now ∷ []) (lent book.old area.old out.old at)
         (lent book.new area.new out.new result) }
-    ensures upper_bound { result ≤ at + 63 }
+    ensures upper_bound { length out.new ≤ length out.old + 63 }
 {
     let answer = ledger::call(book, octets, area);
-    lines::put_answer_line(out, at, number, answer)
+    lines::put_answer_line(out, number, answer);
 }
 
 // The records of a file are called in their order. A line has at most 63 bytes.
-pub fn put_answers(
-    out: &mut [u8],
-    at: usize,
+pub fn put_answers<const N: usize>(
+    out: &mut Buffer<N>,
     number: u64,
     book: &mut [u64],
     file: &[u8],
     area: &mut [u8],
-) -> usize
-    requires { Kept book.old × (at + 63 * length (records_of file.now) ≤ length out.old) × (number + length (records_of file.now) < 2 ^ 64) }
+)
+    requires { Kept book.old × (length out.old + 63 * length (records_of file.now) ≤ N) × (number + length (records_of file.now) < 2 ^ 64) }
     ensures { Answered number (records_of file.now) (lent book.old area.old out.old at)
         (lent book.new area.new out.new result) }
 {

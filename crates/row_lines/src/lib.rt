@@ -1,28 +1,30 @@
 // The lines of a statement's rows: of a posting row, and of a notice. Each has at most 512 bytes.
 #![tactic(auto)]
 
-ghost use Rattle.std.specs.Prelude.{◌+◌, ◌≤◌, length};
-ghost use Rattle.text.specs.Text.{Put};
+ghost use Rattle.std.specs.Prelude.{◌++◌, ◌≡◌, ◌+◌, ◌≤◌, length};
 ghost use Rattle.row_lines.specs.Rows.{side_word, cash_part, shares_part, posting_line, notice_line};
 
 use rulebook::{Notice, Posting};
+use text::Buffer;
 
-fn put_side(out: &mut [u8], at: usize, credit: u64) -> usize
-    requires { at + 9 ≤ length out.old }
-    ensures put { Put out.old at (side_word credit) out.new result }
-    ensures upper_bound { result ≤ at + 9 }
+#[tactic(auto, unfolding(crate::specs::Rows::side_word))]
+fn put_side<const N: usize>(out: &mut Buffer<N>, credit: u64)
+    requires { length out.old + 9 ≤ N }
+    ensures put { out.new ≡ out.old ++ side_word credit }
+    ensures upper_bound { length out.new ≤ length out.old + 9 }
 {
     if credit == 1 {
-        return text::put_bytes(out, at, b"  credit ");
+        return out.put(b"  credit ");
     }
-    text::put_bytes(out, at, b"  debit ")
+    out.put(b"  debit ");
 }
 
 // Cash of a member, or outside.
-fn put_cash(out: &mut [u8], at: usize, p: Posting) -> usize
-    requires { at + 500 ≤ length out.old }
-    ensures put { Put out.old at (cash_part p) out.new result }
-    ensures upper_bound { result ≤ at + 500 }
+#[tactic(auto, unfolding(crate::specs::Rows::cash_part))]
+fn put_cash<const N: usize>(out: &mut Buffer<N>, p: Posting)
+    requires { length out.old + 500 ≤ N }
+    ensures put { out.new ≡ out.old ++ cash_part p }
+    ensures upper_bound { length out.new ≤ length out.old + 500 }
 {
     let units = p.number / 100;
     let tenths = p.number % 100 / 10;
@@ -30,61 +32,60 @@ fn put_cash(out: &mut [u8], at: usize, p: Posting) -> usize
     if p.member == 0 {
         return wording::put_filled(
             out,
-            at,
             b"$ OUTSIDE #.##\n",
             &[p.what, units, tenths, hundredths],
         );
     }
     wording::put_filled(
         out,
-        at,
         b"$ member # amount #.##\n",
         &[p.what, p.member, units, tenths, hundredths],
-    )
+    );
 }
 
 // Shares of an account, or of the issued or the outside count.
-fn put_shares(out: &mut [u8], at: usize, p: Posting) -> usize
-    requires { at + 500 ≤ length out.old }
-    ensures put { Put out.old at (shares_part p) out.new result }
-    ensures upper_bound { result ≤ at + 500 }
+#[tactic(auto, unfolding(crate::specs::Rows::shares_part))]
+fn put_shares<const N: usize>(out: &mut Buffer<N>, p: Posting)
+    requires { length out.old + 500 ≤ N }
+    ensures put { out.new ≡ out.old ++ shares_part p }
+    ensures upper_bound { length out.new ≤ length out.old + 500 }
 {
     if p.typ == 90 {
-        return wording::put_filled(out, at, b"security # ISSUED #\n", &[p.what, p.number]);
+        return wording::put_filled(out, b"security # ISSUED #\n", &[p.what, p.number]);
     }
     if p.typ == 91 {
-        return wording::put_filled(out, at, b"security # OUTSIDE #\n", &[p.what, p.number]);
+        return wording::put_filled(out, b"security # OUTSIDE #\n", &[p.what, p.number]);
     }
     wording::put_filled(
         out,
-        at,
         b"security # member # type # shareholder # quantity #\n",
         &[p.what, p.member, p.typ, p.shareholder, p.number],
-    )
+    );
 }
 
 // A posting row's line.
-pub fn put_posting(out: &mut [u8], at: usize, p: Posting) -> usize
-    requires { at + 512 ≤ length out.old }
-    ensures put { Put out.old at (posting_line p) out.new result }
-    ensures upper_bound { result ≤ at + 512 }
+#[tactic(auto, unfolding(crate::specs::Rows::posting_line))]
+pub fn put_posting<const N: usize>(out: &mut Buffer<N>, p: Posting)
+    requires { length out.old + 512 ≤ N }
+    ensures put { out.new ≡ out.old ++ posting_line p }
+    ensures upper_bound { length out.new ≤ length out.old + 512 }
 {
-    let next = put_side(out, at, p.credit);
+    put_side(out, p.credit);
     if p.cash == 1 {
-        return put_cash(out, next, p);
+        return put_cash(out, p);
     }
-    put_shares(out, next, p)
+    put_shares(out, p);
 }
 
 // A notice's line.
-pub fn put_notice(out: &mut [u8], at: usize, n: Notice) -> usize
-    requires { at + 512 ≤ length out.old }
-    ensures put { Put out.old at (notice_line n) out.new result }
-    ensures upper_bound { result ≤ at + 512 }
+#[tactic(auto, unfolding(crate::specs::Rows::notice_line))]
+pub fn put_notice<const N: usize>(out: &mut Buffer<N>, n: Notice)
+    requires { length out.old + 512 ≤ N }
+    ensures put { out.new ≡ out.old ++ notice_line n }
+    ensures upper_bound { length out.new ≤ length out.old + 512 }
 {
     wording::put_filled(
         out,
-        at,
         b"  notice, *: deliverer # reference #, receiver # reference #\n",
         &[
             n.kind,
@@ -93,5 +94,5 @@ pub fn put_notice(out: &mut [u8], at: usize, n: Notice) -> usize
             n.receiver,
             n.receive_reference,
         ],
-    )
+    );
 }

@@ -1,18 +1,18 @@
 // An account's line.
-ghost use Rattle.std.specs.Prelude.{◌+◌, ◌≤◌, length};
-ghost use Rattle.text.specs.Text.{Put};
+ghost use Rattle.std.specs.Prelude.{◌++◌, ◌≡◌, ◌+◌, ◌≤◌, length};
 ghost use Rattle.sheet_accounts.specs.Line.{account_line};
 
 use rulebook::{Account, Shares};
+use text::Buffer;
 
-pub fn put_line(out: &mut [u8], at: usize, page: bool, account: Account, balance: Shares) -> usize
-    requires { at + 700 ≤ length out.old }
-    ensures put { Put out.old at (account_line page account balance.0) out.new result }
-    ensures upper_bound { result ≤ at + 700 }
+#[tactic(auto, unfolding(crate::specs::Line::account_line))]
+pub fn put_line<const N: usize>(out: &mut Buffer<N>, page: bool, account: Account, balance: Shares)
+    requires { length out.old + 700 ≤ N }
+    ensures put { out.new ≡ out.old ++ account_line page account balance.0 }
+    ensures upper_bound { length out.new ≤ length out.old + 700 }
 {
     text_or_page::put_written(
         out,
-        at,
         page,
         b"ACCOUNT SECURITY # MEMBER # TYPE # (%) SHAREHOLDER # BALANCE #\n",
         b"<tr><td class=n>#</td><td class=n>#</td><td class=n>#</td><td>%</td><td class=n>#</td><td class=n>#</td></tr>\n",
@@ -24,5 +24,5 @@ pub fn put_line(out: &mut [u8], at: usize, page: bool, account: Account, balance
             account.shareholder,
             balance.0,
         ],
-    )
+    );
 }

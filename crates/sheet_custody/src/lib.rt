@@ -4,12 +4,13 @@
 mod line;
 mod rows;
 
-ghost use Rattle.std.specs.Prelude.{◌+◌, ◌≤◌, length};
+ghost use Rattle.std.specs.Prelude.{◌++◌, ◌≡◌, ◌+◌, ◌≤◌, length};
 ghost use Rattle.book.specs.Meaning.{ledger_of};
 ghost use Rattle.book.specs.Stored.{Kept};
-ghost use Rattle.text.specs.Text.{Put};
 ghost use Rattle.text_or_page.specs.Table.{table_of};
 ghost use Rattle.sheet_custody.specs.Rows.{custody_head, custody_rows};
+
+use text::Buffer;
 
 // What stands above the rows of a page.
 const HEAD: [u8; 151] =
@@ -17,12 +18,12 @@ const HEAD: [u8; 151] =
     <th class=n>Outside</th></tr></thead>\n<tbody>\n";
 
 // Custody.
-pub fn put_custody(out: &mut [u8], at: usize, page: bool, book: &[u64]) -> usize
-    requires { Kept book.now × (at + 16600 ≤ length out.old) }
-    ensures put { Put out.old at (table_of page custody_head (custody_rows page (ledger_of book.now).holdings.securities)) out.new result }
-    ensures upper_bound { result ≤ at + 16600 }
+pub fn put_custody<const N: usize>(out: &mut Buffer<N>, page: bool, book: &[u64])
+    requires { Kept book.now × (length out.old + 16600 ≤ N) }
+    ensures put { out.new ≡ out.old ++ table_of page custody_head (custody_rows page (ledger_of book.now).holdings.securities) }
+    ensures upper_bound { length out.new ≤ length out.old + 16600 }
 {
-    let mut next = text_or_page::put_in_page(out, at, page, &HEAD);
-    next = rows::put_rows(out, next, page, book);
-    text_or_page::put_foot(out, next, page)
+    text_or_page::put_in_page(out, page, &HEAD);
+    rows::put_rows(out, page, book);
+    text_or_page::put_foot(out, page);
 }

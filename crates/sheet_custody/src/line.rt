@@ -1,18 +1,18 @@
 // A security's line.
-ghost use Rattle.std.specs.Prelude.{◌+◌, ◌≤◌, length};
-ghost use Rattle.text.specs.Text.{Put};
+ghost use Rattle.std.specs.Prelude.{◌++◌, ◌≡◌, ◌+◌, ◌≤◌, length};
 ghost use Rattle.sheet_custody.specs.Line.{security_line};
 
 use rulebook::Security;
+use text::Buffer;
 
-pub fn put_line(out: &mut [u8], at: usize, page: bool, security: Security) -> usize
-    requires { at + 500 ≤ length out.old }
-    ensures put { Put out.old at (security_line page security) out.new result }
-    ensures upper_bound { result ≤ at + 500 }
+#[tactic(auto, unfolding(crate::specs::Line::security_line))]
+pub fn put_line<const N: usize>(out: &mut Buffer<N>, page: bool, security: Security)
+    requires { length out.old + 500 ≤ N }
+    ensures put { out.new ≡ out.old ++ security_line page security }
+    ensures upper_bound { length out.new ≤ length out.old + 500 }
 {
     text_or_page::put_written(
         out,
-        at,
         page,
         b"CUSTODY # ISSUED # HELD # OUTSIDE #\n",
         b"<tr><td class=n>#</td><td class=n>#</td><td class=n>#</td><td class=n>#</td></tr>\n",
@@ -22,5 +22,5 @@ pub fn put_line(out: &mut [u8], at: usize, page: bool, security: Security) -> us
             security.held.0,
             security.outside.0,
         ],
-    )
+    );
 }

@@ -1,35 +1,37 @@
 // The rows of the securities.
-ghost use Rattle.std.specs.Prelude.{◌+◌, ◌≤◌, ◌<◌, length, get_or};
+ghost use Rattle.std.specs.Prelude.{◌++◌, ◌≡◌, ◌+◌, ◌≤◌, ◌<◌, length, get_or};
 ghost use Rattle.rulebook.specs.declared.Security.{Security};
 ghost use Rattle.book.specs.Meaning.{ledger_of};
 ghost use Rattle.book.specs.Stored.{Kept};
-ghost use Rattle.text.specs.Text.{Put};
 ghost use Rattle.sheet_custody.specs.Line.{security_line};
 ghost use Rattle.sheet_custody.specs.Rows.{custody_rows};
 
 use crate::line;
+use text::Buffer;
 
 // The row of the security at `i`.
-fn put_row(out: &mut [u8], at: usize, page: bool, book: &[u64], i: usize) -> usize
-    requires { Kept book.now × (i < length (ledger_of book.now).holdings.securities) × (at + 500 ≤ length out.old) }
-    ensures put { (d : Security) → Put out.old at (security_line page (get_or (ledger_of book.now).holdings.securities i d)) out.new result }
-    ensures upper_bound { result ≤ at + 500 }
+#[tactic(auto, unfolding(crate::specs::Line::security_line))]
+fn put_row<const N: usize>(out: &mut Buffer<N>, page: bool, book: &[u64], i: usize)
+    requires { Kept book.now × (i < length (ledger_of book.now).holdings.securities) × (length out.old + 500 ≤ N) }
+    ensures put { (d : Security) → out.new ≡ out.old ++ security_line page (get_or (ledger_of book.now).holdings.securities i d) }
+    ensures upper_bound { length out.new ≤ length out.old + 500 }
 {
     let security = reading::security_at(book, i);
-    line::put_line(out, at, page, security)
+    line::put_line(out, page, security);
 }
 
 // In order of admission: at most 32.
-pub fn put_rows(out: &mut [u8], at: usize, page: bool, book: &[u64]) -> usize
-    requires { Kept book.now × (at + 16000 ≤ length out.old) }
-    ensures put { Put out.old at (custody_rows page (ledger_of book.now).holdings.securities) out.new result }
-    ensures upper_bound { result ≤ at + 16000 }
+#[tactic(auto, unfolding(crate::specs::Rows::custody_rows))]
+pub fn put_rows<const N: usize>(out: &mut Buffer<N>, page: bool, book: &[u64])
+    requires { Kept book.now × (length out.old + 16000 ≤ N) }
+    ensures put { out.new ≡ out.old ++ custody_rows page (ledger_of book.now).holdings.securities }
+    ensures upper_bound { length out.new ≤ length out.old + 16000 }
 {
     let n = reading::securities(book);
-    let mut next = at;
+    at;
     let mut i: usize = 0;
     while i < n {
-        next = put_row(out, next, page, book, i);
+        put_row(out, page, book, i);
         i += 1;
     }
     next

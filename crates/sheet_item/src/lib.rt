@@ -1,25 +1,25 @@
 // A waiting item's line.
 #![tactic(auto)]
 
-ghost use Rattle.std.specs.Prelude.{[], ◌+◌, ◌≤◌, length};
-ghost use Rattle.text.specs.Text.{Put};
+ghost use Rattle.std.specs.Prelude.{◌++◌, ◌≡◌, [], ◌+◌, ◌≤◌, length};
 ghost use Rattle.text_or_page.specs.Written.{written};
 ghost use Rattle.sheet_item.specs.ItemLine.{terms_of, item_line};
 
 use rulebook::Item;
+use text::Buffer;
 
 // The debited and the credited party, security, quantity, amount, currency and days.
-fn put_terms(out: &mut [u8], at: usize, page: bool, item: Item) -> usize
-    requires { at + 1350 ≤ length out.old }
-    ensures put { Put out.old at (terms_of page item) out.new result }
-    ensures upper_bound { result ≤ at + 1350 }
+#[tactic(auto, unfolding(crate::specs::ItemLine::terms_of))]
+fn put_terms<const N: usize>(out: &mut Buffer<N>, page: bool, item: Item)
+    requires { length out.old + 1350 ≤ N }
+    ensures put { out.new ≡ out.old ++ terms_of page item }
+    ensures upper_bound { length out.new ≤ length out.old + 1350 }
 {
     let from = item.debited;
     let to = item.credited;
     let amount = item.amount.0;
     text_or_page::put_written(
         out,
-        at,
         page,
         b" FROM #/#/# TO #/#/# SECURITY # QUANTITY # AMOUNT #.## $ TRADED # SETTLES #",
         b"<td>#/#/#</td><td>#/#/#</td><td class=n>#</td><td class=n>#</td>\
@@ -40,27 +40,28 @@ fn put_terms(out: &mut [u8], at: usize, page: bool, item: Item) -> usize
             item.trade_day,
             item.settlement_day,
         ],
-    )
+    );
 }
 
 // The end of the line.
-fn put_end(out: &mut [u8], at: usize, page: bool) -> usize
-    requires { at + 20 ≤ length out.old }
-    ensures put { Put out.old at (written page "\n" "</td></tr>\n" []) out.new result }
-    ensures upper_bound { result ≤ at + 20 }
+fn put_end<const N: usize>(out: &mut Buffer<N>, page: bool)
+    requires { length out.old + 20 ≤ N }
+    ensures put { out.new ≡ out.old ++ written page "\n" "</td></tr>\n" [] }
+    ensures upper_bound { length out.new ≤ length out.old + 20 }
 {
-    text_or_page::put_words(out, at, page, b"\n", b"</td></tr>\n")
+    text_or_page::put_words(out, page, b"\n", b"</td></tr>\n");
 }
 
-pub fn put_item(out: &mut [u8], at: usize, page: bool, item: Item) -> usize
-    requires { at + 1700 ≤ length out.old }
-    ensures put { Put out.old at (item_line page item) out.new result }
-    ensures upper_bound { result ≤ at + 1700 }
+#[tactic(auto, unfolding(crate::specs::ItemLine::item_line))]
+pub fn put_item<const N: usize>(out: &mut Buffer<N>, page: bool, item: Item)
+    requires { length out.old + 1700 ≤ N }
+    ensures put { out.new ≡ out.old ++ item_line page item }
+    ensures upper_bound { length out.new ≤ length out.old + 1700 }
 {
     let state = item.state;
-    let mut next = sheet_state::put_state(out, at, page, state);
-    next = put_terms(out, next, page, item);
-    next = sheet_state::put_sent(out, next, page, item.sent);
-    next = sheet_state::put_marks(out, next, page, state);
-    put_end(out, next, page)
+    sheet_state::put_state(out, page, state);
+    put_terms(out, page, item);
+    sheet_state::put_sent(out, page, item.sent);
+    sheet_state::put_marks(out, page, state);
+    put_end(out, page);
 }

@@ -4,12 +4,13 @@
 mod line;
 mod rows;
 
-ghost use Rattle.std.specs.Prelude.{◌+◌, ◌≤◌, length};
+ghost use Rattle.std.specs.Prelude.{◌++◌, ◌≡◌, ◌+◌, ◌≤◌, length};
 ghost use Rattle.book.specs.Meaning.{ledger_of};
 ghost use Rattle.book.specs.Stored.{Kept};
-ghost use Rattle.text.specs.Text.{Put};
 ghost use Rattle.text_or_page.specs.Table.{table_of};
 ghost use Rattle.sheet_requests.specs.Rows.{requests_head, request_rows};
+
+use text::Buffer;
 
 // What stands above the rows of a page.
 const HEAD: [u8; 260] =
@@ -18,12 +19,12 @@ const HEAD: [u8; 260] =
     </tr></thead>\n<tbody>\n";
 
 // The open requests for paper.
-pub fn put_requests(out: &mut [u8], at: usize, page: bool, book: &[u64]) -> usize
-    requires { Kept book.now × (at + 15000 ≤ length out.old) }
-    ensures put { Put out.old at (table_of page requests_head (request_rows page (ledger_of book.now).requests)) out.new result }
-    ensures upper_bound { result ≤ at + 15000 }
+pub fn put_requests<const N: usize>(out: &mut Buffer<N>, page: bool, book: &[u64])
+    requires { Kept book.now × (length out.old + 15000 ≤ N) }
+    ensures put { out.new ≡ out.old ++ table_of page requests_head (request_rows page (ledger_of book.now).requests) }
+    ensures upper_bound { length out.new ≤ length out.old + 15000 }
 {
-    let mut next = text_or_page::put_in_page(out, at, page, &HEAD);
-    next = rows::put_rows(out, next, page, book);
-    text_or_page::put_foot(out, next, page)
+    text_or_page::put_in_page(out, page, &HEAD);
+    rows::put_rows(out, page, book);
+    text_or_page::put_foot(out, page);
 }

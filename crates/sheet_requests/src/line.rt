@@ -1,25 +1,24 @@
 // A request's line.
-ghost use Rattle.std.specs.Prelude.{◌+◌, ◌≤◌, length};
-ghost use Rattle.text.specs.Text.{Put};
+ghost use Rattle.std.specs.Prelude.{◌++◌, ◌≡◌, ◌+◌, ◌≤◌, length};
 ghost use Rattle.sheet_requests.specs.Line.{request_line};
 
 use rulebook::Request;
+use text::Buffer;
 
-pub fn put_line(
-    out: &mut [u8],
-    at: usize,
+#[tactic(auto, unfolding(crate::specs::Line::request_line))]
+pub fn put_line<const N: usize>(
+    out: &mut Buffer<N>,
     page: bool,
     member: u64,
     reference: u64,
     request: Request,
-) -> usize
-    requires { at + 900 ≤ length out.old }
-    ensures put { Put out.old at (request_line page member reference request) out.new result }
-    ensures upper_bound { result ≤ at + 900 }
+)
+    requires { length out.old + 900 ≤ N }
+    ensures put { out.new ≡ out.old ++ request_line page member reference request }
+    ensures upper_bound { length out.new ≤ length out.old + 900 }
 {
     text_or_page::put_written(
         out,
-        at,
         page,
         b"REQUEST MEMBER # REFERENCE # SECURITY # TYPE # (%) SHAREHOLDER # QUANTITY # DAY #\n",
         b"<tr><td class=n>#</td><td class=n>#</td><td class=n>#</td><td class=n>#</td><td>%</td>\
@@ -34,5 +33,5 @@ pub fn put_line(
             request.quantity.0,
             request.day,
         ],
-    )
+    );
 }

@@ -1,19 +1,19 @@
 // The state of a waiting item, with its references.
-ghost use Rattle.std.specs.Prelude.{◌+◌, ◌≤◌, length};
-ghost use Rattle.text.specs.Text.{Put};
+ghost use Rattle.std.specs.Prelude.{◌++◌, ◌≡◌, ◌+◌, ◌≤◌, length};
 ghost use Rattle.sheet_state.specs.State.{state_of};
 
 use rulebook::State;
+use text::Buffer;
 
-fn put_single(out: &mut [u8], at: usize, page: bool, delivers: bool, reference: u64) -> usize
-    requires { at + 130 ≤ length out.old }
-    ensures put { Put out.old at (state_of page (State.Single delivers reference)) out.new result }
-    ensures upper_bound { result ≤ at + 130 }
+#[tactic(auto, unfolding(crate::specs::State::state_of))]
+fn put_single<const N: usize>(out: &mut Buffer<N>, page: bool, delivers: bool, reference: u64)
+    requires { length out.old + 130 ≤ N }
+    ensures put { out.new ≡ out.old ++ state_of page (State.Single delivers reference) }
+    ensures upper_bound { length out.new ≤ length out.old + 130 }
 {
     if delivers {
         return text_or_page::put_one(
             out,
-            at,
             page,
             b"DELIVER #",
             b"<tr><td>deliver</td><td>#</td>",
@@ -22,32 +22,31 @@ fn put_single(out: &mut [u8], at: usize, page: bool, delivers: bool, reference: 
     }
     text_or_page::put_one(
         out,
-        at,
         page,
         b"RECEIVE #",
         b"<tr><td>receive</td><td>#</td>",
         reference,
-    )
+    );
 }
 
 // The state and the references.
-pub fn put_state(out: &mut [u8], at: usize, page: bool, state: State) -> usize
-    requires { at + 220 ≤ length out.old }
-    ensures put { Put out.old at (state_of page state) out.new result }
-    ensures upper_bound { result ≤ at + 220 }
+#[tactic(auto, unfolding(crate::specs::State::state_of))]
+pub fn put_state<const N: usize>(out: &mut Buffer<N>, page: bool, state: State)
+    requires { length out.old + 220 ≤ N }
+    ensures put { out.new ≡ out.old ++ state_of page state }
+    ensures upper_bound { length out.new ≤ length out.old + 220 }
 {
     match state {
         State::Single {
             delivers,
             reference,
-        } => put_single(out, at, page, delivers, reference),
+        } => put_single(out, page, delivers, reference),
         State::Pair {
             deliver_reference,
             receive_reference,
             ..
         } => text_or_page::put_written(
             out,
-            at,
             page,
             b"PAIR # AND #",
             b"<tr><td>pair</td><td># and #</td>",
@@ -55,7 +54,6 @@ pub fn put_state(out: &mut [u8], at: usize, page: bool, state: State) -> usize
         ),
         State::Trade { reference } => text_or_page::put_one(
             out,
-            at,
             page,
             b"EXCHANGE TRADE #",
             b"<tr><td>exchange trade</td><td>#</td>",

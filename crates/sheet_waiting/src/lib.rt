@@ -3,12 +3,13 @@
 
 mod rows;
 
-ghost use Rattle.std.specs.Prelude.{◌+◌, ◌≤◌, length};
+ghost use Rattle.std.specs.Prelude.{◌++◌, ◌≡◌, ◌+◌, ◌≤◌, length};
 ghost use Rattle.book.specs.Meaning.{ledger_of};
 ghost use Rattle.book.specs.Stored.{Kept};
-ghost use Rattle.text.specs.Text.{Put};
 ghost use Rattle.text_or_page.specs.Table.{table_of};
 ghost use Rattle.sheet_waiting.specs.Rows.{waiting_head, waiting_rows};
+
+use text::Buffer;
 
 // What stands above the rows of a page.
 const HEAD: [u8; 322] =
@@ -17,12 +18,12 @@ const HEAD: [u8; 322] =
     <th class=n>Settlement day</th><th>Marked</th></tr></thead>\n<tbody>\n";
 
 // What waits.
-pub fn put_waiting(out: &mut [u8], at: usize, page: bool, book: &[u64]) -> usize
-    requires { Kept book.now × (at + 109400 ≤ length out.old) }
-    ensures put { Put out.old at (table_of page waiting_head (waiting_rows page (ledger_of book.now).waiting)) out.new result }
-    ensures upper_bound { result ≤ at + 109400 }
+pub fn put_waiting<const N: usize>(out: &mut Buffer<N>, page: bool, book: &[u64])
+    requires { Kept book.now × (length out.old + 109400 ≤ N) }
+    ensures put { out.new ≡ out.old ++ table_of page waiting_head (waiting_rows page (ledger_of book.now).waiting) }
+    ensures upper_bound { length out.new ≤ length out.old + 109400 }
 {
-    let mut next = text_or_page::put_in_page(out, at, page, &HEAD);
-    next = rows::put_rows(out, next, page, book);
-    text_or_page::put_foot(out, next, page)
+    text_or_page::put_in_page(out, page, &HEAD);
+    rows::put_rows(out, page, book);
+    text_or_page::put_foot(out, page);
 }

@@ -1,33 +1,35 @@
 // The rows of the waiting items.
-ghost use Rattle.std.specs.Prelude.{◌+◌, ◌≤◌, ◌<◌, length, get_or};
+ghost use Rattle.std.specs.Prelude.{◌++◌, ◌≡◌, ◌+◌, ◌≤◌, ◌<◌, length, get_or};
 ghost use Rattle.rulebook.specs.declared.Item.{Item};
 ghost use Rattle.book.specs.Meaning.{ledger_of};
 ghost use Rattle.book.specs.Stored.{Kept};
-ghost use Rattle.text.specs.Text.{Put};
 ghost use Rattle.sheet_item.specs.ItemLine.{item_line};
 ghost use Rattle.sheet_waiting.specs.Rows.{waiting_rows};
 
+use text::Buffer;
+
 // The row of the item at `i`.
-fn put_row(out: &mut [u8], at: usize, page: bool, book: &[u64], i: usize) -> usize
-    requires { Kept book.now × (i < length (ledger_of book.now).waiting) × (at + 1700 ≤ length out.old) }
-    ensures put { (d : Item) → Put out.old at (item_line page (get_or (ledger_of book.now).waiting i d)) out.new result }
-    ensures upper_bound { result ≤ at + 1700 }
+fn put_row<const N: usize>(out: &mut Buffer<N>, page: bool, book: &[u64], i: usize)
+    requires { Kept book.now × (i < length (ledger_of book.now).waiting) × (length out.old + 1700 ≤ N) }
+    ensures put { (d : Item) → out.new ≡ out.old ++ item_line page (get_or (ledger_of book.now).waiting i d) }
+    ensures upper_bound { length out.new ≤ length out.old + 1700 }
 {
     let item = reading::item_at(book, i);
-    sheet_item::put_item(out, at, page, item)
+    sheet_item::put_item(out, page, item);
 }
 
 // In order of arrival: at most 64.
-pub fn put_rows(out: &mut [u8], at: usize, page: bool, book: &[u64]) -> usize
-    requires { Kept book.now × (at + 108800 ≤ length out.old) }
-    ensures put { Put out.old at (waiting_rows page (ledger_of book.now).waiting) out.new result }
-    ensures upper_bound { result ≤ at + 108800 }
+#[tactic(auto, unfolding(crate::specs::Rows::waiting_rows))]
+pub fn put_rows<const N: usize>(out: &mut Buffer<N>, page: bool, book: &[u64])
+    requires { Kept book.now × (length out.old + 108800 ≤ N) }
+    ensures put { out.new ≡ out.old ++ waiting_rows page (ledger_of book.now).waiting }
+    ensures upper_bound { length out.new ≤ length out.old + 108800 }
 {
     let n = reading::items(book);
-    let mut next = at;
+    at;
     let mut i: usize = 0;
     while i < n {
-        next = put_row(out, next, page, book, i);
+        put_row(out, page, book, i);
         i += 1;
     }
     next

@@ -3,42 +3,38 @@
 
 mod told;
 
-ghost use Rattle.std.specs.Prelude.{◌+◌, ◌≤◌, length};
-ghost use Rattle.text.specs.Text.{Put};
+ghost use Rattle.std.specs.Prelude.{◌++◌, ◌≡◌, ◌+◌, ◌≤◌, length};
 ghost use Rattle.statement_lines.specs.Lines.{refused_line, answer_line};
 
 use rulebook::Answer;
+use text::Buffer;
 pub use told::put_rows;
 
-fn put_refused(out: &mut [u8], at: usize, number: u64, form: u64, refusal: u64) -> usize
-    requires { at + 512 ≤ length out.old }
-    ensures put { Put out.old at (refused_line number form refusal) out.new result }
-    ensures upper_bound { result ≤ at + 512 }
+#[tactic(auto, unfolding(crate::specs::Lines::refused_line))]
+fn put_refused<const N: usize>(out: &mut Buffer<N>, number: u64, form: u64, refusal: u64)
+    requires { length out.old + 512 ≤ N }
+    ensures put { out.new ≡ out.old ++ refused_line number form refusal }
+    ensures upper_bound { length out.new ≤ length out.old + 512 }
 {
     if form == 0 {
-        return wording::put_filled(
-            out,
-            at,
-            b"#: refused by #, !\n",
-            &[number, refusal, refusal],
-        );
+        return wording::put_filled(out, b"#: refused by #, !\n", &[number, refusal, refusal]);
     }
     wording::put_filled(
         out,
-        at,
         b"# ^: refused by #, !\n",
         &[number, form, refusal, refusal],
-    )
+    );
 }
 
 // A record's answer, with its form's name; form 0 is that of a record that does not read.
-pub fn put_answer(out: &mut [u8], at: usize, number: u64, form: u64, answer: Answer) -> usize
-    requires { at + 512 ≤ length out.old }
-    ensures put { Put out.old at (answer_line number form answer) out.new result }
-    ensures upper_bound { result ≤ at + 512 }
+#[tactic(auto, unfolding(crate::specs::Lines::answer_line))]
+pub fn put_answer<const N: usize>(out: &mut Buffer<N>, number: u64, form: u64, answer: Answer)
+    requires { length out.old + 512 ≤ N }
+    ensures put { out.new ≡ out.old ++ answer_line number form answer }
+    ensures upper_bound { length out.new ≤ length out.old + 512 }
 {
     match answer {
-        Answer::Accepted(_) => { wording::put_filled(out, at, b"# ^: accepted\n", &[number, form]) }
-        Answer::Refused(refusal) => put_refused(out, at, number, form, refusal),
+        Answer::Accepted(_) => { wording::put_filled(out, b"# ^: accepted\n", &[number, form]) }
+        Answer::Refused(refusal) => put_refused(out, number, form, refusal),
     }
 }

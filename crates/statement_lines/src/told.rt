@@ -1,32 +1,35 @@
 // The lines of the rows that a call wrote into its area.
-ghost use Rattle.std.specs.Prelude.{Bool, ◌+◌, ◌*◌, ◌≤◌, length};
-ghost use Rattle.text.specs.Text.{Put};
+ghost use Rattle.std.specs.Prelude.{◌++◌, ◌≡◌, Bool, ◌+◌, ◌*◌, ◌≤◌, length};
 ghost use Rattle.statement_lines.specs.Lines.{row_line, row_lines};
 
+use text::Buffer;
+
 // The line of a row's 16 bytes: a posting row, or else a notice.
-fn put_row(out: &mut [u8], at: usize, posts: bool, row: &[u8]) -> usize
-    requires { (16 ≤ length row.now) × (at + 512 ≤ length out.old) }
-    ensures put { Put out.old at (row_line posts row.now) out.new result }
-    ensures upper_bound { result ≤ at + 512 }
+#[tactic(auto, unfolding(crate::specs::Lines::row_line))]
+fn put_row<const N: usize>(out: &mut Buffer<N>, posts: bool, row: &[u8])
+    requires { (16 ≤ length row.now) × (length out.old + 512 ≤ N) }
+    ensures put { out.new ≡ out.old ++ row_line posts row.now }
+    ensures upper_bound { length out.new ≤ length out.old + 512 }
 {
     if posts {
-        return row_lines::put_posting(out, at, rows::posting_in(row));
+        return row_lines::put_posting(out, rows::posting_in(row));
     }
-    row_lines::put_notice(out, at, rows::notice_in(row))
+    row_lines::put_notice(out, rows::notice_in(row));
 }
 
 // The lines of the first rows of an area.
-pub fn put_rows(out: &mut [u8], at: usize, posts: bool, count: usize, area: &[u8]) -> usize
-    requires { (16 * count ≤ length area.now) × (at + 512 * count ≤ length out.old) }
-    ensures put { Put out.old at (row_lines posts count area.now) out.new result }
-    ensures upper_bound { result ≤ at + 512 * count }
+#[tactic(auto, unfolding(crate::specs::Lines::row_lines))]
+pub fn put_rows<const N: usize>(out: &mut Buffer<N>, posts: bool, count: usize, area: &[u8])
+    requires { (16 * count ≤ length area.now) × (length out.old + 512 * count ≤ N) }
+    ensures put { out.new ≡ out.old ++ row_lines posts count area.now }
+    ensures upper_bound { length out.new ≤ length out.old + 512 * count }
 {
-    let mut next = at;
+    at;
     let mut i: usize = 0;
     while i < count {
         let start = 16 * i;
         let end = start + 16;
-        next = put_row(out, next, posts, &area[start..end]);
+        put_row(out, posts, &area[start..end]);
         i += 1;
     }
     next

@@ -1,5 +1,5 @@
 // Records called one after the other, and their lines.
-ghost use Rattle.std.specs.Prelude.{Bool, ◌∷◌, [], ◌≡◌, ◌+◌, ◌*◌, ◌^◌, ◌≤◌, ◌<◌, length, drop};
+ghost use Rattle.std.specs.Prelude.{◌++◌, Bool, ◌∷◌, [], ◌≡◌, ◌+◌, ◌*◌, ◌^◌, ◌≤◌, ◌<◌, length, drop};
 ghost use Rattle.rulebook.specs.Call.{answer_rows};
 ghost use Rattle.rulebook.specs.Forms.{row_of};
 ghost use Rattle.rulebook.specs.Record.{read_of};
@@ -10,6 +10,7 @@ ghost use Rattle.statements.specs.Stated.{form_in, RECORD, Stated, PartPut};
 
 use file::{Cursor, Next};
 use rulebook::{Answer, Read};
+use text::Buffer;
 
 // More bytes than the lines of one record: 512 for its answer, and 512 for each of 256 rows.
 pub const RECORD: usize = 131584;
@@ -54,36 +55,34 @@ fn rows_of(answer: Answer) -> usize
 }
 
 // One record is called, and its lines put: its answer, then the rows that the call wrote.
-pub fn put_record(
-    out: &mut [u8],
-    at: usize,
+pub fn put_record<const N: usize>(
+    out: &mut Buffer<N>,
     number: u64,
     book: &mut [u64],
     octets: &[u8],
     area: &mut [u8],
-) -> usize
-    requires { Kept book.old × (at + RECORD ≤ length out.old) }
+)
+    requires { Kept book.old × (length out.old + RECORD ≤ N) }
     ensures stated { Stated number (octets.now ∷ []) (lent book.old area.old out.old at)
         (lent book.new area.new out.new result) }
-    ensures upper_bound { result ≤ at + RECORD }
+    ensures upper_bound { length out.new ≤ length out.old + RECORD }
 {
     let answer = ledger::call(book, octets, area);
     let form = form_of(octets);
-    let next = statement_lines::put_answer(out, at, number, form, answer);
-    statement_lines::put_rows(out, next, posts(form), rows_of(answer), area)
+    statement_lines::put_answer(out, number, form, answer);
+    statement_lines::put_rows(out, posts(form), rows_of(answer), area)
 }
 
 // The records of a file are called from a place on, until it ends or the next one's lines might not fit.
-pub fn put_part(
-    out: &mut [u8],
-    at: usize,
+pub fn put_part<const N: usize>(
+    out: &mut Buffer<N>,
     number: u64,
     book: &mut [u64],
     file: &[u8],
     from: usize,
     area: &mut [u8],
 ) -> Part
-    requires { Kept book.old × (at ≤ length out.old) × (number + length (records_of (drop from file.now)) < 2 ^ 64) }
+    requires { Kept book.old × (length out.old ≤ N) × (number + length (records_of (drop from file.now)) < 2 ^ 64) }
     ensures { PartPut file.now from number (lent book.old area.old out.old at) result
         (lent book.new area.new out.new result.end) }
 {

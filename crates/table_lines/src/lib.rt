@@ -1,50 +1,49 @@
 // The lines of the table that records say.
 #![tactic(auto)]
 
-ghost use Rattle.std.specs.Prelude.{◌+◌, ◌*◌, ◌≤◌, length};
+ghost use Rattle.std.specs.Prelude.{◌++◌, ◌≡◌, ◌+◌, ◌*◌, ◌≤◌, length};
 ghost use Rattle.rulebook.specs.Record.{read_of};
-ghost use Rattle.text.specs.Text.{Put};
 ghost use Rattle.file.specs.Records.{records_of};
 ghost use Rattle.table_lines.specs.Exported.{name_line, order_line, read_line, record_lines};
 
 use file::{Cursor, Next};
 use rulebook::{Order, Read};
+use text::Buffer;
 
 // The first line.
-pub fn put_names(out: &mut [u8], at: usize) -> usize
-    requires { at + 300 ≤ length out.old }
-    ensures { Put out.old at name_line out.new result }
+#[tactic(auto, unfolding(crate::specs::Exported::name_line))]
+pub fn put_names<const N: usize>(out: &mut Buffer<N>)
+    requires { length out.old + 300 ≤ N }
+    ensures { out.new ≡ out.old ++ name_line }
 {
-    text::put_bytes(
-        out,
-        at,
+    text::put_bytes(out,
         b"form,minute,security,currency,debited member,debited type,credited member,credited type,debited shareholder,\
         credited shareholder,quantity,amount,trade day,settlement day,reference,operation,original,edition\n",
-    )
+    );
 }
 
 // An order's line. A name or a number takes at most 80 bytes.
-fn put_order(out: &mut [u8], at: usize, order: Order) -> usize
-    requires { at + 1556 ≤ length out.old }
-    ensures put { Put out.old at (order_line order) out.new result }
-    ensures upper_bound { result ≤ at + 1556 }
+#[tactic(auto, unfolding(crate::specs::Exported::order_line))]
+fn put_order<const N: usize>(out: &mut Buffer<N>, order: Order)
+    requires { length out.old + 1556 ≤ N }
+    ensures put { out.new ≡ out.old ++ order_line order }
+    ensures upper_bound { length out.new ≤ length out.old + 1556 }
 {
     let fields = layout::fields_of(order);
-    wording::put_filled(out, at, b"^,#,#,#,#,#,#,#,#,#,#,#,#,#,#,#,#,#\n", &fields)
+    wording::put_filled(out, b"^,#,#,#,#,#,#,#,#,#,#,#,#,#,#,#,#,#\n", &fields);
 }
 
 // A record's line.
-fn put_record(out: &mut [u8], at: usize, octets: &[u8]) -> usize
-    requires { at + 1556 ≤ length out.old }
-    ensures put { Put out.old at (read_line (read_of octets.now)) out.new result }
-    ensures upper_bound { result ≤ at + 1556 }
+#[tactic(auto, unfolding(crate::specs::Exported::read_line))]
+fn put_record<const N: usize>(out: &mut Buffer<N>, octets: &[u8])
+    requires { length out.old + 1556 ≤ N }
+    ensures put { out.new ≡ out.old ++ read_line (read_of octets.now) }
+    ensures upper_bound { length out.new ≤ length out.old + 1556 }
 {
     let answer = record::read(octets);
     match answer {
-        Read::Order(order) => put_order(out, at, order),
-        Read::Refused(number) => wording::put_filled(
-            out,
-            at,
+        Read::Order(order) => put_order(out, order),
+        Read::Refused(number) => wording::put_filled(out,
             b"unreadable: refused by # (!)\n",
             &[number, number],
         ),
@@ -52,9 +51,10 @@ fn put_record(out: &mut [u8], at: usize, octets: &[u8]) -> usize
 }
 
 // The lines of the records of a file.
-pub fn put_records(out: &mut [u8], at: usize, file: &[u8]) -> usize
-    requires { at + 1556 * length (records_of file.now) ≤ length out.old }
-    ensures { Put out.old at (record_lines (records_of file.now)) out.new result }
+#[tactic(auto, unfolding(crate::specs::Exported::record_lines))]
+pub fn put_records<const N: usize>(out: &mut Buffer<N>, file: &[u8])
+    requires { length out.old + 1556 * length (records_of file.now) ≤ N }
+    ensures { out.new ≡ out.old ++ record_lines (records_of file.now) }
 {
     let mut cursor = Cursor { at: 0 };
     let mut place = at;

@@ -1,13 +1,15 @@
 -- A number's decimal digits: by their last one, how many there are, that they read back as the number, and no leading zero. Assumes nothing.
 use Rattle.std.specs.Prelude.{if◌then◌else◌}
-use Prim.Native.Nat.{ℕ, zero, suc, ◌+◌, ◌-◌, ◌*◌, ◌/◌, ◌%◌, ◌^◌, ◌≤◌, ◌<◌}
+use Prim.Native.Nat.{ℕ, zero, suc, ◌/◌, ◌%◌, ◌^◌, ◌≤◌, ◌<◌}
 use native.Mathlib.Nat.{pow-suc, div-lt_iff_lt-mul}
 use native.Mathlib.Omega.{arith}
 use mathlib.Core.Bool.{Bool, true, false}
-use mathlib.Core.List.{List, [], ◌∷◌, ◌++◌}
-use mathlib.Core.Path.{◌≡◌, refl, sym, ap, ◌∙◌}
-use lib.ListN.{length, get_or, length-append}
+use mathlib.Core.List.{List, ◌++◌}
+use mathlib.Core.Path.{◌≡◌, refl, sym, ◌∙◌}
+use lib.ListN.{length, length-append}
 use borrow.Author.Tests.{lt-ltb, le-ltb, ltb-true, ltb-false}
+use Rattle.std.specs.Fmt as Fmt
+use Rattle.std.proofs.lemmas.Fmt.{decimal_by_steps}
 use Rattle.plain.specs.Lists.{◌below◌}
 use Rattle.text.specs.Text.{digit, digits, decimal}
 
@@ -66,29 +68,6 @@ decimal-short n h = of-decimal (λ n l. (places : ℕ) → n < 10 ^ suc places �
         let fewer : n / 10 < 10 ^ suc places = (div-lt_iff_lt-mul {k = 10} (omega arith)).1 (rw (pow-suc 10 (suc places)) at k) in
         rw (length-append front (digit (n % 10))) (omega (arith, e places fewer))
 
--- so there is room for the last of them behind the others
-pub front-short : (n : ℕ) → n < 2 ^ 64 → 10 ≤ n → length (decimal (n / 10)) < 20
-front-short n h large =
-    let all : length (decimal n) ≡ length (decimal (n / 10)) + 1 = ap length (decimal-more n large) ∙ length-append (decimal (n / 10)) (digit (n % 10)) in
-    omega (arith, decimal-short n h)
-
--- the number that bytes say, read from left to right
-abbrev pub read : (before : ℕ) → List ℕ → ℕ
-read before [] = before
-read before (b ∷ rest) = read (before * 10 + (b - 48)) rest
-
-read-last : (before : ℕ) (front : List ℕ) (d : ℕ) → read before (front ++ digit d) ≡ read before front * 10 + d
-read-last before [] d = omega arith
-read-last before (b ∷ front) d = read-last (before * 10 + (b - 48)) front d
-
--- a number's digits read back as the number
-pub decimal-read : (n : ℕ) → read 0 (decimal n) ≡ n
-decimal-read = of-decimal (λ n l. read 0 l ≡ n) (λ n small. omega arith) (λ n front large e. read-last 0 front (n % 10) ∙ rw e (omega arith))
-
--- and no number but 0 starts with a zero
-pub decimal-first : (n : ℕ) → 0 < n → 48 < get_or (decimal n) 0 0
-decimal-first = of-decimal (λ n l. 0 < n → 48 < get_or l 0 0) (λ n small h. omega arith) (λ n front large e h. front-first front (n % 10) (e (omega arith)))
-  where
-    front-first : (l : List ℕ) (d : ℕ) → 48 < get_or l 0 0 → 48 < get_or (l ++ digit d) 0 0
-    front-first [] d h = absurd (omega arith)
-    front-first (b ∷ l) d h = h
+-- they are the library's
+pub decimal-library : (n : ℕ) → n < 2 ^ 64 → Fmt.decimal n ≡ decimal n
+decimal-library = decimal_by_steps (λ n l. l ≡ decimal n) (λ n small. sym (decimal-one n small)) (λ n front large e. rw e (sym (decimal-more n large)))

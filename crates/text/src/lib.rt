@@ -1,52 +1,8 @@
-// Texts as bytes. A function that puts bytes into a buffer puts them from a place on, and answers the place behind them.
+// Texts as bytes: a buffer that words and numbers are put into, a text cut at a mark.
 #![tactic(auto)]
 
+mod buffer;
 mod parts;
 
-ghost use Rattle.std.specs.Prelude.{◌++◌, ◌+◌, ◌≤◌, ◌<◌, length};
-ghost use Rattle.text.specs.Text.{digit, decimal, Put};
-
+pub use buffer::Buffer;
 pub use parts::{end_of, part, place_in, put_part, same};
-
-pub fn put_bytes(out: &mut [u8], at: usize, bytes: &[u8]) -> usize
-    requires { at + length bytes.now ≤ length out.old }
-    ensures { Put out.old at bytes.now out.new result }
-{
-    let mut i: usize = 0;
-    while i < bytes.len() {
-        out[at + i] = bytes[i];
-        i += 1;
-    }
-    at + i
-}
-
-fn put_digit(out: &mut [u8], at: usize, d: u64) -> usize
-    requires { (at < length out.old) × (d < 10) }
-    ensures { Put out.old at (digit d) out.new result }
-{
-    out[at] = (48 + d) as u8;
-    at + 1
-}
-
-// A number in decimal digits: at most 20, as it is below 2^64.
-pub fn put_number(out: &mut [u8], at: usize, n: u64) -> usize
-    requires { at + 20 ≤ length out.old }
-    ensures put { Put out.old at (decimal n) out.new result }
-    ensures upper_bound { result ≤ at + 20 }
-{
-    if n < 10 {
-        return put_digit(out, at, n);
-    }
-    let next = put_number(out, at, n / 10);
-    put_digit(out, next, n % 10)
-}
-
-// Words, and a number behind them.
-pub fn put_figure(out: &mut [u8], at: usize, words: &[u8], n: u64) -> usize
-    requires { at + length words.now + 20 ≤ length out.old }
-    ensures put { Put out.old at (words.now ++ decimal n) out.new result }
-    ensures upper_bound { result ≤ at + length words.now + 20 }
-{
-    let next = put_bytes(out, at, words);
-    put_number(out, next, n)
-}

@@ -1,7 +1,8 @@
 // A text cut at a mark, and a text found among others.
-ghost use Rattle.std.specs.Prelude.{[], ◌∷◌, ◌≡◌, ◌+◌, ◌≤◌, length, get_or, drop};
-ghost use Rattle.text.specs.Text.{Put};
+ghost use Rattle.std.specs.Prelude.{[], ◌∷◌, ◌++◌, ◌≡◌, ◌+◌, ◌≤◌, length, get_or, drop};
 ghost use Rattle.text.specs.Parts.{up_to, split, same_text, place_in, Short};
+
+use crate::Buffer;
 
 // The place of the first mark from a place on, or the end.
 pub fn end_of(bytes: &[u8], at: usize, mark: u8) -> usize
@@ -70,13 +71,12 @@ pub fn place_in(bytes: &[u8], mark: u8, name: &[u8]) -> usize
 }
 
 // The part with a number, counted from 1; nothing where there is none. Names have at most 80 bytes.
-pub fn put_part(out: &mut [u8], at: usize, bytes: &[u8], mark: u8, number: u64) -> usize
-    requires { (at + 80 ≤ length out.old) × Short (split mark bytes.now) }
-    ensures put { Put out.old at (get_or ([] ∷ split mark bytes.now) number []) out.new result }
-    ensures upper_bound { result ≤ at + 80 }
+pub fn put_part<const N: usize>(out: &mut Buffer<N>, bytes: &[u8], mark: u8, number: u64)
+    requires { (length out.old + 80 ≤ N) × Short (split mark bytes.now) }
+    ensures put { out.new ≡ out.old ++ get_or ([] ∷ split mark bytes.now) number [] }
+    ensures upper_bound { length out.new ≤ length out.old + 80 }
 {
-    if number == 0 {
-        return at;
+    if number != 0 {
+        out.put(part(bytes, mark, (number - 1) as usize));
     }
-    crate::put_bytes(out, at, part(bytes, mark, (number - 1) as usize))
 }

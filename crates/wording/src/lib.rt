@@ -1,9 +1,10 @@
 // Lines: a pattern, and the numbers that its signs stand for.
 #![tactic(auto)]
 
-ghost use Rattle.std.specs.Prelude.{true, ◌≡◌, ◌+◌, ◌*◌, ◌≤◌, length, drop};
-ghost use Rattle.text.specs.Text.{Put};
+ghost use Rattle.std.specs.Prelude.{◌++◌, true, ◌≡◌, ◌+◌, ◌*◌, ◌≤◌, length};
 ghost use Rattle.wording.specs.Fill.{is_sign, said, part, left, fill};
+
+use text::Buffer;
 
 fn is_sign(b: u8) -> bool
     ensures { result ≡ is_sign b }
@@ -20,80 +21,59 @@ fn is_sign(b: u8) -> bool
 }
 
 // What a sign says of a number. Names have at most 80 bytes.
-fn put_said(out: &mut [u8], at: usize, sign: u8, n: u64) -> usize
-    requires { at + 80 ≤ length out.old }
-    ensures put { Put out.old at (said sign n) out.new result }
-    ensures upper_bound { result ≤ at + 80 }
+fn put_said<const N: usize>(out: &mut Buffer<N>, sign: u8, n: u64)
+    requires { length out.old + 80 ≤ N }
+    ensures put { out.new ≡ out.old ++ said sign n }
+    ensures upper_bound { length out.new ≤ length out.old + 80 }
 {
     match sign {
-        b'#' => text::put_number(out, at, n),
-        b'$' => names::put_currency(out, at, n),
-        b'%' => names::put_type(out, at, n),
-        b'*' => names::put_notice(out, at, n),
-        b'!' => names::put_refusal(out, at, n),
-        _ => names::put_form(out, at, n),
+        b'#' => out.put_number(n),
+        b'$' => names::put_currency(out, n),
+        b'%' => names::put_type(out, n),
+        b'*' => names::put_notice(out, n),
+        b'!' => names::put_refusal(out, n),
+        _ => names::put_form(out, n),
     }
 }
 
-// The place behind what was put, and that of the next number.
-#[derive(Clone, Copy)]
-struct Placed {
-    next: usize,
-    number: usize,
-}
-
-// What a sign says of the number at a place; nothing where there is none.
-fn put_sign(out: &mut [u8], at: usize, sign: u8, numbers: &[u64], number: usize) -> Placed
-    requires { (number ≤ length numbers.now) × (at + 80 * length (drop number numbers.now) ≤ length out.old) }
-    ensures put { Put out.old at (part true sign (drop number numbers.now)) out.new result.next }
-    ensures number_in_bounds { (result.number ≤ length numbers.now) × (drop result.number numbers.now ≡ left true (drop number numbers.now))
-        × (result.next + 80 * length (drop result.number numbers.now) ≤ at + 80 * length (drop number numbers.now)) }
+// What a sign says of the first number; nothing where there is none. The numbers behind it are answered.
+fn put_sign<'a, const N: usize>(out: &mut Buffer<N>, sign: u8, numbers: &'a [u64]) -> &'a [u64]
+    requires { length out.old + 80 * length numbers.now ≤ N }
+    ensures put { out.new ≡ out.old ++ part true sign numbers.now }
+    ensures rest { result.now ≡ left true numbers.now }
+    ensures upper_bound { length out.new + 80 * length result.now ≤ length out.old + 80 * length numbers.now }
 {
-    if number == numbers.len() {
-        return Placed {
-            next: at,
-            number: number,
-        };
-    }
-    let n = numbers[number];
-    let next = put_said(out, at, sign, n);
-    Placed {
-        next: next,
-        number: number + 1,
+    match numbers.split_first() {
+        Some((n, rest)) => {
+            put_said(out, sign, *n);
+            rest
+        }
+        None => numbers,
     }
 }
 
-// What a byte of a pattern says, where the numbers from a place on are left.
-fn put_byte(out: &mut [u8], at: usize, b: u8, numbers: &[u64], number: usize) -> Placed
-    requires { (number ≤ length numbers.now) × (at + 1 + 80 * length (drop number numbers.now) ≤ length out.old) }
-    ensures put { Put out.old at (part (is_sign b) b (drop number numbers.now)) out.new result.next }
-    ensures number_in_bounds { (result.number ≤ length numbers.now) × (drop result.number numbers.now ≡ left (is_sign b) (drop number numbers.now))
-        × (result.next + 80 * length (drop result.number numbers.now) ≤ at + 1 + 80 * length (drop number numbers.now)) }
+// What a byte of a pattern says, where these numbers are left. Those that are left behind it are answered.
+fn put_byte<'a, const N: usize>(out: &mut Buffer<N>, b: u8, numbers: &'a [u64]) -> &'a [u64]
+    requires { length out.old + 1 + 80 * length numbers.now ≤ N }
+    ensures put { out.new ≡ out.old ++ part (is_sign b) b numbers.now }
+    ensures rest { result.now ≡ left (is_sign b) numbers.now }
+    ensures upper_bound { length out.new + 80 * length result.now ≤ length out.old + 1 + 80 * length numbers.now }
 {
     if is_sign(b) {
-        return put_sign(out, at, b, numbers, number);
+        return put_sign(out, b, numbers);
     }
-    out[at] = b;
-    Placed {
-        next: at + 1,
-        number: number,
-    }
+    out.put(&[b]);
+    numbers
 }
 
 // A pattern with its numbers in the places of its signs.
-pub fn put_filled(out: &mut [u8], at: usize, pattern: &[u8], numbers: &[u64]) -> usize
-    requires { at + length pattern.now + 80 * length numbers.now ≤ length out.old }
-    ensures put { Put out.old at (fill pattern.now numbers.now) out.new result }
-    ensures upper_bound { result ≤ at + length pattern.now + 80 * length numbers.now }
+pub fn put_filled<const N: usize>(out: &mut Buffer<N>, pattern: &[u8], numbers: &[u64])
+    requires { length out.old + length pattern.now + 80 * length numbers.now ≤ N }
+    ensures put { out.new ≡ out.old ++ fill pattern.now numbers.now }
+    ensures upper_bound { length out.new ≤ length out.old + length pattern.now + 80 * length numbers.now }
 {
-    let mut next = at;
-    let mut number: usize = 0;
-    let mut i: usize = 0;
-    while i < pattern.len() {
-        let placed = put_byte(out, next, pattern[i], numbers, number);
-        next = placed.next;
-        number = placed.number;
-        i += 1;
+    let mut left = numbers;
+    for b in pattern {
+        left = put_byte(out, *b, left);
     }
-    next
 }
