@@ -10,8 +10,7 @@ use lib.ListN.{length, get_or, take}
 use lib.Seq.{take-suc, take-length}
 use Rattle.plain.specs.Lists.{sum_below}
 use Rattle.plain.proofs.Sums.{sum-grows}
-use Rattle.text.specs.Text.{Put}
-use Rattle.text.proofs.Putting.{put-none, put_then}
+use Rattle.text.proofs.Putting.{put_then}
 use Rattle.book.specs.Keys.{Next}
 use Rattle.listing.specs.InOrder.{each_below, each_of}
 use Rattle.listing.specs.Listed.{if_so}
@@ -19,46 +18,42 @@ use Rattle.listing.proofs.Below.{each_next, of-append, of_one}
 use Rattle.listing.proofs.Walking.{up_to, and_it, passed_one}
 
 -- the row of one thing, where it is listed and where it is not
-module _ {A : Type 0} (w : A → List ℕ) (x : A) {test : Bool} where
-  pub put-listed :
-      {out after bytes : List ℕ} {at next : ℕ} → test ≡ true → bytes ≡ w x → Put out at bytes after next → Put out at (each_of w (if_so test x)) after next
+module _ {A : Type 0} (w : A → List ℕ) (x : A) {test : Bool} (out : List ℕ) where
+  pub put-listed : (bytes : List ℕ) {after : List ℕ} → test ≡ true → bytes ≡ w x → after ≡ out ++ bytes → after ≡ out ++ each_of w (if_so test x)
   unfolding each_of
-  put-listed so e put = rw (so, append-nil (w x), ← e) put
+  put-listed bytes so e put = rw (so, append-nil (w x), ← e) put
 
-  pub put-unlisted : {out : List ℕ} {at : ℕ} → test ≡ false → at ≤ length out → Put out at (each_of w (if_so test x)) out at
+  pub put-unlisted : test ≡ false → out ≡ out ++ each_of w (if_so test x)
   unfolding each_of
-  put-unlisted {out} {at} so inside = rw so (put-none out at inside)
+  put-unlisted so = rw so (sym (append-nil out))
 
-module _ {A : Type 0} (w : A → List ℕ) (f : ℕ → List A) where
+module _ {A : Type 0} (w : A → List ℕ) (f : ℕ → List A) (out : List ℕ) where
   -- the rows of no number
-  rows_none : (out : List ℕ) (at : ℕ) → at ≤ length out → Put out at (each_of w (each_below 0 f)) out at
+  rows_none : out ≡ out ++ each_of w (each_below 0 f)
   unfolding each_of each_below
-  rows_none out at inside = put-none out at inside
+  rows_none = sym (append-nil out)
 
   -- those of one part behind another
   rows_then :
-      {out mid last : List ℕ} {at next end : ℕ} (m n k : ℕ) → each_below m f ≡ each_below n f ++ f k → Put out at (each_of w (each_below n f)) mid next
-      → Put mid next (each_of w (f k)) last end → Put out at (each_of w (each_below m f)) last end
-  rows_then m n k e first second = rw (e, of-append w (each_below n f) (f k)) (put_then first second)
+      {mid last : List ℕ} (m n k : ℕ) → each_below m f ≡ each_below n f ++ f k → mid ≡ out ++ each_of w (each_below n f)
+      → last ≡ mid ++ each_of w (f k) → last ≡ out ++ each_of w (each_below m f)
+  rows_then m n k e first second = rw (e, of-append w (each_below n f) (f k)) (put_then _ _ _ first second)
 
 -- ---- every number
 
-module _ {A : Type 0} (w : A → List ℕ) (f : ℕ → List A) (width : ℕ) where
+module _ {A : Type 0} (w : A → List ℕ) (f : ℕ → List A) (width : ℕ) (out : List ℕ) where
   -- the rows of the numbers below i were put, each of which has at most `width` bytes
-  pub record Counted (out : List ℕ) (at : ℕ) (now : List ℕ) (next i : ℕ) : Type 0 where
-    pub put : Put out at (each_of w (each_below i f)) now next
-    pub long : length now ≡ length out
-    pub within : next ≤ at + width * i
+  pub record Counted (now : List ℕ) (i : ℕ) : Type 0 where
+    pub put : now ≡ out ++ each_of w (each_below i f)
+    pub within : length now ≤ length out + width * i
 
-  pub counted_none : (out : List ℕ) (at : ℕ) → at ≤ length out → Counted out at out at 0
-  counted_none out at inside = record { put = rows_none w f out at inside; long = refl; within = omega arith }
+  pub counted_none : Counted out 0
+  counted_none = record { put = rows_none w f out; within = omega arith }
 
   pub counted-more :
-      {out now last : List ℕ} {at next end i : ℕ} → Counted out at now next i → Put now next (each_of w (f i)) last end → end ≤ next + width
-      → length last ≡ length now → Counted out at last end (i + 1)
-  counted-more {at = at} {i = i} so_far row short long = record {
-    put = rows_then w f (i + 1) i i (each_next i f) so_far.put row;
-    long = long ∙ so_far.long;
+      {now last : List ℕ} {i : ℕ} → Counted now i → last ≡ now ++ each_of w (f i) → length last ≤ length now + width → Counted last (i + 1)
+  counted-more {i = i} so_far row short = record {
+    put = rows_then w f out (i + 1) i i (each_next i f) so_far.put row;
     within = omega (arith, so_far.within, short, mul-add width i 1);
   }
 
@@ -76,9 +71,8 @@ module _ {A : Type 0} (xs : List A) (none : A) where
   all_placed = first-placed (length xs) (omega arith) ∙ take-length xs
 
   pub put-placed :
-      (w : A → List ℕ) {out after : List ℕ} {at next : ℕ} (i : ℕ) → Put out at (w (get_or xs i none)) after next
-      → Put out at (each_of w (placed i)) after next
-  put-placed w i put = rw (of_one w (get_or xs i none)) put
+      (w : A → List ℕ) (out : List ℕ) {after : List ℕ} (i : ℕ) → after ≡ out ++ w (get_or xs i none) → after ≡ out ++ each_of w (placed i)
+  put-placed w out i put = rw (of_one w (get_or xs i none)) put
 
 -- ---- a walk from number to number
 
@@ -91,20 +85,19 @@ pub record Walk {A : Type 0} (test : ℕ → Bool) (limit : ℕ) (f : ℕ → Li
 
 -- the rows of the numbers below `from` were put, each of which has at most `width` bytes
 pub record Walked
-    {A : Type 0} (w : A → List ℕ) (width limit : ℕ) (f : ℕ → List A) (count : ℕ → ℕ) (out : List ℕ) (at : ℕ) (now : List ℕ) (next from : ℕ)
+    {A : Type 0} (w : A → List ℕ) (width limit : ℕ) (f : ℕ → List A) (count : ℕ → ℕ) (out now : List ℕ) (from : ℕ)
     : Type 0 where
-  pub put : Put out at (each_of w (each_below from f)) now next
+  pub put : now ≡ out ++ each_of w (each_below from f)
   pub least : from ≤ limit
-  pub long : length now ≡ length out
-  pub within : next ≤ at + width * sum_below from count
+  pub within : length now ≤ length out + width * sum_below from count
 
-module _ {A : Type 0} {w : A → List ℕ} {width limit : ℕ} {f : ℕ → List A} {count : ℕ → ℕ} where
-  pub walked_none : (out : List ℕ) (at : ℕ) → at ≤ length out → Walked w width limit f count out at out at 0
-  walked_none out at inside = record { put = rows_none w f out at inside; least = omega arith; long = refl; within = omega arith }
+module _ {A : Type 0} {w : A → List ℕ} {width limit : ℕ} {f : ℕ → List A} {count : ℕ → ℕ} (out : List ℕ) where
+  pub walked_none : Walked w width limit f count out out 0
+  walked_none = record { put = rows_none w f out; least = omega arith; within = omega arith }
 
   module _
       {test : ℕ → Bool} {most : ℕ} {list : List A} (walk : Walk test limit f count most list)
-      {out now : List ℕ} {at next from number : ℕ} (so_far : Walked w width limit f count out at now next from) (found : Next test from limit number)
+      {now : List ℕ} {from number : ℕ} (so_far : Walked w width limit f count out now from) (found : Next test from limit number)
     where
       -- the rows of all numbers below one are within what all of them take
       within_all : (n : ℕ) → n ≤ limit → width * sum_below n count ≤ width * most
@@ -117,20 +110,19 @@ module _ {A : Type 0} {w : A → List ℕ} {width limit : ℕ} {f : ℕ → List
           let passed = mul-le-mul_left width (passed_one count from number found.least (walk.one number (found.passes l))) in
           omega (arith, passed, mul-add width (sum_below from count) 1)
 
-      pub walked_room : number < limit → next + width ≤ at + width * most
+      pub walked_room : number < limit → length now + width ≤ length out + width * most
       walked_room l = omega (arith, so_far.within, one_more l, within_all (number + 1) (omega arith))
 
       pub walked_more :
-          {last : List ℕ} {end : ℕ} → number < limit → Put now next (each_of w (f number)) last end → end ≤ next + width → length last ≡ length now
-          → Walked w width limit f count out at last end (number + 1)
-      walked_more l row short long = record {
-        put = rows_then w f (number + 1) from number (and_it test from limit number found f walk.nothing) so_far.put row;
+          {last : List ℕ} → number < limit → last ≡ now ++ each_of w (f number) → length last ≤ length now + width
+          → Walked w width limit f count out last (number + 1)
+      walked_more l row short = record {
+        put = rows_then w f out (number + 1) from number (and_it test from limit number found f walk.nothing) so_far.put row;
         least = omega arith;
-        long = long ∙ so_far.long;
         within = omega (arith, so_far.within, one_more l, short);
       }
 
-      pub walked_all : number ≡ limit → Put out at (each_of w list) now next × (next ≤ at + width * most)
+      pub walked_all : number ≡ limit → (now ≡ out ++ each_of w list) × (length now ≤ length out + width * most)
       walked_all e =
           let all : each_below limit f ≡ each_below from f = ap (λ (n : ℕ). each_below n f) (sym e) ∙ up_to test from limit number found f walk.nothing in
           (rw (walk.listed ∙ all) so_far.put, omega (arith, so_far.within, within_all from so_far.least))

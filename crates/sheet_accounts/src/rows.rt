@@ -21,7 +21,7 @@ fn put_row<const N: usize>(out: &mut Buffer<N>, page: bool, book: &[u64], number
 {
     let account = reading::account_of(number);
     if types::is_free(account.typ) {
-        return at;
+        return;
     }
     let balance = reading::balance(book, account);
     line::put_line(out, page, account, balance);
@@ -34,12 +34,11 @@ pub fn put_rows<const N: usize>(out: &mut Buffer<N>, page: bool, book: &[u64])
     ensures put { out.new ≡ out.old ++ account_rows page (ledger_of book.now).holdings }
     ensures upper_bound { length out.new ≤ length out.old + 179200 }
 {
-    at;
     let mut from: u64 = 0;
     loop {
         let number = reading::next_account(book, from);
         if number == LIMIT {
-            return next;
+            return;
         }
         put_row(out, page, book, number);
         from = number + 1;

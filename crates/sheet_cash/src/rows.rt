@@ -19,7 +19,7 @@ fn put_row<const N: usize>(out: &mut Buffer<N>, page: bool, book: &[u64], number
     let currency = number % 2 + 1;
     let amount = reading::cash(book, member, currency);
     if amount.0 == 0 {
-        return at;
+        return;
     }
     line::put_line(out, page, member, currency, amount);
 }
@@ -31,11 +31,7 @@ pub fn put_rows<const N: usize>(out: &mut Buffer<N>, page: bool, book: &[u64])
     ensures put { out.new ≡ out.old ++ cash_rows page (ledger_of book.now).holdings }
     ensures upper_bound { length out.new ≤ length out.old + 64000 }
 {
-    at;
-    let mut i: u64 = 0;
-    while i < 128 {
-        put_row(out, page, book, i);
-        i += 1;
+    for number in 0..128 {
+        put_row(out, page, book, number);
     }
-    next
 }

@@ -28,11 +28,7 @@ pub fn put_rows<const N: usize>(out: &mut Buffer<N>, page: bool, book: &[u64])
     ensures upper_bound { length out.new ≤ length out.old + 16000 }
 {
     let n = reading::securities(book);
-    at;
-    let mut i: usize = 0;
-    while i < n {
+    for i in 0..n {
         put_row(out, page, book, i);
-        i += 1;
     }
-    next
 }

@@ -32,12 +32,11 @@ pub fn put_rows<const N: usize>(out: &mut Buffer<N>, page: bool, book: &[u64])
     ensures put { out.new ≡ out.old ++ request_rows page (ledger_of book.now).requests }
     ensures upper_bound { length out.new ≤ length out.old + 14400 }
 {
-    at;
     let mut from: u64 = 0;
     loop {
         let number = reading::next_request(book, from);
         if number == LIMIT {
-            return next;
+            return;
         }
         put_row(out, page, book, number);
         from = number + 1;

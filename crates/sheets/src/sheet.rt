@@ -38,10 +38,11 @@ fn put_other_parts<const N: usize>(out: &mut Buffer<N>, page: bool, book: &[u64]
 }
 
 // The sheet of a book: as a page, or as text.
-pub fn put_sheet(out: &mut [u8], page: bool, book: &[u64]) -> usize
-    requires { Kept book.now × (sheet_bytes ≤ length out.old) }
-    ensures { Put out.old 0 (sheet_of page (ledger_of book.now)) out.new result }
+#[tactic(auto, unfolding(crate::specs::Sheet::sheet_of))]
+pub fn put_sheet<const N: usize>(out: &mut Buffer<N>, page: bool, book: &[u64])
+    requires { Kept book.now × (length out.old + sheet_bytes ≤ N) }
+    ensures { out.new ≡ out.old ++ sheet_of page (ledger_of book.now) }
 {
-    let next = put_first_parts(out, 0, page, book);
-    put_other_parts(out, next, page, book);
+    put_first_parts(out, page, book);
+    put_other_parts(out, page, book);
 }

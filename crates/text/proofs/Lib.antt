@@ -1,4 +1,5 @@
 -- bytes put one behind the other (`put_then`)
+pub mod Putting
 -- a number's digits: how many there are, and that they read back as the number
 pub mod Digits
 -- the parts of a text, one after the other, and texts compared

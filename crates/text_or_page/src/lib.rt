@@ -20,10 +20,7 @@ pub fn put_written<const N: usize>(
     ensures put { out.new ≡ out.old ++ fill (if page then row.now else line.now) numbers.now }
     ensures upper_bound { length out.new ≤ length out.old + length line.now + length row.now + 80 * length numbers.now }
 {
-    if page {
-        return wording::put_filled(out, row, numbers);
-    }
-    wording::put_filled(out, line, numbers);
+    wording::put_filled(out, if page { row } else { line }, numbers);
 }
 
 // Words alone.
@@ -44,11 +41,11 @@ pub fn put_where<const N: usize>(
     row: &[u8],
 )
     requires { length out.old + length line.now + length row.now ≤ N }
-    ensures put { out.new ≡ out.old ++ if holds then fill (if page then row.now else line.now) [] else [] }
+    ensures put { out.new ≡ out.old ++ (if holds then fill (if page then row.now else line.now) [] else []) }
     ensures upper_bound { length out.new ≤ length out.old + length line.now + length row.now }
 {
     if holds {
-        return put_words(out, page, line, row);
+        put_words(out, page, line, row);
     }
 }
 
@@ -74,7 +71,7 @@ pub fn put_in_page<const N: usize>(out: &mut Buffer<N>, page: bool, bytes: &[u8]
     ensures upper_bound { length out.new ≤ length out.old + length bytes.now }
 {
     if page {
-        return out.put(bytes);
+        out.put(bytes);
     }
 }
 
