@@ -4,8 +4,6 @@ ghost use Rattle.book.specs.Stored.{Kept};
 ghost use Rattle.file.specs.Records.{records_of};
 ghost use Rattle.printing.specs.Printed.{lent, Answered, BlockPut};
 
-use file::{Cursor, Next};
-
 // One record is called, and its line put.
 fn put_answer(
     out: &mut [u8],
@@ -37,18 +35,13 @@ pub fn put_answers(
     ensures { Answered number (records_of file.now) (lent book.old area.old out.old at)
         (lent book.new area.new out.new result) }
 {
-    let mut cursor = Cursor { at: 0 };
     let mut place = at;
     let mut n = number;
-    loop {
-        let found = file::next_record(file, cursor);
-        let Next::Record { start, end, next } = found else {
-            return place;
-        };
-        place = put_answer(out, place, n, book, &file[start..end], area);
+    for octets in file::records(file) {
+        place = put_answer(out, place, n, book, octets, area);
         n += 1;
-        cursor = next;
     }
+    place
 }
 
 // The records of a block are called, and their lines stand at the buffer's start. The first record's number moves on to that of the record behind
@@ -65,6 +58,6 @@ pub fn put_block(
         number.new (lent book.new area.new out.new result) }
 {
     let end = put_answers(out, 0, *number, book, block, area);
-    *number = *number + (block.len() as u64 + 39) / 40;
+    *number += (block.len() as u64).div_ceil(40);
     end
 }
