@@ -7,7 +7,6 @@ ghost use Rattle.text.specs.Text.{Put};
 ghost use Rattle.file.specs.Records.{records_of};
 ghost use Rattle.table_lines.specs.Exported.{name_line, order_line, read_line, record_lines};
 
-use file::{Cursor, Next};
 use rulebook::{Order, Read};
 
 // The first line.
@@ -56,14 +55,9 @@ pub fn put_records(out: &mut [u8], at: usize, file: &[u8]) -> usize
     requires { at + 1556 * length (records_of file.now) ≤ length out.old }
     ensures { Put out.old at (record_lines (records_of file.now)) out.new result }
 {
-    let mut cursor = Cursor { at: 0 };
     let mut place = at;
-    loop {
-        let found = file::next_record(file, cursor);
-        let Next::Record { start, end, next } = found else {
-            return place;
-        };
-        place = put_record(out, place, &file[start..end]);
-        cursor = next;
+    for octets in file::records(file) {
+        place = put_record(out, place, octets);
     }
+    place
 }
