@@ -1,3 +1,3 @@
--- a walk meets the file's records, each in its turn, and ends behind the last (`walk_step`, `walk-all`); a file read in blocks (`records_append`)
+-- who goes over a file's pieces meets its records, each in its turn (`next_record`, `always_records`); a file read in blocks (`records_append`)
 pub mod Walking
 pub mod Examples

@@ -1,18 +1,19 @@
--- A walk meets the records of the file, each in its turn, and ends behind the last. Assumes nothing.
-use Rattle.std.specs.Prelude.{if◌then◌else◌}
-use Prim.Native.Nat.{ℕ, zero, suc, ◌+◌, ◌-◌, ◌*◌, ◌/◌, ◌≤◌, ◌<◌}
+-- Who goes over the pieces of a file meets its records, each in its turn, and ends behind the last. Assumes nothing.
+use Prim.Native.Nat.{ℕ, zero, suc, ◌+◌, ◌-◌, ◌*◌, ◌/◌, ◌≤◌, ◌<◌, min}
 use native.Mathlib.Omega.{arith}
-use mathlib.Core.Bool.{Bool, true, false}
-use mathlib.Core.List.{List, [], ◌∷◌, ◌++◌}
+use mathlib.Core.List.{List, [], ◌∷◌, ◌++◌, append_assoc, append-nil}
 use mathlib.Core.Path.{◌≡◌, refl, sym, ap, ◌∙◌}
 use lib.ListN.{length, take, drop, length-drop, length-append}
-use lib.Seq.{take_all, drop-drop, take-append-le, drop-append-le}
-use borrow.Author.Tests.{ltb-true, ltb-false}
-use Rattle.plain.specs.Lists.{◌below◌}
-use Rattle.file.specs.Records.{parts, records_of, end_of, next_at, found, walk}
-use Rattle.file.specs.declared.Cursor.{Cursor}
-use Rattle.file.specs.declared.Next.{Next}
-use Rattle.file.specs.declared.Next.TheVariants.{Record, End}
+use lib.Seq.{take_all, take-append-le, drop-append-le}
+use Rattle.std.proofs.Common.{inl, inr}
+use Rattle.std.specs.declared.slice.Chunks.{Chunks}
+use Rattle.std.proofs.lemmas.Bool.{cases_lt}
+use Rattle.std.proofs.lemmas.List.{nil_from_length}
+use denote.Ref.{Bor}
+use Rattle.std.proofs.Common.{Some}
+use Rattle.std.specs.Iterator.{AlwaysYields}
+use Rattle.std.specs.Slice.Iter.{chunks_rest, chunks_size, chunks_steps}
+use Rattle.file.specs.Records.{parts, records_of}
 
 -- no byte, no record
 pub no_records : (file : List ℕ) → length file ≡ 0 → records_of file ≡ []
@@ -26,73 +27,64 @@ first-record file some =
     let n : (length file + 39) / 40 ≡ suc ((length file - 40 + 39) / 40) = omega arith in
     rw (n, length-drop)
 
--- the records from a place on are the one that a walk finds there, and those from its next place on
-pub walk_step : (file : List ℕ) (at : ℕ) → records_of (drop at file) ≡ found file (λ place. records_of (drop place file)) (next_at file at)
-unfolding next_at end_of found
-walk_step file at = here (at below length file) refl (length file - at below 40) refl
-  where
-    here : (inside : Bool) → (at below length file) ≡ inside → (short : Bool) → (length file - at below 40) ≡ short
-        → records_of (drop at file)
-        ≡ found file (λ place. records_of (drop place file))
-        (if inside then Record at (if short then length file else at + 40) (record { at = if short then length file else at + 40 }) else End)
-    here false e short h =
-        let none : length file - at ≡ 0 = omega (arith, ltb-false at (length file) e) in
-        no_records (drop at file) (length-drop at file ∙ none)
-    here true e true h =
-        let some : at < length file = ltb-true at (length file) e in
-        let few : length (drop at file) ≤ length file - at = omega (arith, length-drop at file) in
-        let under : length (drop at file) ≤ 40 = omega (arith, ltb-true (length file - at) 40 h) in
-        let behind : length (drop 40 (drop at file)) ≡ 0 = omega (arith, length-drop 40 (drop at file)) in
-        first-record (drop at file) (omega (arith, length-drop at file))
-        ∙ rw (
-          take_all 40 (drop at file) under,
-          take_all (length file - at) (drop at file) few,
-          no_records (drop 40 (drop at file)) behind,
-          no_records
-              (drop (length file) file) (length-drop (length file) file ∙ omega arith),
-        )
-    here true e false h =
-        let some : at < length file = ltb-true at (length file) e in
-        let wide : at + 40 - at ≡ 40 = omega arith in
-        first-record (drop at file) (omega (arith, length-drop at file)) ∙ rw (wide, drop-drop 40 at file)
+-- a piece at the front of what is left is the next record
+pub next_record :
+    (file piece rest : List ℕ) → file ≡ piece ++ rest → length piece ≡ min 40 (length file) → 0 < length file → records_of file ≡ piece ∷ records_of rest
+next_record file piece rest e l some =
+    let sum = ap length e ∙ length-append piece rest in
+    elim (cases_lt (length file) 40) [
+      | inl short ↦
+          let none : rest ≡ [] = nil_from_length rest (omega arith) in
+          let one : file ≡ piece = e ∙ rw (none, append-nil piece) in
+          let few : length file ≤ 40 = omega arith in
+          let behind : length (drop 40 file) ≡ 0 = length-drop 40 file ∙ omega arith in
+          first-record file some ∙ rw (take_all 40 file few, no_records (drop 40 file) behind, none, no_records [] refl, one)
+      | inr long ↦
+          let full : 40 ≤ length piece = omega arith in
+          let whole : length piece ≤ 40 = omega arith in
+          let none : drop 40 piece ≡ [] = nil_from_length (drop 40 piece) (length-drop 40 piece ∙ omega arith) in
+          first-record file some
+          ∙ rw (e, take-append-le 40 piece rest, drop-append-le 40 piece rest, none, take_all 40 piece whole)
+    ]
 
--- a record that a walk finds lies inside the file
-pub inside : (file : List ℕ) (at start end : ℕ) (next : Cursor) → next_at file at ≡ Record start end next → (start ≤ end) × (end ≤ length file)
-unfolding next_at end_of
-inside file at start end next e = here (at below length file) refl (length file - at below 40) refl e
-  where
-    here : (within : Bool) → (at below length file) ≡ within → (short : Bool) → (length file - at below 40) ≡ short
-        → (if within then Record at (if short then length file else at + 40) (record { at = if short then length file else at + 40 }) else End)
-        ≡ Record start end next
-        → (start ≤ end) × (end ≤ length file)
-    here false a short b e = let z : ◌≡◌ {A = ℕ} 0 1 = cc in absurd (omega arith)
-    here true a true b e =
-        let s : at ≡ start = cc in
-        let t : length file ≡ end = cc in
-        (omega (arith, ltb-true at (length file) a), omega arith)
-    here true a false b e =
-        let s : at ≡ start = cc in
-        let t : at + 40 ≡ end = cc in
-        (omega arith, omega (arith, ltb-true at (length file) a, ltb-false (length file - at) 40 b))
+pub piece_next :
+    (s : Chunks ℕ) (piece : Bor (List ℕ)) (t : Chunks ℕ) → chunks_size s ≡ 40 → chunks_steps s (Some piece) t
+    → records_of (chunks_rest s) ≡ piece.now ∷ records_of (chunks_rest t)
+piece_next s piece t size step = next_record _ _ _ step.1.0 (step.1.1 ∙ rw size) step.1.2
 
--- so a walk of steps enough meets the records of the file, no more and no fewer
-pub walk-all : (n : ℕ) (file : List ℕ) → length (records_of file) ≤ n → walk n file 0 ≡ records_of file
-unfolding walk found
-walk-all n file = from n 0
-  where
-    from : (n at : ℕ) → length (records_of (drop at file)) ≤ n → walk n file at ≡ records_of (drop at file)
-    from zero at few = empty (records_of (drop at file)) few
-      where
-        empty : (l : List (List ℕ)) → length l ≤ 0 → [] ≡ l
-        empty [] few = refl
-        empty (x ∷ l) few = absurd (omega arith)
-    from (suc n) at few = answer (next_at file at) (walk_step file at) (λ place. from n place)
-      where
-        answer : (a : Next) → records_of (drop at file) ≡ found file (λ place. records_of (drop place file)) a
-            → ((place : ℕ) → length (records_of (drop place file)) ≤ n → walk n file place ≡ records_of (drop place file))
-            → found file (walk n file) a ≡ records_of (drop at file)
-        answer End e rest = sym e
-        answer (Record start end next) e rest = rw (rest next.at (omega (arith, ap length e))) (sym e)
+-- so a walk over the pieces meets the records of the file, no more and no fewer
+pub always_records :
+    (s : Chunks ℕ) (left : List (List ℕ)) → chunks_size s ≡ 40 → records_of (chunks_rest s) ≡ left → AlwaysYields chunks_steps (λ piece. piece.now) s left
+always_records s [] size e = λ piece t step.
+    let few = sym (ap length e) ∙ ap length (piece_next s piece t size step) in
+    absurd (omega arith)
+always_records s (octets ∷ left) size e = (
+  λ t step.
+      let none = sym (ap length (no_records _ step.1.0)) ∙ ap length e in
+      absurd (omega arith),
+  λ piece t step.
+      let one = sym (piece_next s piece t size step) ∙ e in
+      (cc, always_records t left (step.0 ∙ size) cc),
+)
+
+-- a walk has met the first records of a file, and those of the rest are left
+pub record Met (file : List ℕ) (met : List (List ℕ)) (rest : List ℕ) : Type 0 where
+  pub left : met ++ records_of rest ≡ records_of file
+
+module _ {file : List ℕ} {met : List (List ℕ)} {rest : List ℕ} (w : Met file met rest) where
+  pub met_all : length rest ≡ 0 → met ≡ records_of file
+  met_all none = sym (append-nil met) ∙ ap (λ (l : List (List ℕ)). met ++ l) (sym (no_records rest none)) ∙ w.left
+
+  module _ (octets behind : List ℕ) (e : records_of rest ≡ octets ∷ records_of behind) where
+    -- there is one record more than was met
+    pub met_fewer : length met < length (records_of file)
+    met_fewer =
+        let all = ap length w.left in
+        let one = ap length e in
+        omega (arith, length-append met (records_of rest))
+
+    pub met_more : Met file (met ++ (octets ∷ [])) behind
+    met_more = record { left = append_assoc met _ _ ∙ rw (← e) w.left }
 
 parts-length : (n : ℕ) (file : List ℕ) → length (parts n file) ≡ n
 unfolding parts

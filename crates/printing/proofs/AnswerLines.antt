@@ -1,9 +1,9 @@
 -- Records that are called one after the other, and a walk over those of a file. Assumes nothing.
-use Prim.Native.Nat.{ℕ, ◌+◌, ◌-◌, ◌*◌, ◌≤◌, ◌<◌}
+use Prim.Native.Nat.{ℕ, ◌+◌, ◌*◌, ◌≤◌, ◌<◌}
 use native.Mathlib.Omega.{arith}
 use mathlib.Core.List.{List, [], ◌∷◌, ◌++◌, append_assoc, append-nil}
-use mathlib.Core.Path.{◌≡◌, refl, sym, ap, ◌∙◌, subst}
-use lib.ListN.{length, take, drop, length-append}
+use mathlib.Core.Path.{◌≡◌, refl, sym, ◌∙◌, subst}
+use lib.ListN.{length, length-append}
 use Rattle.rulebook.specs.Call.{Result, call_of}
 use Rattle.rulebook.specs.Ledger.{Ledger}
 use Rattle.rulebook.specs.declared.Answer.{Answer}
@@ -12,10 +12,8 @@ use Rattle.book.specs.Stored.{Kept}
 use Rattle.lines.specs.Lines.{answer_line}
 use Rattle.text.specs.Text.{Put}
 use Rattle.text.proofs.Putting.{put-none, put_then}
-use Rattle.file.specs.Records.{records_of, next_at, found}
-use Rattle.file.specs.declared.Cursor.{Cursor}
-use Rattle.file.specs.declared.Next.TheVariants.{Record, End}
-use Rattle.file.proofs.Walking.{walk_step}
+use Rattle.file.specs.Records.{records_of}
+use Rattle.file.proofs.Walking.{Met, met_all, met_fewer, met_more}
 use Rattle.printing.specs.Printed.{answer_lines, book_after, area_after, Lent, lent, Answered}
 
 -- ---- some records, and more behind them
@@ -76,53 +74,38 @@ answered_one number octets book area out after-book after-area after at next ans
 
 -- ---- a walk over the records of a file
 
--- the walk has come to a place: the records that it met were called, and those from there on are left
-pub record Walked (file : List ℕ) (number : ℕ) (before now : Lent) (cursor n : ℕ) : Type 0 where
+-- the records that the walk met were called, and those of the rest are left
+pub record Walked (file : List ℕ) (number : ℕ) (before now : Lent) (rest : List ℕ) (n : ℕ) : Type 0 where
   pub met : List (List ℕ)
-  pub left : met ++ records_of (drop cursor file) ≡ records_of file
+  pub walk : Met file met rest
   pub answered : Answered number met before now
   pub counted : n ≡ number + length met
   pub room : now.at ≤ before.at + 63 * length met
 
-pub walked_none : (file : List ℕ) (number : ℕ) (x : Lent) → Kept x.book → x.at ≤ length x.out → Walked file number x x 0 number
+pub walked_none : (file : List ℕ) (number : ℕ) (x : Lent) → Kept x.book → x.at ≤ length x.out → Walked file number x x file number
 walked_none file number x kept inside = record {
   met = [];
-  left = refl;
+  walk = record { left = refl };
   answered = answered_none number x kept inside;
   counted = omega arith;
   room = omega arith;
 }
 
-module _ {file : List ℕ} {number : ℕ} {before now : Lent} {cursor n : ℕ} (w : Walked file number before now cursor n) where
-  pub walked_all : next_at file cursor ≡ End → Answered number (records_of file) before now
-  unfolding found
-  walked_all e =
-      let none : records_of (drop cursor file) ≡ [] = walk_step file cursor ∙ rw e in
-      let all = sym (append-nil w.met) ∙ ap (λ (l : List (List ℕ)). w.met ++ l) (sym none) ∙ w.left in
-      subst (λ (l : List (List ℕ)). Answered number l before now) all w.answered
+module _ {file : List ℕ} {number : ℕ} {before now : Lent} {rest : List ℕ} {n : ℕ} (w : Walked file number before now rest n) where
+  pub walked_all : length rest ≡ 0 → Answered number (records_of file) before now
+  walked_all none = subst (λ (l : List (List ℕ)). Answered number l before now) (met_all w.walk none) w.answered
 
-  module _ {start end : ℕ} {next : Cursor} (e : next_at file cursor ≡ Record start end next) where
-    here : records_of (drop cursor file) ≡ take (end - start) (drop start file) ∷ records_of (drop next.at file)
-    unfolding found
-    here = walk_step file cursor ∙ rw e
-
+  module _ (octets behind : List ℕ) (e : records_of rest ≡ octets ∷ records_of behind) where
     -- there is one record more than was met
     pub fewer : length w.met < length (records_of file)
-    fewer =
-        let all = ap length w.left in
-        let one = ap length here in
-        omega (arith, length-append w.met (records_of (drop cursor file)))
-
-    pub less_left : length (records_of (drop next.at file)) < length (records_of (drop cursor file))
-    less_left = omega (arith, ap length here)
+    fewer = met_fewer w.walk octets behind e
 
     pub walked_more :
-        (after : Lent) → Answered n (take (end - start) (drop start file) ∷ []) now after → after.at ≤ now.at + 63
-        → Walked file number before after next.at (n + 1)
+        (after : Lent) → Answered n (octets ∷ []) now after → after.at ≤ now.at + 63 → Walked file number before after behind (n + 1)
     walked_more after a near = record {
-      met = w.met ++ (take (end - start) (drop start file) ∷ []);
-      left = append_assoc w.met _ _ ∙ rw (← here) w.left;
+      met = w.met ++ (octets ∷ []);
+      walk = met_more w.walk octets behind e;
       answered = answered_then w.answered (rw w.counted at a);
-      counted = omega (arith, w.counted, length-append w.met (take (end - start) (drop start file) ∷ []));
-      room = omega (arith, w.room, length-append w.met (take (end - start) (drop start file) ∷ []));
+      counted = omega (arith, w.counted, length-append w.met (octets ∷ []));
+      room = omega (arith, w.room, length-append w.met (octets ∷ []));
     }

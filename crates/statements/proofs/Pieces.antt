@@ -1,9 +1,9 @@
 -- Records whose lines are printed piece by piece: none yet, a part more, a buffer that was printed. Assumes nothing.
-use Prim.Native.Nat.{ℕ, ◌+◌, ◌≤◌}
+use Prim.Native.Nat.{ℕ}
 use native.Mathlib.Omega.{arith}
-use mathlib.Core.List.{List, [], ◌∷◌, ◌++◌, append_assoc, append-nil}
+use mathlib.Core.List.{List, [], ◌++◌, append_assoc, append-nil}
 use mathlib.Core.Path.{◌≡◌, refl, sym, ap, ◌∙◌}
-use lib.ListN.{length, take, length-append}
+use lib.ListN.{take, length-append}
 use Rattle.book.specs.Meaning.{ledger_of}
 use Rattle.book.specs.Stored.{Kept}
 use Rattle.text.proofs.Putting.{put-taken}
@@ -26,7 +26,7 @@ stated_nothing number book area waiting kept = record {
 
 -- a part's lines stand behind what stood in the buffer
 pub part-stated :
-    {file : List ℕ} {from number : ℕ} {before after : Lent} {part : Part} → after.at ≡ part.end → (p : PartPut file from number before part after)
+    {file : List ℕ} {number : ℕ} {before after : Lent} {part : Part} → after.at ≡ part.end → (p : PartPut file number before part after)
     → RecordsStated p.records number before.book before.area (take before.at before.out) part.number after.book after.area
     (take part.end after.out)
 part-stated e p = record {

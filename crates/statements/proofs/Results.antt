@@ -1,9 +1,9 @@
 -- What a call can result in, what its answer counts, and that its rows are told as the rulebook has them. Assumes nothing.
-use Prim.Native.Nat.{ℕ, ◌+◌, ◌*◌, ◌≤◌}
+use Prim.Native.Nat.{ℕ, ◌*◌, ◌≤◌}
 use native.Mathlib.Omega.{arith}
-use mathlib.Core.Bool.{Bool, true, false, false≢true, true≢false}
+use mathlib.Core.Bool.{Bool, true, false, true≢false}
 use mathlib.Core.List.{List, [], ◌∷◌, ◌++◌, map}
-use mathlib.Core.Path.{◌≡◌, refl, sym, ap, subst, ◌∙◌}
+use mathlib.Core.Path.{◌≡◌, refl, ap}
 use borrow.Author.Tests.{eqb-true}
 use lib.ListN.{length, drop, length-append}
 use Rattle.plain.specs.Lists.{◌is◌, ◌below◌, first, keep, Each}
@@ -11,13 +11,13 @@ use Rattle.plain.proofs.Lists.{◌and◌, each_kept}
 use Rattle.bits.specs.Layout.{Fit}
 use Rattle.rulebook.specs.Call.{Result, answer_rows, accepted, refused, order_call, read_call, call_of}
 use Rattle.rulebook.specs.Close.{close_kind, leaves, close_notice}
-use Rattle.rulebook.specs.Forms.{Outcome, outcome, cancel, close, forms, row_of, effect}
+use Rattle.rulebook.specs.Forms.{outcome, cancel, close, forms, row_of, effect}
 use Rattle.rulebook.specs.Ledger.{Ledger}
 use Rattle.rulebook.specs.Movements.{Movement}
 use Rattle.rulebook.specs.Premise.{Premise, ItemFits, today}
 use Rattle.rulebook.specs.Record.{read_of}
 use Rattle.rulebook.specs.Refusals.{refusals}
-use Rattle.rulebook.specs.Rows.{Row, notice, notice_of, notice_widths, posting_rows, rows_bytes}
+use Rattle.rulebook.specs.Rows.{notice, notice_of, notice_widths, posting_rows, rows_bytes}
 use Rattle.rulebook.specs.Waiting.{sender_of, marking, cancelled, both_marked}
 use Rattle.rulebook.specs.declared.Answer.{Answer}
 use Rattle.rulebook.specs.declared.Item.{Item}

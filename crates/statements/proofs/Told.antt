@@ -1,7 +1,7 @@
 -- A statement tells the rows of the rulebook's effects, of every record file. Assumes nothing.
 use Prim.Native.Nat.{ℕ, ◌+◌}
-use mathlib.Core.List.{List, [], ◌∷◌, ◌++◌}
-use mathlib.Core.Path.{◌≡◌, refl, ap, ◌∙◌}
+use mathlib.Core.List.{List, [], ◌∷◌}
+use mathlib.Core.Path.{◌≡◌, refl}
 use Rattle.rulebook.specs.Call.{Result, call_of}
 use Rattle.rulebook.specs.Calls.{call, result_of}
 use Rattle.rulebook.specs.Ledger.{Ledger, fresh}

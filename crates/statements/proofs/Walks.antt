@@ -1,13 +1,11 @@
 -- Records that are called one after the other, and a walk over those of a file from a place on. Assumes nothing.
-use Rattle.std.specs.Prelude.{if◌then◌else◌}
-use Prim.Native.Nat.{ℕ, ◌+◌, ◌-◌, ◌*◌, ◌≤◌, ◌<◌}
+use Prim.Native.Nat.{ℕ, ◌+◌, ◌≤◌, ◌<◌}
 use native.Mathlib.Omega.{arith}
-use mathlib.Core.Bool.{Bool, true, false}
 use mathlib.Core.List.{List, [], ◌∷◌, ◌++◌, append_assoc, append-nil}
-use mathlib.Core.Path.{◌≡◌, refl, sym, ap, ◌∙◌, subst}
-use lib.ListN.{length, take, drop, length-append}
-use borrow.Author.Tests.{ltb-false}
-use Rattle.plain.specs.Lists.{◌below◌}
+use mathlib.Core.Path.{◌≡◌, refl, sym, ap, ◌∙◌}
+use lib.ListN.{length, drop, length-append, length-drop}
+use lib.Seq.{drop-drop, drop-append-le}
+use Rattle.std.proofs.lemmas.List.{drop_all}
 use Rattle.rulebook.specs.Call.{Result, answer_rows, call_of}
 use Rattle.rulebook.specs.Forms.{row_of}
 use Rattle.rulebook.specs.Ledger.{Ledger}
@@ -18,15 +16,12 @@ use Rattle.book.specs.Stored.{Kept}
 use Rattle.ledger.specs.Called.{Called}
 use Rattle.text.specs.Text.{Put}
 use Rattle.text.proofs.Putting.{put-none, put_then}
-use Rattle.file.specs.Records.{records_of, end_of, next_at, found}
-use Rattle.file.specs.declared.Cursor.{Cursor}
-use Rattle.file.specs.declared.Next.TheVariants.{Record, End}
-use Rattle.file.proofs.Walking.{walk_step}
+use Rattle.file.specs.Records.{records_of}
+use Rattle.file.proofs.Walking.{Met, met_fewer, met_more}
 use Rattle.printing.specs.Printed.{book_after, area_after, Lent, lent}
 use Rattle.printing.proofs.AnswerLines.{book_append, area_append}
 use Rattle.statement_lines.specs.Lines.{row_lines, answer_line}
-use Rattle.statements.specs.Stated.{form_in, call_lines, statement_lines, RECORD, Stated, PartPut}
-use Rattle.statements.specs.declared.calls.Part.{Part}
+use Rattle.statements.specs.Stated.{form_in, call_lines, statement_lines, Stated}
 
 -- ---- some records, and more behind them
 
@@ -69,61 +64,46 @@ stated_one number octets book area out between book' area' after at next last fo
   lines = rw (append-nil, ← f, ← called.answered, ← r, ← called.written) (put_then line told);
 }
 
--- ---- a walk over the records of a file, from a place on
+-- ---- a walk over the records of a file
 
--- nothing is found behind the last record alone
-pub at_end : (file : List ℕ) (at : ℕ) → next_at file at ≡ End → length file ≤ at
-unfolding next_at
-at_end file at e = go (at below length file) refl e
-  where
-    go : (t : Bool) → (at below length file) ≡ t → (if t then Record at (end_of file at) (record { at = end_of file at }) else End) ≡ End → length file ≤ at
-    go true p e = let z : ◌≡◌ {A = ℕ} 0 1 = cc in absurd (omega arith)
-    go false p e = ltb-false at (length file) p
-
--- the walk has come to a place: the records that it met were called, and those from there on are left
-pub record Walked (file : List ℕ) (from number : ℕ) (before now : Lent) (cursor n : ℕ) : Type 0 where
+-- the records that the walk met were called, and those of the bytes behind them are left
+pub record Walked (file : List ℕ) (number : ℕ) (before now : Lent) (rest : List ℕ) (size n : ℕ) : Type 0 where
   pub met : List (List ℕ)
-  pub left : met ++ records_of (drop cursor file) ≡ records_of (drop from file)
+  pub walk : Met file met rest
+  pub behind : drop size file ≡ rest
+  pub inside : size ≤ length file
   pub stated : Stated number met before now
   pub counted : n ≡ number + length met
 
-pub walked_none : (file : List ℕ) (from number : ℕ) (x : Lent) → Kept x.book → x.at ≤ length x.out → Walked file from number x x from number
-walked_none file from number x kept inside = record { met = []; left = refl; stated = stated_none number x kept inside; counted = omega arith }
+pub walked_none : (file : List ℕ) (number : ℕ) (x : Lent) → Kept x.book → x.at ≤ length x.out → Walked file number x x file 0 number
+walked_none file number x kept inside = record {
+  met = [];
+  walk = record { left = refl };
+  behind = refl;
+  inside = omega arith;
+  stated = stated_none number x kept inside;
+  counted = omega arith;
+}
 
-module _ {file : List ℕ} {from number : ℕ} {before now : Lent} {cursor n : ℕ} (w : Walked file from number before now cursor n) where
-  -- what was put ends inside the buffer
-  pub walked_inside : now.at ≤ length before.out
-  walked_inside = omega (arith, w.stated.lines.room, w.stated.lines.place)
+module _ {file : List ℕ} {number : ℕ} {before now : Lent} {rest : List ℕ} {size n : ℕ} (w : Walked file number before now rest size n) where
+  module _ (octets behind : List ℕ) (parts : rest ≡ octets ++ behind) where
+    sizes : length file ≡ size + (length octets + length behind)
+    sizes = omega (arith, w.inside, sym (length-drop size file) ∙ ap length w.behind ∙ ap length parts ∙ length-append octets behind)
 
-  pub part-put : {part : Part} → part.next ≡ cursor → part.number ≡ n → (part.next < length file → length before.out < part.end + RECORD)
-      → PartPut file from number before part now
-  part-put {part} p q full = record {
-    records = w.met;
-    met = rw p w.left;
-    stated = w.stated;
-    numbered = q ∙ w.counted;
-    full = full;
-  }
+    module _ (e : records_of rest ≡ octets ∷ records_of behind) where
+      -- there is one record more than was met
+      pub fewer : length w.met < length (records_of file)
+      fewer = met_fewer w.walk octets behind e
 
-  module _ {start end : ℕ} {next : Cursor} (e : next_at file cursor ≡ Record start end next) where
-    here : records_of (drop cursor file) ≡ take (end - start) (drop start file) ∷ records_of (drop next.at file)
-    unfolding found
-    here = walk_step file cursor ∙ rw e
-
-    -- there is one record more than was met
-    pub fewer : length w.met < length (records_of (drop from file))
-    fewer =
-        let all = ap length w.left in
-        let one = ap length here in
-        omega (arith, length-append w.met (records_of (drop cursor file)))
-
-    pub less_left : length (records_of (drop next.at file)) < length (records_of (drop cursor file))
-    less_left = omega (arith, ap length here)
-
-    pub walked_more : (after : Lent) → Stated n (take (end - start) (drop start file) ∷ []) now after → Walked file from number before after next.at (n + 1)
-    walked_more after a = record {
-      met = w.met ++ (take (end - start) (drop start file) ∷ []);
-      left = append_assoc w.met _ _ ∙ rw (← here) w.left;
-      stated = stated_then w.stated (rw w.counted at a);
-      counted = omega (arith, w.counted, length-append w.met (take (end - start) (drop start file) ∷ []));
-    }
+      pub walked_more : (after : Lent) → Stated n (octets ∷ []) now after → Walked file number before after behind (size + length octets) (n + 1)
+      walked_more after a =
+          let all : length octets ≤ length octets = omega arith in
+          record {
+            met = w.met ++ (octets ∷ []);
+            walk = met_more w.walk octets behind e;
+            behind =
+                sym (drop-drop (length octets) size file) ∙ rw (w.behind, parts, drop-append-le (length octets) octets behind, drop_all (length octets) octets all);
+            inside = omega (arith, sizes);
+            stated = stated_then w.stated (rw w.counted at a);
+            counted = omega (arith, w.counted, length-append w.met (octets ∷ []));
+          }

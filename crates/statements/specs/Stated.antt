@@ -1,5 +1,5 @@
 -- What a statement prints of records that are called one after the other, and how far a buffer was filled with it.
-use Rattle.std.specs.Prelude.{ℕ, ◌+◌, ◌<◌, List, [], ◌∷◌, ◌++◌, ◌≡◌, length, drop, replicate}
+use Rattle.std.specs.Prelude.{ℕ, ◌+◌, ◌≤◌, ◌<◌, List, [], ◌∷◌, ◌++◌, ◌≡◌, length, drop, replicate}
 use Rattle.rulebook.specs.Call.{Result, answer_rows, call_of}
 use Rattle.rulebook.specs.Forms.{row_of}
 use Rattle.rulebook.specs.Ledger.{Ledger, fresh}
@@ -46,15 +46,16 @@ pub record Stated (number : ℕ) (records : List (List ℕ)) (before after : Len
   pub area : after.area ≡ area_after (ledger_of before.book) before.area records
   pub lines : Put before.out before.at (statement_lines number (ledger_of before.book) before.area records) after.out after.at
 
--- records of a file were called from a place on, as many as surely had room
-pub record PartPut (file : List ℕ) (from number : ℕ) (before : Lent) (part : Part) (after : Lent) : Type 0 where
+-- the first records of a file were called, as many as surely had room
+pub record PartPut (file : List ℕ) (number : ℕ) (before : Lent) (part : Part) (after : Lent) : Type 0 where
   pub records : List (List ℕ)
-  -- these are the next ones of the file
-  pub met : records ++ records_of (drop part.next file) ≡ records_of (drop from file)
+  -- the others are those of the bytes behind them
+  pub met : records ++ records_of (drop part.size file) ≡ records_of file
+  pub inside : part.size ≤ length file
   pub stated : Stated number records before after
   pub numbered : part.number ≡ number + length records
-  -- it ends before the file only where the next record's lines might not fit
-  pub full : part.next < length file → length before.out < part.end + RECORD
+  -- they end before the file only where the next record's lines might not fit
+  pub full : part.size < length file → length before.out < part.end + RECORD
 
 -- records were called one after the other, from a number on. Behind the bytes that waited in the buffer come their lines: the first of all these bytes have
 -- left the buffer (`printed`), and the rest waits in it. That the system wrote what left it no contract can say

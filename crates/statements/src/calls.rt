@@ -1,5 +1,5 @@
 // Records called one after the other, and their lines.
-ghost use Rattle.std.specs.Prelude.{◌++◌, Bool, ◌∷◌, [], ◌≡◌, ◌+◌, ◌*◌, ◌^◌, ◌≤◌, ◌<◌, length, drop};
+ghost use Rattle.std.specs.Prelude.{Bool, ◌∷◌, [], ◌≡◌, ◌+◌, ◌*◌, ◌^◌, ◌≤◌, ◌<◌, length};
 ghost use Rattle.rulebook.specs.Call.{answer_rows};
 ghost use Rattle.rulebook.specs.Forms.{row_of};
 ghost use Rattle.rulebook.specs.Record.{read_of};
@@ -8,18 +8,16 @@ ghost use Rattle.file.specs.Records.{records_of};
 ghost use Rattle.printing.specs.Printed.{lent};
 ghost use Rattle.statements.specs.Stated.{form_in, RECORD, Stated, PartPut};
 
-use file::{Cursor, Next};
 use rulebook::{Answer, Read};
-use text::Buffer;
 
 // More bytes than the lines of one record: 512 for its answer, and 512 for each of 256 rows.
 pub const RECORD: usize = 131584;
 
-// How far a walk over a file came: the end of its lines in the buffer, the place behind the last record, and the number of the next.
+// The first records of a file, as many as were called: how many bytes they have, the end of their lines in the buffer, and the number of the next.
 #[derive(Clone, Copy)]
 pub struct Part {
+    pub size: usize,
     pub end: usize,
-    pub next: usize,
     pub number: u64,
 }
 
@@ -55,52 +53,50 @@ fn rows_of(answer: Answer) -> usize
 }
 
 // One record is called, and its lines put: its answer, then the rows that the call wrote.
-pub fn put_record<const N: usize>(
-    out: &mut Buffer<N>,
+pub fn put_record(
+    out: &mut [u8],
+    at: usize,
     number: u64,
     book: &mut [u64],
     octets: &[u8],
     area: &mut [u8],
-)
-    requires { Kept book.old × (length out.old + RECORD ≤ N) }
+) -> usize
+    requires { Kept book.old × (at + RECORD ≤ length out.old) }
     ensures stated { Stated number (octets.now ∷ []) (lent book.old area.old out.old at)
         (lent book.new area.new out.new result) }
-    ensures upper_bound { length out.new ≤ length out.old + RECORD }
+    ensures upper_bound { result ≤ at + RECORD }
 {
     let answer = ledger::call(book, octets, area);
     let form = form_of(octets);
-    statement_lines::put_answer(out, number, form, answer);
-    statement_lines::put_rows(out, posts(form), rows_of(answer), area)
+    let next = statement_lines::put_answer(out, at, number, form, answer);
+    statement_lines::put_rows(out, next, posts(form), rows_of(answer), area)
 }
 
-// The records of a file are called from a place on, until it ends or the next one's lines might not fit.
-pub fn put_part<const N: usize>(
-    out: &mut Buffer<N>,
+// The records of a file are called, until it ends or the next one's lines might not fit.
+pub fn put_part(
+    out: &mut [u8],
+    at: usize,
     number: u64,
     book: &mut [u64],
     file: &[u8],
-    from: usize,
     area: &mut [u8],
 ) -> Part
-    requires { Kept book.old × (length out.old ≤ N) × (number + length (records_of (drop from file.now)) < 2 ^ 64) }
-    ensures { PartPut file.now from number (lent book.old area.old out.old at) result
+    requires { Kept book.old × (at ≤ length out.old) × (number + length (records_of file.now) < 2 ^ 64) }
+    ensures { PartPut file.now number (lent book.old area.old out.old at) result
         (lent book.new area.new out.new result.end) }
 {
-    let mut cursor = Cursor { at: from };
-    let mut place = at;
-    let mut n = number;
-    while RECORD <= out.len() - place {
-        let found = file::next_record(file, cursor);
-        let Next::Record { start, end, next } = found else {
+    let mut part = Part {
+        size: 0,
+        end: at,
+        number: number,
+    };
+    for octets in file::records(file) {
+        if out.len() - part.end < RECORD {
             break;
-        };
-        place = put_record(out, place, n, book, &file[start..end], area);
-        n += 1;
-        cursor = next;
+        }
+        part.end = put_record(out, part.end, part.number, book, octets, area);
+        part.size += octets.len();
+        part.number += 1;
     }
-    Part {
-        end: place,
-        next: cursor.at,
-        number: n,
-    }
+    part
 }

@@ -6,7 +6,6 @@ ghost use Rattle.rulebook.specs.Record.{read_of};
 ghost use Rattle.file.specs.Records.{records_of};
 ghost use Rattle.table_lines.specs.Exported.{name_line, order_line, read_line, record_lines};
 
-use file::{Cursor, Next};
 use rulebook::{Order, Read};
 use text::Buffer;
 
@@ -56,14 +55,9 @@ pub fn put_records<const N: usize>(out: &mut Buffer<N>, file: &[u8])
     requires { length out.old + 1556 * length (records_of file.now) ≤ N }
     ensures { out.new ≡ out.old ++ record_lines (records_of file.now) }
 {
-    let mut cursor = Cursor { at: 0 };
     let mut place = at;
-    loop {
-        let found = file::next_record(file, cursor);
-        let Next::Record { start, end, next } = found else {
-            return place;
-        };
-        place = put_record(out, place, &file[start..end]);
-        cursor = next;
+    for octets in file::records(file) {
+        place = put_record(out, place, octets);
     }
+    place
 }

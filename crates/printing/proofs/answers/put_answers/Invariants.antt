@@ -1,0 +1,17 @@
+-- The records that were met were called, and those of the rest are left. The lengths of what is lent stay.
+use Rattle.std.proofs.Common.{◌≡◌, length}
+use Rattle.std.specs.Slice.Iter.{chunks_rest, chunks_size}
+use Rattle.printing.specs.Printed.{lent}
+use Rattle.printing.proofs.AnswerLines.{Walked}
+use Rattle.printing.proofs.answers.put_answers.Given as goal
+
+abbrev pub invariant-loop-octets : goal.invariant-loop-octets
+invariant-loop-octets l = record {
+  can_next : goal.iterator-loop-octets.can_next l.octets-iterator;
+  is_finite : goal.iterator-loop-octets.is_finite l.octets-iterator;
+  size : chunks_size l.octets-iterator ≡ 40;
+  walked : Walked l.fn.file l.fn.number (lent l.fn.book l.fn.area l.fn.out l.fn.at) (lent l.book l.area l.out l.place) (chunks_rest l.octets-iterator) l.n;
+  out : length l.out ≡ length l.fn.out;
+  book : length l.book ≡ length l.fn.book;
+  area : length l.area ≡ length l.fn.area;
+}

@@ -1,0 +1,15 @@
+-- A block has a record for each 40 bytes, and a short tail is one: their lines fit the buffer.
+use Rattle.std.proofs.Common.{arith}
+use Rattle.file.proofs.Walking.{records_length}
+use Rattle.printing.proofs.answers.put_block.Goals as goal
+
+pub put_answers-end-requires : goal.put_answers-end-requires
+put_answers-end-requires c =
+    let records = records_length c.args.block.now in
+    (c.requires.0, omega arith, omega arith)
+
+pub returns : goal.returns
+returns c = record {
+  answered = c.put_answers-end.ensures;
+  numbered = omega (arith, records_length c.args.block.now, c.div_ceil.ensures);
+}
