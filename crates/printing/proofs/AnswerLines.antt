@@ -10,8 +10,7 @@ use Rattle.rulebook.specs.declared.Answer.{Answer}
 use Rattle.book.specs.Meaning.{ledger_of}
 use Rattle.book.specs.Stored.{Kept}
 use Rattle.lines.specs.Lines.{answer_line}
-use Rattle.text.specs.Text.{Put}
-use Rattle.text.proofs.Putting.{put-none, put_then}
+use Rattle.text.proofs.Putting.{put_then}
 use Rattle.file.specs.Records.{records_of}
 use Rattle.file.proofs.Walking.{Met, met_all, met_fewer, met_more}
 use Rattle.printing.specs.Printed.{answer_lines, book_after, area_after, Lent, lent, Answered}
@@ -44,9 +43,9 @@ module _ (more : List (List ℕ)) where
       let n : number + 1 + length records ≡ number + length (octets ∷ records) = omega arith in
       rw (lines-append (number + 1) result.book result.area records, n, append_assoc)
 
-pub answered_none : (number : ℕ) (x : Lent) → Kept x.book → x.at ≤ length x.out → Answered number [] x x
+pub answered_none : (number : ℕ) (x : Lent) → Kept x.book → Answered number [] x x
 unfolding answer_lines book_after area_after
-answered_none number x kept inside = record { kept = kept; ledger = refl; area = refl; lines = put-none x.out x.at inside }
+answered_none number x kept = record { kept = kept; ledger = refl; area = refl; lines = sym (append-nil x.out) }
 
 pub answered_then :
     {number : ℕ} {records : List (List ℕ)} {x y z : Lent} {more : List (List ℕ)} → Answered number records x y → Answered (number + length records) more y z
@@ -55,17 +54,17 @@ answered_then {number} {records} {x} {y} {z} {more} first second = record {
   kept = second.kept;
   ledger = second.ledger ∙ rw (first.ledger, first.area) (sym (book_append more _ _ records));
   area = second.area ∙ rw (first.ledger, first.area) (sym (area_append more _ _ records));
-  lines = rw (lines-append more number (ledger_of x.book) x.area records) (put_then first.lines (rw (first.ledger, first.area) at second.lines));
+  lines = rw (lines-append more number (ledger_of x.book) x.area records) (put_then _ _ _ first.lines (rw (first.ledger, first.area) at second.lines));
 }
 
 -- one call
 pub answered_one :
-    (number : ℕ) (octets book area out after-book after-area after : List ℕ) (at next : ℕ) (answer : Answer) → Kept after-book
+    (number : ℕ) (octets book area out after-book after-area after : List ℕ) (answer : Answer) → Kept after-book
     → answer ≡ (call_of (ledger_of book) octets area).answer → ledger_of after-book ≡ (call_of (ledger_of book) octets area).book
     → after-area ≡ (call_of (ledger_of book) octets area).area
-    → Put out at (answer_line number answer) after next → Answered number (octets ∷ []) (lent book area out at) (lent after-book after-area after next)
+    → after ≡ out ++ answer_line number answer → Answered number (octets ∷ []) (lent book area out) (lent after-book after-area after)
 unfolding answer_lines book_after area_after
-answered_one number octets book area out after-book after-area after at next answer kept a b c line = record {
+answered_one number octets book area out after-book after-area after answer kept a b c line = record {
   kept = kept;
   ledger = b;
   area = c;
@@ -80,13 +79,13 @@ pub record Walked (file : List ℕ) (number : ℕ) (before now : Lent) (rest : L
   pub walk : Met file met rest
   pub answered : Answered number met before now
   pub counted : n ≡ number + length met
-  pub room : now.at ≤ before.at + 63 * length met
+  pub room : length now.out ≤ length before.out + 63 * length met
 
-pub walked_none : (file : List ℕ) (number : ℕ) (x : Lent) → Kept x.book → x.at ≤ length x.out → Walked file number x x file number
-walked_none file number x kept inside = record {
+pub walked_none : (file : List ℕ) (number : ℕ) (x : Lent) → Kept x.book → Walked file number x x file number
+walked_none file number x kept = record {
   met = [];
   walk = record { left = refl };
-  answered = answered_none number x kept inside;
+  answered = answered_none number x kept;
   counted = omega arith;
   room = omega arith;
 }
@@ -101,7 +100,7 @@ module _ {file : List ℕ} {number : ℕ} {before now : Lent} {rest : List ℕ} 
     fewer = met_fewer w.walk octets behind e
 
     pub walked_more :
-        (after : Lent) → Answered n (octets ∷ []) now after → after.at ≤ now.at + 63 → Walked file number before after behind (n + 1)
+        (after : Lent) → Answered n (octets ∷ []) now after → length after.out ≤ length now.out + 63 → Walked file number before after behind (n + 1)
     walked_more after a near = record {
       met = w.met ++ (octets ∷ []);
       walk = met_more w.walk octets behind e;

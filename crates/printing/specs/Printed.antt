@@ -7,7 +7,6 @@ use Rattle.book.specs.Meaning.{ledger_of}
 use Rattle.book.specs.Stored.{Kept}
 use Rattle.file.specs.Records.{records_of}
 use Rattle.lines.specs.Lines.{answer_line, custody_line}
-use Rattle.text.specs.Text.{Put}
 
 -- each record is a call on the book and with the area that the one before it returned; its line has its number
 unfoldable pub answer_lines : (number : ℕ) → Ledger → (area : List ℕ) → List (List ℕ) → List ℕ
@@ -59,24 +58,23 @@ WholeBlocks [] = Unit {0}
 WholeBlocks (block ∷ []) = Unit {0}
 WholeBlocks (block ∷ next ∷ rest) = (length block % 40 ≡ 0) × WholeBlocks (next ∷ rest)
 
--- what is lent: a book, an area, and a buffer with its next free place
+-- what is lent: a book, an area, and a buffer with what was put into it
 pub record Lent : Type 0 where
   pub book : List ℕ
   pub area : List ℕ
   pub out : List ℕ
-  pub at : ℕ
 
-abbrev pub lent : (book area out : List ℕ) → ℕ → Lent
-lent book area out at = record { book = book; area = area; out = out; at = at }
+abbrev pub lent : (book area out : List ℕ) → Lent
+lent book area out = record { book = book; area = area; out = out }
 
 -- records were called one after the other, and their lines, numbered from a number on, were put into the buffer
 pub record Answered (number : ℕ) (records : List (List ℕ)) (before after : Lent) : Type 0 where
   pub kept : Kept after.book
   pub ledger : ledger_of after.book ≡ book_after (ledger_of before.book) before.area records
   pub area : after.area ≡ area_after (ledger_of before.book) before.area records
-  pub lines : Put before.out before.at (answer_lines number (ledger_of before.book) before.area records) after.out after.at
+  pub lines : after.out ≡ before.out ++ answer_lines number (ledger_of before.book) before.area records
 
--- a file's records were called, and its lines stand at the start of the buffer, up to their end; the next record's number has moved on by as many
+-- a file's records were called, and its lines were put into the buffer; the next record's number has moved on by as many
 pub record BlockPut (block : List ℕ) (number : ℕ) (before : Lent) (number' : ℕ) (after : Lent) : Type 0 where
   pub answered : Answered number (records_of block) before after
   pub numbered : number' ≡ number + length (records_of block)

@@ -24,11 +24,7 @@ pub fn put_custody<const N: usize>(out: &mut Buffer<N>, book: &[u64])
     ensures { out.new ≡ out.old ++ custody_lines (ledger_of book.now).holdings }
 {
     let n = reading::securities(book);
-    at;
-    let mut i: usize = 0;
-    while i < n {
+    for i in 0..n {
         put_security(out, book, i);
-        i += 1;
     }
-    next
 }

@@ -24,13 +24,8 @@ pub fn put_rows<const N: usize>(out: &mut Buffer<N>, posts: bool, count: usize, 
     ensures put { out.new ≡ out.old ++ row_lines posts count area.now }
     ensures upper_bound { length out.new ≤ length out.old + 512 * count }
 {
-    at;
-    let mut i: usize = 0;
-    while i < count {
+    for i in 0..count {
         let start = 16 * i;
-        let end = start + 16;
-        put_row(out, posts, &area[start..end]);
-        i += 1;
+        put_row(out, posts, &area[start..start + 16]);
     }
-    next
 }

@@ -6,7 +6,6 @@ use mathlib.Core.Path.{◌≡◌, refl, sym, ap, ◌∙◌}
 use lib.ListN.{take, length-append}
 use Rattle.book.specs.Meaning.{ledger_of}
 use Rattle.book.specs.Stored.{Kept}
-use Rattle.text.proofs.Putting.{put-taken}
 use Rattle.printing.specs.Printed.{book_after, area_after, Lent}
 use Rattle.printing.proofs.AnswerLines.{book_append, area_append}
 use Rattle.statements.specs.Stated.{statement_lines, PartPut, RecordsStated}
@@ -26,16 +25,15 @@ stated_nothing number book area waiting kept = record {
 
 -- a part's lines stand behind what stood in the buffer
 pub part-stated :
-    {file : List ℕ} {number : ℕ} {before after : Lent} {part : Part} → after.at ≡ part.end → (p : PartPut file number before part after)
-    → RecordsStated p.records number before.book before.area (take before.at before.out) part.number after.book after.area
-    (take part.end after.out)
-part-stated e p = record {
+    {N : ℕ} {file : List ℕ} {number : ℕ} {before after : Lent} {part : Part} → (p : PartPut N file number before part after)
+    → RecordsStated p.records number before.book before.area before.out part.number after.book after.area after.out
+part-stated p = record {
   kept = p.stated.kept;
   ledger = p.stated.ledger;
   area = p.stated.area;
   numbered = p.numbered;
   printed = [];
-  lines = rw e at (put-taken p.stated.lines);
+  lines = p.stated.lines;
 }
 
 -- what stands in the buffer is printed

@@ -14,8 +14,7 @@ use Rattle.rulebook.specs.declared.Answer.{Answer}
 use Rattle.book.specs.Meaning.{ledger_of}
 use Rattle.book.specs.Stored.{Kept}
 use Rattle.ledger.specs.Called.{Called}
-use Rattle.text.specs.Text.{Put}
-use Rattle.text.proofs.Putting.{put-none, put_then}
+use Rattle.text.proofs.Putting.{put_then}
 use Rattle.file.specs.Records.{records_of}
 use Rattle.file.proofs.Walking.{Met, met_fewer, met_more}
 use Rattle.printing.specs.Printed.{book_after, area_after, Lent, lent}
@@ -36,9 +35,9 @@ lines-append more number book area (octets ∷ records) =
     let n : number + 1 + length records ≡ number + length (octets ∷ records) = omega arith in
     rw (lines-append more (number + 1) result.book result.area records, n, append_assoc)
 
-stated_none : (number : ℕ) (x : Lent) → Kept x.book → x.at ≤ length x.out → Stated number [] x x
+stated_none : (number : ℕ) (x : Lent) → Kept x.book → Stated number [] x x
 unfolding statement_lines book_after area_after
-stated_none number x kept inside = record { kept = kept; ledger = refl; area = refl; lines = put-none x.out x.at inside }
+stated_none number x kept = record { kept = kept; ledger = refl; area = refl; lines = sym (append-nil x.out) }
 
 stated_then :
     {number : ℕ} {records : List (List ℕ)} {x y z : Lent} {more : List (List ℕ)} → Stated number records x y → Stated (number + length records) more y z
@@ -47,21 +46,21 @@ stated_then {number} {records} {x} {y} {z} {more} first second = record {
   kept = second.kept;
   ledger = second.ledger ∙ rw (first.ledger, first.area) (sym (book_append more _ _ records));
   area = second.area ∙ rw (first.ledger, first.area) (sym (area_append more _ _ records));
-  lines = rw (lines-append more number (ledger_of x.book) x.area records) (put_then first.lines (rw (first.ledger, first.area) at second.lines));
+  lines = rw (lines-append more number (ledger_of x.book) x.area records) (put_then _ _ _ first.lines (rw (first.ledger, first.area) at second.lines));
 }
 
 -- one call: its answer's line, and behind it those of its rows
 pub stated_one :
-    (number : ℕ) (octets book area out between book' area' after : List ℕ) (at next last form rows : ℕ) (answer : Answer)
+    (number : ℕ) (octets book area out between book' area' after : List ℕ) (form rows : ℕ) (answer : Answer)
     → Called book octets area answer book' area' → form ≡ form_in (read_of octets) → rows ≡ answer_rows answer
-    → Put out at (answer_line number form answer) between next → Put between next (row_lines (row_of form).posts rows area') after last
-    → Stated number (octets ∷ []) (lent book area out at) (lent book' area' after last)
+    → between ≡ out ++ answer_line number form answer → after ≡ between ++ row_lines (row_of form).posts rows area'
+    → Stated number (octets ∷ []) (lent book area out) (lent book' area' after)
 unfolding statement_lines book_after area_after call_lines
-stated_one number octets book area out between book' area' after at next last form rows answer called f r line told = record {
+stated_one number octets book area out between book' area' after form rows answer called f r line told = record {
   kept = called.kept;
   ledger = called.ledger;
   area = called.written;
-  lines = rw (append-nil, ← f, ← called.answered, ← r, ← called.written) (put_then line told);
+  lines = rw (append-nil, ← f, ← called.answered, ← r, ← called.written) (put_then _ _ _ line told);
 }
 
 -- ---- a walk over the records of a file
@@ -75,13 +74,13 @@ pub record Walked (file : List ℕ) (number : ℕ) (before now : Lent) (rest : L
   pub stated : Stated number met before now
   pub counted : n ≡ number + length met
 
-pub walked_none : (file : List ℕ) (number : ℕ) (x : Lent) → Kept x.book → x.at ≤ length x.out → Walked file number x x file 0 number
-walked_none file number x kept inside = record {
+pub walked_none : (file : List ℕ) (number : ℕ) (x : Lent) → Kept x.book → Walked file number x x file 0 number
+walked_none file number x kept = record {
   met = [];
   walk = record { left = refl };
   behind = refl;
   inside = omega arith;
-  stated = stated_none number x kept inside;
+  stated = stated_none number x kept;
   counted = omega arith;
 }
 

@@ -10,7 +10,6 @@ use Rattle.book.specs.Stored.{Kept}
 use Rattle.file.specs.Records.{records_of}
 use Rattle.printing.specs.Printed.{book_after, area_after, Lent}
 use Rattle.statement_lines.specs.Lines.{row_lines, answer_line}
-use Rattle.text.specs.Text.{Put}
 use Rattle.statements.specs.declared.calls.Part.{Part}
 
 -- the form of a record that reads; 0 where it does not
@@ -44,10 +43,10 @@ pub record Stated (number : ℕ) (records : List (List ℕ)) (before after : Len
   pub kept : Kept after.book
   pub ledger : ledger_of after.book ≡ book_after (ledger_of before.book) before.area records
   pub area : after.area ≡ area_after (ledger_of before.book) before.area records
-  pub lines : Put before.out before.at (statement_lines number (ledger_of before.book) before.area records) after.out after.at
+  pub lines : after.out ≡ before.out ++ statement_lines number (ledger_of before.book) before.area records
 
--- the first records of a file were called, as many as surely had room
-pub record PartPut (file : List ℕ) (number : ℕ) (before : Lent) (part : Part) (after : Lent) : Type 0 where
+-- the first records of a file were called, as many as surely had room in the buffer of N bytes
+pub record PartPut (N : ℕ) (file : List ℕ) (number : ℕ) (before : Lent) (part : Part) (after : Lent) : Type 0 where
   pub records : List (List ℕ)
   -- the others are those of the bytes behind them
   pub met : records ++ records_of (drop part.size file) ≡ records_of file
@@ -55,7 +54,7 @@ pub record PartPut (file : List ℕ) (number : ℕ) (before : Lent) (part : Part
   pub stated : Stated number records before after
   pub numbered : part.number ≡ number + length records
   -- they end before the file only where the next record's lines might not fit
-  pub full : part.size < length file → length before.out < part.end + RECORD
+  pub full : part.size < length file → N < length after.out + RECORD
 
 -- records were called one after the other, from a number on. Behind the bytes that waited in the buffer come their lines: the first of all these bytes have
 -- left the buffer (`printed`), and the rest waits in it. That the system wrote what left it no contract can say

@@ -1,5 +1,5 @@
 // Records called one after the other, and their lines.
-ghost use Rattle.std.specs.Prelude.{Bool, ◌∷◌, [], ◌≡◌, ◌+◌, ◌*◌, ◌^◌, ◌≤◌, ◌<◌, length};
+ghost use Rattle.std.specs.Prelude.{◌++◌, Bool, ◌∷◌, [], ◌≡◌, ◌+◌, ◌*◌, ◌^◌, ◌≤◌, ◌<◌, length};
 ghost use Rattle.rulebook.specs.Call.{answer_rows};
 ghost use Rattle.rulebook.specs.Forms.{row_of};
 ghost use Rattle.rulebook.specs.Record.{read_of};
@@ -9,15 +9,15 @@ ghost use Rattle.printing.specs.Printed.{lent};
 ghost use Rattle.statements.specs.Stated.{form_in, RECORD, Stated, PartPut};
 
 use rulebook::{Answer, Read};
+use text::Buffer;
 
 // More bytes than the lines of one record: 512 for its answer, and 512 for each of 256 rows.
 pub const RECORD: usize = 131584;
 
-// The first records of a file, as many as were called: how many bytes they have, the end of their lines in the buffer, and the number of the next.
+// The first records of a file, as many as were called: how many bytes they have, and the number of the next.
 #[derive(Clone, Copy)]
 pub struct Part {
     pub size: usize,
-    pub end: usize,
     pub number: u64,
 }
 
@@ -53,48 +53,42 @@ fn rows_of(answer: Answer) -> usize
 }
 
 // One record is called, and its lines put: its answer, then the rows that the call wrote.
-pub fn put_record(
-    out: &mut [u8],
-    at: usize,
+pub fn put_record<const N: usize>(
+    out: &mut Buffer<N>,
     number: u64,
     book: &mut [u64],
     octets: &[u8],
     area: &mut [u8],
-) -> usize
-    requires { Kept book.old × (at + RECORD ≤ length out.old) }
-    ensures stated { Stated number (octets.now ∷ []) (lent book.old area.old out.old at)
-        (lent book.new area.new out.new result) }
-    ensures upper_bound { result ≤ at + RECORD }
+)
+    requires { Kept book.old × (length out.old + RECORD ≤ N) }
+    ensures stated { Stated number (octets.now ∷ []) (lent book.old area.old out.old)
+        (lent book.new area.new out.new) }
+    ensures upper_bound { length out.new ≤ length out.old + RECORD }
 {
     let answer = ledger::call(book, octets, area);
     let form = form_of(octets);
-    let next = statement_lines::put_answer(out, at, number, form, answer);
-    statement_lines::put_rows(out, next, posts(form), rows_of(answer), area)
+    statement_lines::put_answer(out, number, form, answer);
+    statement_lines::put_rows(out, posts(form), rows_of(answer), area);
 }
 
 // The records of a file are called, until it ends or the next one's lines might not fit.
-pub fn put_part(
-    out: &mut [u8],
-    at: usize,
+pub fn put_part<const N: usize>(
+    out: &mut Buffer<N>,
     number: u64,
     book: &mut [u64],
     file: &[u8],
     area: &mut [u8],
 ) -> Part
-    requires { Kept book.old × (at ≤ length out.old) × (number + length (records_of file.now) < 2 ^ 64) }
-    ensures { PartPut file.now number (lent book.old area.old out.old at) result
-        (lent book.new area.new out.new result.end) }
+    requires { Kept book.old × (number + length (records_of file.now) < 2 ^ 64) }
+    ensures { PartPut N file.now number (lent book.old area.old out.old) result
+        (lent book.new area.new out.new) }
 {
-    let mut part = Part {
-        size: 0,
-        end: at,
-        number: number,
-    };
+    let mut part = Part { size: 0, number };
     for octets in file::records(file) {
-        if out.len() - part.end < RECORD {
+        if N - out.len() < RECORD {
             break;
         }
-        part.end = put_record(out, part.end, part.number, book, octets, area);
+        put_record(out, part.number, book, octets, area);
         part.size += octets.len();
         part.number += 1;
     }

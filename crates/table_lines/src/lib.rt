@@ -15,7 +15,7 @@ pub fn put_names<const N: usize>(out: &mut Buffer<N>)
     requires { length out.old + 300 ≤ N }
     ensures { out.new ≡ out.old ++ name_line }
 {
-    text::put_bytes(out,
+    out.put(
         b"form,minute,security,currency,debited member,debited type,credited member,credited type,debited shareholder,\
         credited shareholder,quantity,amount,trade day,settlement day,reference,operation,original,edition\n",
     );
@@ -42,7 +42,8 @@ fn put_record<const N: usize>(out: &mut Buffer<N>, octets: &[u8])
     let answer = record::read(octets);
     match answer {
         Read::Order(order) => put_order(out, order),
-        Read::Refused(number) => wording::put_filled(out,
+        Read::Refused(number) => wording::put_filled(
+            out,
             b"unreadable: refused by # (!)\n",
             &[number, number],
         ),
@@ -55,9 +56,7 @@ pub fn put_records<const N: usize>(out: &mut Buffer<N>, file: &[u8])
     requires { length out.old + 1556 * length (records_of file.now) ≤ N }
     ensures { out.new ≡ out.old ++ record_lines (records_of file.now) }
 {
-    let mut place = at;
     for octets in file::records(file) {
-        place = put_record(out, place, octets);
+        put_record(out, octets);
     }
-    place
 }

@@ -5,33 +5,31 @@ use Rattle.table_lines.proofs.Lines.{walked_none, walked_all, walked_more, fewer
 use Rattle.table_lines.proofs.put_records.Goals as goal
 
 pub loop-octets-init : goal.loop-octets-init
-loop-octets-init c = record {
+loop-octets-init g c = record {
   can_next = search rules;
   is_finite = tt;
   size = search rules;
-  walked = rw (c.into_iter-octets-iterator.ensures.into_iter_gives, c.records-octets-items.ensures.rest) (walked_none _ _ _ (omega arith));
-  out = refl;
+  walked = rw (c.into_iter-octets-iterator.ensures.into_iter_gives, c.records-octets-items.ensures.rest) (walked_none _ _);
 }
 
-pub put_record-place-requires : goal.put_record-place-requires
-put_record-place-requires c =
+pub put_record-requires : goal.put_record-requires
+put_record-requires g c =
     let l = c.loop-octets.invariant in
     let next = piece_next c.loop-octets.octets-iterator c.in-Some.octets c.next.new.self l.size c.in-Some.ensures.steps in
-    omega (arith, fewer l.walked _ _ next, l.walked.room)
+    (search rules, omega (arith, fewer l.walked _ _ next, l.walked.room))
 
 pub loop-octets-preserved : goal.loop-octets-preserved
-loop-octets-preserved c =
+loop-octets-preserved g c =
     let l = c.loop-octets.invariant in
-    let put = c.put_record-place in
+    let put = c.put_record in
     let steps = c.in-Some.ensures.steps in
     let next = piece_next c.loop-octets.octets-iterator c.in-Some.octets c.next.new.self l.size steps in
     record {
       can_next = search rules;
       is_finite = tt;
       size = steps.0 ∙ l.size;
-      walked = walked_more l.walked _ _ next _ _ put.ensures.put put.ensures.upper_bound;
-      out = put.auto.out ∙ l.out;
+      walked = walked_more l.walked _ _ next _ put.ensures.put put.ensures.upper_bound;
     }
 
 pub returns : goal.returns
-returns c = walked_all c.loop-octets.invariant.walked c.in-None.ensures.steps.1.0
+returns g c = walked_all c.loop-octets.invariant.walked c.in-None.ensures.steps.1.0
