@@ -4,6 +4,7 @@ ghost use Rattle.import.specs.declared.Read;
 
 use crate::Read;
 use streams::Streams;
+use text::Buffer;
 
 pub fn tell_use(streams: Streams) {
     streams::tell(
@@ -32,9 +33,9 @@ pub fn refused(
     requires { length file.now ≤ 4096 }
     ensures { result ≡ Rattle.import.specs.declared.Read.Read.Refused kind line column place }
 {
-    let mut out = [0u8; 8192];
-    let end = import_lines::put_refused(&mut out, file, first, kind, line, column, place);
-    streams::tell(streams.error, &out[..end]);
+    let mut out = Buffer::<8192>::new();
+    import_lines::put_refused(&mut out, file, first, kind, line, column, place);
+    streams::tell(streams.error, out.bytes());
     Read::Refused {
         kind: kind,
         line: line,

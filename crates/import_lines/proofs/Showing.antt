@@ -1,6 +1,7 @@
 -- Bytes that are shown, and names in brackets. Assumes nothing.
 use Prim.Native.Nat.{ℕ, zero, suc, ◌+◌, ◌≤◌, ◌<◌}
 use native.Mathlib.Omega.{arith}
+use native.Mathlib.Numerals.{add-one}
 use mathlib.Core.List.{List, [], ◌∷◌, ◌++◌, map}
 use mathlib.Core.Path.{◌≡◌, refl, sym, ap, ◌∙◌}
 use lib.ListN.{length, get_or, take}
@@ -8,10 +9,13 @@ use lib.Seq.{take_all}
 use Rattle.text.specs.Text.{text}
 use Rattle.import_lines.specs.Told.{shown, bracketed}
 
-pub shown-at : (l : List ℕ) (i : ℕ) → i < length l → get_or (map shown l) i 0 ≡ shown (get_or l i 0)
-shown-at [] i h = absurd (omega arith)
-shown-at (b ∷ l) zero h = refl
-shown-at (b ∷ l) (suc i) h = shown-at l i (omega arith)
+shown-suc : (l : List ℕ) (i : ℕ) → i < length l → map shown (take (suc i) l) ≡ map shown (take i l) ++ (shown (get_or l i 0) ∷ [])
+shown-suc [] i h = absurd (omega arith)
+shown-suc (b ∷ l) zero h = refl
+shown-suc (b ∷ l) (suc i) h = ap (λ (m : List ℕ). shown b ∷ m) (shown-suc l i (omega arith))
+
+pub shown-more : (l : List ℕ) (i : ℕ) → i < length l → map shown (take (i + 1) l) ≡ map shown (take i l) ++ (shown (get_or l i 0) ∷ [])
+shown-more l i h = rw (add-one i) (shown-suc l i h)
 
 pub no_brackets : (name : List ℕ) → length name ≡ 0 → bracketed name ≡ []
 unfolding bracketed

@@ -31,9 +31,10 @@ fn put_kind<const N: usize>(out: &mut Buffer<N>, kind: u64)
     ensures put { out.new ≡ out.old ++ text (kind_name kind) }
     ensures upper_bound { length out.new ≤ length out.old + 80 }
 {
-    text::put_part(out, &KINDS, 10, kind - 100)
+    text::put_part(out, &KINDS, 10, kind - 100);
 }
 
+#[tactic(auto, unfolding(crate::specs::Told::reason))]
 fn put_reason<const N: usize>(out: &mut Buffer<N>, kind: u64)
     requires { length out.old + 200 ≤ N }
     ensures put { out.new ≡ out.old ++ reason kind }
@@ -42,9 +43,10 @@ fn put_reason<const N: usize>(out: &mut Buffer<N>, kind: u64)
     if kind < 101 {
         return wording::put_filled(out, b"refused by #, !", &[kind, kind]);
     }
-    put_kind(out, kind)
+    put_kind(out, kind);
 }
 
+#[tactic(auto, unfolding(crate::specs::Told::place))]
 fn put_place<const N: usize>(out: &mut Buffer<N>, number: u64, column: u64)
     requires { length out.old + 200 ≤ N }
     ensures put { out.new ≡ out.old ++ place number column }
@@ -53,7 +55,7 @@ fn put_place<const N: usize>(out: &mut Buffer<N>, number: u64, column: u64)
     if column == 0 {
         return wording::put_filled(out, b": line #", &[number]);
     }
-    wording::put_filled(out, b": line #, column #", &[number, column])
+    wording::put_filled(out, b": line #, column #", &[number, column]);
 }
 
 fn visible(b: u8) -> u8
@@ -73,97 +75,111 @@ fn put_visible<const N: usize>(out: &mut Buffer<N>, bytes: &[u8])
     ensures put { out.new ≡ out.old ++ map shown bytes.now }
     ensures upper_bound { length out.new ≤ length out.old + length bytes.now }
 {
-    let mut i: usize = 0;
-    while i < bytes.len() {
-        out[at + i] = visible(bytes[i]);
-        i += 1;
+    for b in bytes {
+        out.put(&[visible(*b)]);
     }
-    at + i
 }
 
 fn put_brackets<const N: usize>(out: &mut Buffer<N>, name: &[u8])
     requires { (length out.old + 83 ≤ N) × (length name.now ≤ 80) }
-    ensures put { out.new ≡ out.old ++ text " (" ++ map shown name.now ++ text ")" }
+    ensures put { out.new ≡ out.old ++ (text " (" ++ map shown name.now ++ text ")") }
     ensures upper_bound { length out.new ≤ length out.old + 83 }
 {
-    let opened = out.put(b" (");
-    let named = put_visible(out, name);
-    out.put(b")")
+    out.put(b" (");
+    put_visible(out, name);
+    out.put(b")");
 }
 
+#[tactic(auto, unfolding(crate::specs::Told::bracketed))]
 fn put_name<const N: usize>(out: &mut Buffer<N>, name: &[u8])
     requires { length out.old + 83 ≤ N }
     ensures put { out.new ≡ out.old ++ bracketed name.now }
     ensures upper_bound { length out.new ≤ length out.old + 83 }
 {
     if name.len() == 0 {
-        return at;
+        return;
     }
     if 80 < name.len() {
         return put_brackets(out, &name[..80]);
     }
-    put_brackets(out, name)
+    put_brackets(out, name);
 }
 
 // The file, and where in it.
-fn put_where(out: &mut [u8], file: &[u8], number: u64, column: u64, name: &[u8]) -> usize
-    requires { length file.now + 600 ≤ length out.old }
-    ensures put { Put out.old 0 (file.now ++ place number column ++ bracketed name.now) out.new result }
-    ensures upper_bound { result ≤ length file.now + 300 }
+fn put_where<const N: usize>(
+    out: &mut Buffer<N>,
+    file: &[u8],
+    number: u64,
+    column: u64,
+    name: &[u8],
+)
+    requires { length out.old + length file.now + 300 ≤ N }
+    ensures put { out.new ≡ out.old ++ (file.now ++ place number column ++ bracketed name.now) }
+    ensures upper_bound { length out.new ≤ length out.old + length file.now + 300 }
 {
-    let filed = text::put_bytes(out, 0, file);
-    let placed = put_place(out, filed, number, column);
-    put_name(out, placed, name)
+    out.put(file);
+    put_place(out, number, column);
+    put_name(out, name);
 }
 
 // What is wrong, and the line's end.
 fn put_wrong<const N: usize>(out: &mut Buffer<N>, kind: u64)
     requires { length out.old + 300 ≤ N }
-    ensures { out.new ≡ out.old ++ text ": " ++ reason kind ++ (line_feed ∷ []) }
+    ensures { out.new ≡ out.old ++ (text ": " ++ reason kind ++ (line_feed ∷ [])) }
 {
-    let marked = out.put(b": ");
-    let said = put_reason(out, kind);
-    out.put(b"\n")
+    out.put(b": ");
+    put_reason(out, kind);
+    out.put(b"\n");
 }
 
 // The whole line, with a name that is given.
-fn put_told(out: &mut [u8], file: &[u8], number: u64, column: u64, name: &[u8], kind: u64) -> usize
-    requires { length file.now + 600 ≤ length out.old }
-    ensures { Put out.old 0 (told file.now number column name.now kind) out.new result }
+#[tactic(auto, unfolding(crate::specs::Told::told))]
+fn put_told<const N: usize>(
+    out: &mut Buffer<N>,
+    file: &[u8],
+    number: u64,
+    column: u64,
+    name: &[u8],
+    kind: u64,
+)
+    requires { length out.old + length file.now + 600 ≤ N }
+    ensures { out.new ≡ out.old ++ told file.now number column name.now kind }
 {
-    let next = put_where(out, file, number, column, name);
-    put_wrong(out, next, kind)
+    put_where(out, file, number, column, name);
+    put_wrong(out, kind);
 }
 
 // The line with the field's name.
-fn put_field_told(
-    out: &mut [u8],
+#[tactic(auto, unfolding(crate::specs::Told::told))]
+fn put_field_told<const N: usize>(
+    out: &mut Buffer<N>,
     file: &[u8],
     number: u64,
     column: u64,
     field: usize,
     kind: u64,
-) -> usize
-    requires { length file.now + 600 ≤ length out.old }
-    ensures { Put out.old 0 (told file.now number column (text (field_name field)) kind) out.new result }
+)
+    requires { length out.old + length file.now + 600 ≤ N }
+    ensures { out.new ≡ out.old ++ told file.now number column (text (field_name field)) kind }
 {
-    let mut name = [0u8; 80];
-    let end = names::put_field(&mut name, 0, field);
-    put_told(out, file, number, column, &name[..end], kind)
+    let mut name = Buffer::<80>::new();
+    names::put_field(&mut name, field);
+    put_told(out, file, number, column, name.bytes(), kind);
 }
 
 // What is told of a table that is refused. The first bytes are its first line, whose cells are told themselves.
-pub fn put_refused(
-    out: &mut [u8],
+#[tactic(auto, unfolding(crate::specs::Told::told))]
+pub fn put_refused<const N: usize>(
+    out: &mut Buffer<N>,
     file: &[u8],
     first: &[u8],
     kind: u64,
     number: u64,
     column: usize,
     field: usize,
-) -> usize
-    requires { length file.now + 600 ≤ length out.old }
-    ensures { Put out.old 0 (told file.now number column (name_at first.now number column field) kind) out.new result }
+)
+    requires { length out.old + length file.now + 600 ≤ N }
+    ensures { out.new ≡ out.old ++ told file.now number column (name_at first.now number column field) kind }
 {
     if number == 1 {
         if column == 0 {
@@ -172,5 +188,5 @@ pub fn put_refused(
         let name = cells::trimmed(text::part(first, 44, column - 1));
         return put_told(out, file, 1, column as u64, name, kind);
     }
-    put_field_told(out, file, number, column as u64, field, kind)
+    put_field_told(out, file, number, column as u64, field, kind);
 }
