@@ -3,8 +3,8 @@
 
 mod parts;
 
-ghost use Rattle.std.specs.Prelude.{◌++◌, ◌+◌, ◌≤◌, ◌<◌, length};
-ghost use Rattle.text.specs.Text.{digit, decimal, Put};
+ghost use Rattle.std.specs.Prelude.{◌++◌, ◌+◌, ◌≤◌, length};
+ghost use Rattle.text.specs.Text.{decimal, Put};
 
 pub use parts::{end_of, part, place_in, put_part, same};
 
@@ -12,20 +12,9 @@ pub fn put_bytes(out: &mut [u8], at: usize, bytes: &[u8]) -> usize
     requires { at + length bytes.now ≤ length out.old }
     ensures { Put out.old at bytes.now out.new result }
 {
-    let mut i: usize = 0;
-    while i < bytes.len() {
-        out[at + i] = bytes[i];
-        i += 1;
-    }
-    at + i
-}
-
-fn put_digit(out: &mut [u8], at: usize, d: u64) -> usize
-    requires { (at < length out.old) × (d < 10) }
-    ensures { Put out.old at (digit d) out.new result }
-{
-    out[at] = (48 + d) as u8;
-    at + 1
+    let end = at + bytes.len();
+    out[at..end].copy_from_slice(bytes);
+    end
 }
 
 // A number in decimal digits: at most 20, as it is below 2^64.
@@ -34,11 +23,8 @@ pub fn put_number(out: &mut [u8], at: usize, n: u64) -> usize
     ensures put { Put out.old at (decimal n) out.new result }
     ensures upper_bound { result ≤ at + 20 }
 {
-    if n < 10 {
-        return put_digit(out, at, n);
-    }
-    let next = put_number(out, at, n / 10);
-    put_digit(out, next, n % 10)
+    let mut digits = itoa::Buffer::new();
+    put_bytes(out, at, digits.format(n).as_bytes())
 }
 
 // Words, and a number behind them.
