@@ -5,7 +5,7 @@ use native.Mathlib.Omega.{arith}
 use native.Mathlib.Numerals.{add-one}
 use mathlib.Core.Bool.{Bool, true, false, ◌&&◌}
 use mathlib.Core.List.{List, [], ◌∷◌}
-use mathlib.Core.Path.{◌≡◌, refl, sym, ap, ◌∙◌}
+use mathlib.Core.Path.{◌≡◌, refl, ap, ◌∙◌}
 use borrow.Author.Tests.{eq-eqb, ne_eqb, ltb-true, ltb-false, lt-leb, le-leb}
 use lib.Dec.{eqb, ltb}
 use lib.ListN.{length, get_or, take, drop, length-drop}
@@ -19,7 +19,7 @@ use Rattle.std.proofs.lemmas.Iterator.{index_from_first}
 use Rattle.std.proofs.lemmas.Option.{unwrap_or-slice_get}
 use denote.Bor.{Bor}
 use Rattle.plain.specs.Lists.{◌is◌, ◌at_most◌}
-use Rattle.text.specs.Parts.{up_to, joined, split, same_text, place_in}
+use Rattle.text.specs.Parts.{up_to, joined, split, same_text}
 
 -- a byte and what follows it
 pub here : (l : List ℕ) (i : ℕ) → i < length l → drop i l ≡ get_or l i 0 ∷ drop (i + 1) l
@@ -140,7 +140,7 @@ part_at mark l place r none found e f n =
     now_of None = n
     now_of (Some part) = refl
 
--- ---- the same text, and its place among others
+-- ---- the same text
 
 pub other_length : (one other : List ℕ) → (length one ≡ length other → ⊥) → false ≡ same_text one other
 unfolding same_text
@@ -160,31 +160,6 @@ same-text [] [] = refl
 same-text [] (b ∷ other) = refl
 same-text (a ∷ one) [] = refl
 same-text (a ∷ one) (b ∷ other) = ap (λ (r : Bool). a is b && r) (same-text one other)
-
--- the place of a text among the parts is where the library finds it
-abbrev IsPlace : (name : List ℕ) → List (List ℕ) → Option ℕ → Type 0
-IsPlace name parts r =
-    MatchOption r (AllWithin (λ part. pointwise eqb name part ≡ false) parts 0 (length parts))
-    (λ i. (i < length parts) × HoldsAt (λ part. pointwise eqb name part ≡ true) parts i × AllWithin (λ part. pointwise eqb name part ≡ false) parts 0 i)
-
-place_in-is : (name : List ℕ) (parts : List (List ℕ)) (r : Option ℕ) → IsPlace name parts r → place_in parts name ≡ unwrap_or r (length parts)
-unfolding place_in
-place_in-is name =
-    index_from_first (λ parts. place_in parts name) (λ part. pointwise eqb name part ≡ true) (λ part. pointwise eqb name part ≡ false) refl
-    (λ part others e. simp (same-text, e)) (λ part others e. simp (same-text, e, add-one))
-
-pub place_in_found :
-    (mark : ℕ) (l name : List ℕ) (r : Option ℕ) → IsPlace name (slice_split (λ b. eqb b mark) l) r
-    → MatchOption r (length (split mark l) ≤ place_in (split mark l) name) (λ place. (place < length (split mark l)) × (place ≡ place_in (split mark l) name))
-place_in_found mark l name r f = rw split-slice (go r f)
-  where
-    parts : List (List ℕ)
-    parts = slice_split (λ b. eqb b mark) l
-
-    go : (r : Option ℕ) → IsPlace name parts r
-        → MatchOption r (length parts ≤ place_in parts name) (λ place. (place < length parts) × (place ≡ place_in parts name))
-    go None f = omega (arith, place_in-is name parts None f)
-    go (Some place) f = (f.0, sym (place_in-is name parts (Some place) f))
 
 -- ---- a part with a number, counted from 1
 

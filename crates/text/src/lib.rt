@@ -6,7 +6,7 @@ mod parts;
 ghost use Rattle.std.specs.Prelude.{◌++◌, ◌+◌, ◌≤◌, length};
 ghost use Rattle.text.specs.Text.{decimal, Put};
 
-pub use parts::{end_of, part, place_in, put_part, same};
+pub use parts::{end_of, part, put_part, same};
 
 pub fn put_bytes(out: &mut [u8], at: usize, bytes: &[u8]) -> usize
     requires { at + length bytes.now ≤ length out.old }

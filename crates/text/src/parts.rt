@@ -1,7 +1,7 @@
-// A text cut at a mark, and a text found among others.
-ghost use Rattle.std.specs.Prelude.{[], ◌∷◌, ◌≡◌, ◌+◌, ◌≤◌, ◌<◌, length, get_or, drop, MatchOption};
+// A text cut at a mark, and texts compared.
+ghost use Rattle.std.specs.Prelude.{[], ◌∷◌, ◌≡◌, ◌+◌, ◌≤◌, length, get_or, drop};
 ghost use Rattle.text.specs.Text.{Put};
-ghost use Rattle.text.specs.Parts.{up_to, split, same_text, place_in, Short};
+ghost use Rattle.text.specs.Parts.{up_to, split, same_text, Short};
 
 // The place of the first mark from a place on, or the end.
 pub fn end_of(bytes: &[u8], at: usize, mark: u8) -> usize
@@ -24,14 +24,6 @@ pub fn part(bytes: &[u8], mark: u8, place: usize) -> &[u8]
     ensures { result.now ≡ get_or (split mark bytes.now) place [] }
 {
     bytes.split(|b| *b == mark).nth(place).unwrap_or(&[])
-}
-
-// The place of a name among the parts of a text.
-pub fn place_in(bytes: &[u8], mark: u8, name: &[u8]) -> Option<usize>
-    ensures { MatchOption result (length (split mark bytes.now) ≤ place_in (split mark bytes.now) name.now)
-        (λ place. (place < length (split mark bytes.now)) × (place ≡ place_in (split mark bytes.now) name.now)) }
-{
-    bytes.split(|b| *b == mark).position(|part| name == part)
 }
 
 // The part with a number, counted from 1; nothing where there is none. Names have at most 80 bytes.
