@@ -24,10 +24,8 @@ pub fn put_custody(out: &mut [u8], at: usize, book: &[u64]) -> usize
 {
     let n = reading::securities(book);
     let mut next = at;
-    let mut i: usize = 0;
-    while i < n {
+    for i in 0..n {
         next = put_security(out, next, book, i);
-        i += 1;
     }
     next
 }

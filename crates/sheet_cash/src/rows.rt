@@ -33,10 +33,8 @@ pub fn put_rows(out: &mut [u8], at: usize, page: bool, book: &[u64]) -> usize
     ensures upper_bound { result ≤ at + 64000 }
 {
     let mut next = at;
-    let mut i: u64 = 0;
-    while i < 128 {
-        next = put_row(out, next, page, book, i);
-        i += 1;
+    for number in 0..128 {
+        next = put_row(out, next, page, book, number);
     }
     next
 }

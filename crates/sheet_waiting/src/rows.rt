@@ -25,10 +25,8 @@ pub fn put_rows(out: &mut [u8], at: usize, page: bool, book: &[u64]) -> usize
 {
     let n = reading::items(book);
     let mut next = at;
-    let mut i: usize = 0;
-    while i < n {
+    for i in 0..n {
         next = put_row(out, next, page, book, i);
-        i += 1;
     }
     next
 }

@@ -9,9 +9,8 @@ use lib.ListN.{length, take, drop}
 use lib.Seq.{take_at, drop_at, drop-drop}
 use Rattle.bits.specs.Layout.{Fit}
 use Rattle.bits.proofs.Numbers.{length_bytes}
-use Rattle.rulebook.specs.Rows.{Row, posting, notice, notice_widths, posting_bytes, notice_bytes, posting_in, notice_in, row_bytes, rows_bytes}
+use Rattle.rulebook.specs.Rows.{Row, posting, notice, notice_widths, posting_bytes, notice_bytes, row_bytes, rows_bytes}
 use Rattle.rulebook.specs.declared.Notice.{Notice}
-use Rattle.rulebook.specs.declared.Posting.{Posting}
 use Rattle.rulebook.proofs.Reading.{RowFits, noticed, posting_back, notice-back}
 use Rattle.rows.proofs.Area.{posting_length}
 use Rattle.statement_lines.specs.Lines.{row_line, row_lines, lines_of}

@@ -22,12 +22,9 @@ pub fn put_rows(out: &mut [u8], at: usize, posts: bool, count: usize, area: &[u8
     ensures upper_bound { result ≤ at + 512 * count }
 {
     let mut next = at;
-    let mut i: usize = 0;
-    while i < count {
+    for i in 0..count {
         let start = 16 * i;
-        let end = start + 16;
-        next = put_row(out, next, posts, &area[start..end]);
-        i += 1;
+        next = put_row(out, next, posts, &area[start..start + 16]);
     }
     next
 }
