@@ -7,6 +7,7 @@ ghost use Rattle.text.specs.Text.{text};
 ghost use Rattle.text.specs.Parts.{line_feed};
 ghost use Rattle.import_lines.specs.Told.{kind_name, reason, place, shown, bracketed, told, name_at};
 
+use names::Table;
 use text::Buffer;
 
 // From kind 101.
@@ -162,9 +163,8 @@ fn put_field_told<const N: usize>(
     requires { length out.old + length file.now + 600 ≤ N }
     ensures { out.new ≡ out.old ++ told file.now number column (text (field_name field)) kind }
 {
-    let mut name = Buffer::<80>::new();
-    names::put_field(&mut name, field);
-    put_told(out, file, number, column, name.bytes(), kind);
+    let name = Table::Fields.name(field as u64);
+    put_told(out, file, number, column, name.as_bytes(), kind);
 }
 
 // What is told of a table that is refused. The first bytes are its first line, whose cells are told themselves.

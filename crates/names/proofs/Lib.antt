@@ -1,2 +1,2 @@
--- a table of names as one text
+-- a table of names, and a name's place in it
 pub mod Named

@@ -1,2 +1,3 @@
--- A name's number.
+-- The names in the tables, and a name's number.
+pub mod Tables
 pub mod Numbers

@@ -1,17 +1,25 @@
 -- A text cut at a mark, and texts compared, one place after the other. Assumes nothing.
-use Rattle.std.specs.Prelude.{if◌then◌else◌}
+use Rattle.std.specs.Prelude.{if◌then◌else◌, cond}
 use Prim.Native.Nat.{ℕ, suc, ◌+◌, ◌-◌, ◌≤◌, ◌<◌}
 use native.Mathlib.Omega.{arith}
 use native.Mathlib.Numerals.{add-one}
 use mathlib.Core.Bool.{Bool, true, false, ◌&&◌}
 use mathlib.Core.List.{List, [], ◌∷◌}
-use mathlib.Core.Path.{◌≡◌, refl, sym, ap, ◌∙◌}
+use mathlib.Core.Path.{◌≡◌, refl, ap, ◌∙◌}
 use borrow.Author.Tests.{eq-eqb, ne_eqb, ltb-true, ltb-false, lt-leb, le-leb}
 use lib.Dec.{eqb, ltb}
-use lib.ListN.{length, get_or, take, drop, length-drop, drop_of_length-le}
+use lib.ListN.{length, get_or, take, drop, length-drop}
 use lib.Seq.{drop-cons, drop-drop, take_all}
-use Rattle.plain.specs.Lists.{◌at_most◌}
-use Rattle.text.specs.Parts.{up_to, joined, split, same_text, place_in}
+use Rattle.std.specs.Cmp.Lexicographic.{pointwise}
+use Rattle.std.specs.List.{AllWithin, HoldsAt, slice_split, onto_first, slice_get}
+use Rattle.std.specs.Option.{MatchOption, unwrap_or, option_map}
+use Rattle.std.specs.declared.option.Option.{Option}
+use Rattle.std.specs.declared.option.Option.TheVariants.{None, Some}
+use Rattle.std.proofs.lemmas.Iterator.{index_from_first}
+use Rattle.std.proofs.lemmas.Option.{unwrap_or-slice_get}
+use denote.Bor.{Bor}
+use Rattle.plain.specs.Lists.{◌is◌, ◌at_most◌}
+use Rattle.text.specs.Parts.{up_to, joined, split, same_text}
 
 -- a byte and what follows it
 pub here : (l : List ℕ) (i : ℕ) → i < length l → drop i l ≡ get_or l i 0 ∷ drop (i + 1) l
@@ -34,29 +42,18 @@ module _ (mark : ℕ) (P : List ℕ → ℕ → Type 0) (none : P [] 0) (found :
 pub up_le : (mark : ℕ) (l : List ℕ) → up_to mark l ≤ length l
 up_le mark = to_mark mark (λ l n. n ≤ length l) (omega arith) (λ b l e. omega arith) (λ b l e more. omega arith)
 
-module _ (mark : ℕ) (l : List ℕ) (i : ℕ) where
-  up_here : i < length l → get_or l i 0 ≡ mark → up_to mark (drop i l) ≡ 0
-  unfolding up_to
-  up_here h e = ap (up_to mark) (here l i h) ∙ simp (eq-eqb _ _ e)
+-- how far it is to the mark is where the library finds it
+pub up_to_found :
+    (mark : ℕ) (l : List ℕ) (r : Option ℕ)
+    → MatchOption r (AllWithin (λ b. b ≡ mark → ⊥) l 0 (length l)) (λ i. (i < length l) × HoldsAt (λ b. b ≡ mark) l i × AllWithin (λ b. b ≡ mark → ⊥) l 0 i)
+    → up_to mark l ≡ unwrap_or r (length l)
+unfolding up_to
+up_to_found mark =
+    index_from_first (up_to mark) (λ b. b ≡ mark) (λ b. b ≡ mark → ⊥) refl (λ b l e. simp (eq-eqb b mark e)) (λ b l n. simp (ne_eqb b mark n, add-one))
 
-  up_next : i < length l → (get_or l i 0 ≡ mark → ⊥) → up_to mark (drop i l) ≡ suc (up_to mark (drop (i + 1) l))
-  unfolding up_to
-  up_next h n = ap (up_to mark) (here l i h) ∙ simp (ne_eqb _ _ n)
-
-  up_end : length l ≤ i → up_to mark (drop i l) ≡ 0
-  unfolding up_to
-  up_end h = ap (up_to mark) (drop_of_length-le l h)
-
--- a walk that is to end at a place
-module _ (mark : ℕ) (l : List ℕ) (i r : ℕ) (e : i + up_to mark (drop i l) ≡ r) where
-  pub up_found : i < length l → get_or l i 0 ≡ mark → i ≡ r
-  up_found h m = omega (arith, up_here mark l i h m)
-
-  pub up_on : i < length l → (get_or l i 0 ≡ mark → ⊥) → i + 1 + up_to mark (drop (i + 1) l) ≡ r
-  up_on h n = omega (arith, up_next mark l i h n)
-
-  pub up_none : length l ≤ i → i ≡ r
-  up_none h = omega (arith, up_end mark l i h)
+-- from a place on is all that is left there
+pub rest_of : (l : List ℕ) (at : ℕ) → take (length l - at) (drop at l) ≡ drop at l
+rest_of l at = take_all (length l - at) (drop at l) (omega (arith, length-drop at l))
 
 -- ---- parts
 
@@ -117,6 +114,32 @@ module _ (mark : ℕ) (bytes : List ℕ) (at : ℕ) where
             let size : length l ≡ length bytes - at = length-drop at bytes in
             simp (le-leb at (length bytes) h, lt-leb (end + 1) (length bytes) (omega arith), within) (split-last mark l more ∙ rw (take_all u l more))
 
+-- the library's parts
+pub split-slice : (mark : ℕ) (l : List ℕ) → split mark l ≡ slice_split (λ b. eqb b mark) l
+unfolding split joined
+split-slice mark [] = refl
+split-slice mark (b ∷ l) = rw (split-slice mark l) (go (eqb b mark) (slice_split (λ b. eqb b mark) l))
+  where
+    go : (t : Bool) (parts : List (List ℕ)) → (if t then [] ∷ parts else joined b parts) ≡ cond t ([] ∷ parts) (onto_first b parts)
+    go true parts = refl
+    go false [] = refl
+    go false (part ∷ parts) = refl
+
+pub part_at :
+    (mark : ℕ) (l : List ℕ) (place : ℕ) (r : Option (Bor (List ℕ))) (none found : Bor (List ℕ))
+    → option_map (λ part. part.now) r ≡ slice_get (slice_split (λ b. eqb b mark) l) place → found ≡ unwrap_or r none → none.now ≡ []
+    → found.now ≡ get_or (split mark l) place []
+part_at mark l place r none found e f n =
+    ap (λ (part : Bor (List ℕ)). part.now) f
+    ∙ now_of r
+    ∙ ap (λ (o : Option (List ℕ)). unwrap_or o []) e
+    ∙ unwrap_or-slice_get (slice_split (λ b. eqb b mark) l) place []
+    ∙ rw (split-slice mark l)
+  where
+    now_of : (r : Option (Bor (List ℕ))) → (unwrap_or r none).now ≡ unwrap_or (option_map (λ part. part.now) r) []
+    now_of None = n
+    now_of (Some part) = refl
+
 -- ---- the same text
 
 pub other_length : (one other : List ℕ) → (length one ≡ length other → ⊥) → false ≡ same_text one other
@@ -130,72 +153,15 @@ other_length (a ∷ one) (b ∷ other) n = go (eqb a b) (same_text one other) (o
     go true r e = e
     go false r e = refl
 
-module _ (one other : List ℕ) (i : ℕ) (r : Bool) (e : same_text (drop i one) (drop i other) ≡ r) (l : length one ≡ length other) where
-  pub all_same : length one ≤ i → true ≡ r
-  unfolding same_text
-  all_same h =
-      let k : length other ≤ i = omega arith in
-      sym (rw (drop_of_length-le one h, drop_of_length-le other k)) ∙ e
-
-  module _ (h : i < length one) where
-    there : i < length other
-    there = omega arith
-
-    pub one_differs : (get_or one i 0 ≡ get_or other i 0 → ⊥) → false ≡ r
-    unfolding same_text
-    one_differs n = sym (rw (here one i h, here other i there) (simp (ne_eqb _ _ n))) ∙ e
-
-    pub one_same : get_or one i 0 ≡ get_or other i 0 → same_text (drop (i + 1) one) (drop (i + 1) other) ≡ r
-    unfolding same_text
-    one_same n = sym (rw (here one i h, here other i there) (simp (eq-eqb _ _ n))) ∙ e
-
--- ---- a part, and a place among them
-
-module _ (mark : ℕ) (bytes : List ℕ) (at end : ℕ) (e : end ≡ at + up_to mark (drop at bytes)) (h : at ≤ length bytes) where
-  module _ (left : ℕ) (r : List ℕ) (d : get_or (parts_from mark bytes at) left [] ≡ r) where
-    pub part-here : left ≤ 0 → take (end - at) (drop at bytes) ≡ r
-    part-here l =
-        let none : left ≡ 0 = omega arith in
-        sym (rw (one_part mark bytes at end e h, none)) ∙ d
-
-    pub part-on : 0 < left → get_or (parts_from mark bytes (end + 1)) (left - 1) [] ≡ r
-    part-on l =
-        let one : left ≡ suc (left - 1) = omega arith in
-        sym (ap (λ (parts : List (List ℕ)). get_or parts left []) (one_part mark bytes at end e h)
-        ∙ ap (λ (n : ℕ). get_or (take (end - at) (drop at bytes) ∷ parts_from mark bytes (end + 1)) n []) one)
-        ∙ d
-
-    pub part-missing : 0 < left → end ≡ length bytes → take (length bytes - end) (drop end bytes) ≡ r
-    part-missing l f =
-        let all : length bytes - end ≡ 0 = omega arith in
-        ap (λ (n : ℕ). take n (drop end bytes)) all
-        ∙ sym (ap (λ (parts : List (List ℕ)). get_or parts (left - 1) []) (parts_none mark bytes (end + 1) (omega arith)))
-        ∙ part-on l
-
-  module _ (name : List ℕ) (place r : ℕ) (d : place + place_in (parts_from mark bytes at) name ≡ r) where
-    pub place_found : same_text name (take (end - at) (drop at bytes)) ≡ true → place ≡ r
-    unfolding place_in
-    place_found s = let zero_more : place_in (parts_from mark bytes at) name ≡ 0 = rw (one_part mark bytes at end e h) (simp s) in omega arith
-
-    pub place-on : same_text name (take (end - at) (drop at bytes)) ≡ false → place + 1 + place_in (parts_from mark bytes (end + 1)) name ≡ r
-    unfolding place_in
-    place-on s =
-        let one_more : place_in (parts_from mark bytes at) name ≡ suc (place_in (parts_from mark bytes (end + 1)) name) =
-        rw (one_part mark bytes at end e h) (simp s)
-        in
-        omega arith
-
-pub place_none : (mark : ℕ) (bytes : List ℕ) (at : ℕ) (name : List ℕ) (place r : ℕ) → length bytes < at
-    → place + place_in (parts_from mark bytes at) name ≡ r → place ≡ r
-unfolding place_in
-place_none mark bytes at name place r h d = let none : place_in (parts_from mark bytes at) name ≡ 0 = rw (parts_none mark bytes at h) in omega arith
+-- bytes are compared from the first on, as the library compares them
+pub same-text : (one other : List ℕ) → same_text one other ≡ pointwise eqb one other
+unfolding same_text
+same-text [] [] = refl
+same-text [] (b ∷ other) = refl
+same-text (a ∷ one) [] = refl
+same-text (a ∷ one) (b ∷ other) = ap (λ (r : Bool). a is b && r) (same-text one other)
 
 -- ---- a part with a number, counted from 1
 
 pub number-0 : (parts : List (List ℕ)) (number : ℕ) → number ≡ 0 → get_or ([] ∷ parts) number [] ≡ []
 number-0 parts number e = rw e
-
-pub number-on : (parts : List (List ℕ)) (number : ℕ) → (number ≡ 0 → ⊥) → get_or ([] ∷ parts) number [] ≡ get_or parts (number - 1) []
-number-on parts number n =
-    let one : number ≡ suc (number - 1) = omega arith in
-    ap (λ (m : ℕ). get_or ([] ∷ parts) m []) one

@@ -5,4 +5,4 @@ mod buffer;
 mod parts;
 
 pub use buffer::Buffer;
-pub use parts::{end_of, part, place_in, put_part, same};
+pub use parts::{end_of, part, put_part, same};

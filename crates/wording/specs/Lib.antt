@@ -1,2 +1,3 @@
 -- Patterns of lines, and what they say of numbers.
 pub mod Fill
+pub mod Meant

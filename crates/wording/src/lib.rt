@@ -1,79 +1,62 @@
 // Lines: a pattern, and the numbers that its signs stand for.
 #![tactic(auto)]
 
-ghost use Rattle.std.specs.Prelude.{◌++◌, true, ◌≡◌, ◌+◌, ◌*◌, ◌≤◌, length};
-ghost use Rattle.wording.specs.Fill.{is_sign, said, part, left, fill};
+ghost use Rattle.std.specs.Prelude.{true, false, ℕ, ◌++◌, ◌≡◌, ◌+◌, ◌*◌, ◌≤◌, length, MatchOption};
+ghost use Rattle.wording.specs.Fill.{is_sign, said, fill};
+ghost use Rattle.wording.specs.Meant.{meant};
 
+use names::Table;
 use text::Buffer;
 
-fn is_sign(b: u8) -> bool
-    ensures { result ≡ is_sign b }
+// What a sign makes of a number.
+#[derive(Clone, Copy)]
+enum Sign {
+    Digits,
+    Name(Table),
+}
+
+// The sign that a byte is.
+fn sign_of(b: u8) -> Option<Sign>
+    ensures { MatchOption result (is_sign b ≡ false) (λ sign. (is_sign b ≡ true) × ((n : ℕ) → meant sign n ≡ said b n)) }
 {
     match b {
-        b'#' => true,
-        b'$' => true,
-        b'%' => true,
-        b'*' => true,
-        b'!' => true,
-        b'^' => true,
-        _ => false,
+        b'#' => Some(Sign::Digits),
+        b'$' => Some(Sign::Name(Table::Currencies)),
+        b'%' => Some(Sign::Name(Table::Types)),
+        b'*' => Some(Sign::Name(Table::Notices)),
+        b'!' => Some(Sign::Name(Table::Refusals)),
+        b'^' => Some(Sign::Name(Table::Forms)),
+        _ => None,
     }
 }
 
 // What a sign says of a number. Names have at most 80 bytes.
-fn put_said<const N: usize>(out: &mut Buffer<N>, sign: u8, n: u64)
+fn put_said<const N: usize>(out: &mut Buffer<N>, sign: Sign, n: u64)
     requires { length out.old + 80 ≤ N }
-    ensures put { out.new ≡ out.old ++ said sign n }
+    ensures put { out.new ≡ out.old ++ meant sign n }
     ensures upper_bound { length out.new ≤ length out.old + 80 }
 {
     match sign {
-        b'#' => out.put_number(n),
-        b'$' => names::put_currency(out, n),
-        b'%' => names::put_type(out, n),
-        b'*' => names::put_notice(out, n),
-        b'!' => names::put_refusal(out, n),
-        _ => names::put_form(out, n),
+        Sign::Digits => out.put_number(n),
+        Sign::Name(table) => out.put(table.name(n).as_bytes()),
     }
 }
 
-// What a sign says of the first number; nothing where there is none. The numbers behind it are answered.
-fn put_sign<'a, const N: usize>(out: &mut Buffer<N>, sign: u8, numbers: &'a [u64]) -> &'a [u64]
-    requires { length out.old + 80 * length numbers.now ≤ N }
-    ensures put { out.new ≡ out.old ++ part true sign numbers.now }
-    ensures rest { result.now ≡ left true numbers.now }
-    ensures upper_bound { length out.new + 80 * length result.now ≤ length out.old + 80 * length numbers.now }
-{
-    match numbers.split_first() {
-        Some((n, rest)) => {
-            put_said(out, sign, *n);
-            rest
-        }
-        None => numbers,
-    }
-}
-
-// What a byte of a pattern says, where these numbers are left. Those that are left behind it are answered.
-fn put_byte<'a, const N: usize>(out: &mut Buffer<N>, b: u8, numbers: &'a [u64]) -> &'a [u64]
-    requires { length out.old + 1 + 80 * length numbers.now ≤ N }
-    ensures put { out.new ≡ out.old ++ part (is_sign b) b numbers.now }
-    ensures rest { result.now ≡ left (is_sign b) numbers.now }
-    ensures upper_bound { length out.new + 80 * length result.now ≤ length out.old + 1 + 80 * length numbers.now }
-{
-    if is_sign(b) {
-        return put_sign(out, b, numbers);
-    }
-    out.put(&[b]);
-    numbers
-}
-
-// A pattern with its numbers in the places of its signs.
+// A pattern with its numbers in the places of its signs; a sign for which no number is left says nothing.
 pub fn put_filled<const N: usize>(out: &mut Buffer<N>, pattern: &[u8], numbers: &[u64])
     requires { length out.old + length pattern.now + 80 * length numbers.now ≤ N }
     ensures put { out.new ≡ out.old ++ fill pattern.now numbers.now }
     ensures upper_bound { length out.new ≤ length out.old + length pattern.now + 80 * length numbers.now }
 {
-    let mut left = numbers;
+    let mut rest = numbers.iter();
     for b in pattern {
-        left = put_byte(out, *b, left);
+        match sign_of(*b) {
+            Some(sign) => {
+                if let Some(n) = rest.next() {
+                    put_said(out, sign, *n);
+                }
+            }
+            None => out.put(&[*b]),
+        }
     }
 }

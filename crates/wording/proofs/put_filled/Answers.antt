@@ -1,23 +1,26 @@
--- Each byte's part stands behind those of the bytes before it.
-use Rattle.std.proofs.Common.{arith, ◌≡◌, ◌+◌, ◌++◌, length}
-use mathlib.Core.List.{append_assoc, append-nil}
-use mathlib.Core.Path.{sym, ap, ◌∙◌}
-use lib.ListN.{length-drop, drop, drop_of_length-le}
-use Rattle.wording.specs.Fill.{fill, part, left, is_sign}
-use Rattle.wording.proofs.Filling.{fill-here, fill-none}
+-- `wording::put_filled` meets its contract: what the bytes before a place say has been put. Assumes nothing.
+use Rattle.std.proofs.Common.{rules, arith}
+use lib.ListN.{length-drop}
+use Rattle.wording.proofs.Filling.{none_filled, other_filled, bare_filled, sign_filled, all-filled}
 use Rattle.wording.proofs.put_filled.Goals as goal
+use Rattle.wording.proofs.put_filled.Goals.{in-Some+in-Some-next, in-Some+in_default, in-None}
+
+pub loop-b-init : goal.loop-b-init
+loop-b-init g c = rw c.iter-rest.ensures.rest (none_filled c.args.out.now c.args.pattern.now c.args.numbers.now)
 
 pub loop-b-preserved : goal.loop-b-preserved
 loop-b-preserved g c =
-    let pattern = c.args.pattern.now in
-    let i = c.loop-b.b-index in (
-      rw (c.put_byte-left.ensures.put, c.put_byte-left.ensures.rest, append_assoc c.loop-b.out (part _ _ c.loop-b.left.now) (fill (drop (i + 1) pattern) (left _ c.loop-b.left.now)))
-          (ap (λ l. c.loop-b.out ++ l) (sym (fill-here pattern c.loop-b.left.now i c.loop-b-test.true)) ∙ c.loop-b.invariant.0),
-      omega (arith, c.put_byte-left.ensures.upper_bound, c.loop-b.invariant.1, length-drop i pattern, length-drop (i + 1) pattern),
-    )
+    let filled = c.loop-b.invariant in
+    let inside = c.loop-b-test.true in
+    elim c.match-sign_of.branch [
+      | in-Some+in-Some-next w ↦
+          rw (w.out-is, w.rest-is) (sign_filled filled inside w.in-Some.ensures.0 w.in-Some-next.n.now _ _ w.in-Some-next.ensures.steps
+          (rw (← w.in-Some.ensures.1 w.in-Some-next.n.now) w.put_said.ensures.put) w.put_said.ensures.upper_bound)
+      | in-Some+in_default w ↦
+          let none = w.in_default.ensures.steps in
+          rw (w.out-is, w.rest-is, none.1) (bare_filled filled inside w.in-Some.ensures.0 none.0)
+      | in-None w ↦ rw (w.out-is, w.rest-is) (other_filled filled inside w.in-None.ensures _ w.put.ensures)
+    ]
 
 pub returns-clause-put : goal.returns-clause-put
-returns-clause-put g c =
-    sym (append-nil c.loop-b.out)
-    ∙ ap (λ l. c.loop-b.out ++ l) (sym (fill-none c.args.pattern.now c.loop-b.left.now c.loop-b.b-index c.loop-b-test.false))
-    ∙ c.loop-b.invariant.0
+returns-clause-put g c = all-filled c.loop-b.invariant (omega arith)
