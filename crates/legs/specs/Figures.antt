@@ -23,7 +23,7 @@ abbrev pub number_at : List ℕ → ℕ → ℕ
 number_at legs k = get_or legs (k + NUMBER) 0
 
 -- the first n legs
-pub record Legs (n : ℕ) (from to number : ℕ → ℕ) (legs : List ℕ) : Type 0 where
+pub record LegsAre (n : ℕ) (from to number : ℕ → ℕ) (legs : List ℕ) : Type 0 where
   pub long : length legs ≡ 192
   pub from_as : (k : ℕ) → k < n → from_at legs k ≡ from k
   pub to_as : (k : ℕ) → k < n → to_at legs k ≡ to k
@@ -70,11 +70,6 @@ abbrev pub short_with : (legs figures : List ℕ) → ℕ → Bool
 short_with legs figures j = (has_at figures j + brings legs j j) below (owes_at figures j + takes legs j j)
 
 -- ---- what a change of the figures needs
-
-pub record Lent (figures legs : List ℕ) (n : ℕ) : Type 0 where
-  pub figures_long : length figures ≡ 128
-  pub legs_long : length legs ≡ 192
-  pub size : n ≤ 64
 
 -- leg j can be added to n figures, and be taken away
 pub record Room (n : ℕ) (legs : List ℕ) (j : ℕ) (figures : List ℕ) : Type 0 where
