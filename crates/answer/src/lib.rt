@@ -28,10 +28,11 @@ fn counts_of(settled: Marks, n: usize) -> Counts
     ensures { result ≡ counts (4 * count_on (is_on settled) n) (2 * count_on (is_on settled) n) 0 0 0 0 }
 {
     let number = marks::count(settled, n);
-    let mut counts = rows::no_counts();
-    counts.rows = 4 * number;
-    counts.settled = 2 * number;
-    counts
+    Counts {
+        rows: 4 * number,
+        settled: 2 * number,
+        ..rows::no_counts()
+    }
 }
 
 // RULES 9.20: the fixed trades settle, whatever came since the cycle was sent, and their rows stand in the area.

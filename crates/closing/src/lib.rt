@@ -17,14 +17,20 @@ fn count_leaving(counted: Counts, kind: u64, state: State) -> Counts
     ensures { result ≡ counted_one counted kind state }
 {
     let sides = item::sides_of(state);
-    let mut counts = counted;
-    counts.rows = counts.rows + 1;
+    let rows = counted.rows + 1;
     if kind == 3 {
-        counts.suspended = counts.suspended + sides;
-        return counts;
+        Counts {
+            rows,
+            suspended: counted.suspended + sides,
+            ..counted
+        }
+    } else {
+        Counts {
+            rows,
+            deleted: counted.deleted + sides,
+            ..counted
+        }
     }
-    counts.deleted = counts.deleted + sides;
-    counts
 }
 
 // In list order: an item that leaves gets its notice, behind the one before; one that stays moves up, unmarked.
@@ -35,8 +41,7 @@ fn close_items(book: &mut [u64], number: u64, area: &mut [u8]) -> Counts
     let n = book_items::items(book);
     let mut counted = rows::no_counts();
     let mut j: usize = 0;
-    let mut i: usize = 0;
-    while i < n {
+    for i in 0..n {
         let item = book_items::item_at(book, i);
         let kind = item::close_kind(number, item);
         if kind == 0 {
@@ -48,7 +53,6 @@ fn close_items(book: &mut [u64], number: u64, area: &mut [u8]) -> Counts
             rows::write_notice(&mut area[at..], kind, item);
             counted = count_leaving(counted, kind, state);
         }
-        i += 1;
     }
     book_items::keep_first(book, j);
     counted

@@ -19,7 +19,7 @@ fn put_sent(book: &mut [u64])
     ensures { Becomes (λ b. put_day (cycle_sent b.day) b) book.old book.new }
 {
     let mut day = book::day(book);
-    day.cycles = day.cycles + 1;
+    day.cycles += 1;
     day.sent = true;
     book::put_day(book, day);
 }
@@ -31,9 +31,10 @@ fn counts_of(selection: Selection, n: usize) -> Counts
 {
     let fixed = marks::count(selection.fixed, n);
     let due = marks::count(selection.due, n);
-    let mut counts = rows::no_counts();
-    counts.left = due - fixed;
-    counts
+    Counts {
+        left: due - fixed,
+        ..rows::no_counts()
+    }
 }
 
 // RULES 6.16: what is due is fixed but for what does not fit. Nothing is booked, and no row is written.

@@ -15,10 +15,8 @@ pub fn fix(book: &mut [u64], marks: Marks)
     ensures { WaitingBecomes (λ items. bearing (marked_of marks items)) book.old book.new }
 {
     let n = book_items::items(book);
-    let mut i: usize = 0;
-    while i < n {
+    for i in 0..n {
         book_items::put_sent(book, i, marks::is_on(marks, i));
-        i += 1;
     }
 }
 
@@ -27,14 +25,5 @@ pub fn fixed_marks(book: &[u64]) -> Marks
     requires { Stored book.now × (length (waiting_of book.now) ≤ 64) }
     ensures { marked_of result (waiting_of book.now) ≡ borne (waiting_of book.now) }
 {
-    let n = book_items::items(book);
-    let mut marks: Marks = 0;
-    let mut i: usize = 0;
-    while i < n {
-        if book_items::is_sent(book, i) {
-            marks = marks::flip(marks, i);
-        }
-        i += 1;
-    }
-    marks
+    marks::on_each(book_items::items(book), |i| book_items::is_sent(book, i))
 }

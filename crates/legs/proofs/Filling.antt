@@ -7,11 +7,11 @@ use mathlib.Core.Path.{◌≡◌, refl, ◌∙◌}
 use lib.ListN.{length, get_or, set, length-set}
 use lib.Seq.{get_or-set_same, get_or-set_other}
 use borrow.Author.Count.{below_more}
-use Rattle.legs.specs.Figures.{TO, NUMBER, OWES, from_at, to_at, number_at, Legs, has_at, owes_at, Figures}
+use Rattle.legs.specs.Figures.{TO, NUMBER, OWES, from_at, to_at, number_at, LegsAre, has_at, owes_at, Figures}
 
 -- ---- legs
 
-pub legs-none : (from to number : ℕ → ℕ) (legs : List ℕ) → length legs ≡ 192 → Legs 0 from to number legs
+pub legs-none : (from to number : ℕ → ℕ) (legs : List ℕ) → length legs ≡ 192 → LegsAre 0 from to number legs
 legs-none from to number legs l = record {
   long = l;
   from_as = λ k h. absurd (omega arith);
@@ -55,8 +55,8 @@ module _ (legs : List ℕ) (i : ℕ) (low : i < 64) (long : length legs ≡ 192)
   leg_number = get_or-set_same two (i + NUMBER) m 0 (omega (arith, two_long))
 
 pub legs-more :
-    (from to number : ℕ → ℕ) (legs : List ℕ) (i : ℕ) → i < 64 → Legs i from to number legs → (f t m : ℕ) → f ≡ from i → t ≡ to i → m ≡ number i
-    → Legs (i + 1) from to number (put_leg legs i f t m)
+    (from to number : ℕ → ℕ) (legs : List ℕ) (i : ℕ) → i < 64 → LegsAre i from to number legs → (f t m : ℕ) → f ≡ from i → t ≡ to i → m ≡ number i
+    → LegsAre (i + 1) from to number (put_leg legs i f t m)
 legs-more from to number legs i low d f t m ef et em = record {
   long = leg_long legs i low d.long f t m;
   from_as =
@@ -73,7 +73,7 @@ legs-more from to number legs i low d f t m ef et em = record {
     other : (w : ℕ) → w ≢ i → w ≢ i + TO → w ≢ i + NUMBER → get_or (put_leg legs i f t m) w 0 ≡ get_or legs w 0
     other = leg_other legs i low d.long f t m
 
-pub legs-done : (from to number : ℕ → ℕ) (legs : List ℕ) (n i : ℕ) → n ≤ i → Legs i from to number legs → Legs n from to number legs
+pub legs-done : (from to number : ℕ → ℕ) (legs : List ℕ) (n i : ℕ) → n ≤ i → LegsAre i from to number legs → LegsAre n from to number legs
 legs-done from to number legs n i h d =
     record {
       long = d.long;
@@ -127,7 +127,7 @@ figures_done has owes figures n i h d = record { long = d.long; has_as = λ k m.
 -- ---- legs, and the figures before any of them is added
 
 pub record Filled (i : ℕ) (from to number has : ℕ → ℕ) (legs figures : List ℕ) : Type 0 where
-  pub legs_as : Legs i from to number legs
+  pub legs_as : LegsAre i from to number legs
   pub start_as : Figures i has (λ k. 0) figures
 
 module _ (from to number has : ℕ → ℕ) (legs figures : List ℕ) where

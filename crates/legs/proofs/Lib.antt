@@ -6,5 +6,8 @@ pub mod Adding
 -- figures read through slots: a store at a slot, and a leg added or taken away
 pub mod Slotted
 pub mod Changing
+-- for legs that a struct keeps
+pub mod Placed
+pub mod Same
 -- what the rulebook's premise gives
 pub mod Premises

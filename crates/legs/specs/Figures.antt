@@ -1,8 +1,6 @@
 -- Legs of trades, and the figures that their debits are held against, in columns of 64 words.
-use Rattle.std.specs.Prelude.{if◌then◌else◌, ℕ, zero, suc, ◌+◌, ◌*◌, ◌^◌, ◌≤◌, ◌<◌, Bool, ◌&&◌, ◌||◌, List, ◌≡◌, length, get_or}
+use Rattle.std.specs.Prelude.{if◌then◌else◌, ℕ, zero, suc, ◌+◌, ◌*◌, ◌^◌, ◌≤◌, ◌<◌, Bool, ◌&&◌, ◌||◌, List, ◌≡◌, length, get_or, Option, Some, None}
 use Rattle.plain.specs.Lists.{◌is◌, ◌below◌, sum_below}
-use Rattle.words.specs.declared.Found.{Found}
-use Rattle.words.specs.declared.Found.TheVariants.{At, Nothing}
 
 abbrev pub TO : ℕ
 TO = 64
@@ -25,7 +23,7 @@ abbrev pub number_at : List ℕ → ℕ → ℕ
 number_at legs k = get_or legs (k + NUMBER) 0
 
 -- the first n legs
-pub record Legs (n : ℕ) (from to number : ℕ → ℕ) (legs : List ℕ) : Type 0 where
+pub record LegsAre (n : ℕ) (from to number : ℕ → ℕ) (legs : List ℕ) : Type 0 where
   pub long : length legs ≡ 192
   pub from_as : (k : ℕ) → k < n → from_at legs k ≡ from k
   pub to_as : (k : ℕ) → k < n → to_at legs k ≡ to k
@@ -73,11 +71,6 @@ short_with legs figures j = (has_at figures j + brings legs j j) below (owes_at 
 
 -- ---- what a change of the figures needs
 
-pub record Lent (figures legs : List ℕ) (n : ℕ) : Type 0 where
-  pub figures_long : length figures ≡ 128
-  pub legs_long : length legs ≡ 192
-  pub size : n ≤ 64
-
 -- leg j can be added to n figures, and be taken away
 pub record Room (n : ℕ) (legs : List ℕ) (j : ℕ) (figures : List ℕ) : Type 0 where
   pub has : (k : ℕ) → k < n → has_at figures k + brings legs j k < 2 ^ 64
@@ -95,9 +88,9 @@ pub record RoomAll (n : ℕ) (on : ℕ → Bool) (legs figures : List ℕ) : Typ
 -- ---- the last marked leg that debits what is short
 
 -- the last number below n that passes the test
-unfoldable pub last_below : (ℕ → Bool) → ℕ → Found
-last_below test zero = Nothing
-last_below test (suc n) = if test n then At n else last_below test n
+unfoldable pub last_below : (ℕ → Bool) → ℕ → Option ℕ
+last_below test zero = None
+last_below test (suc n) = if test n then Some n else last_below test n
 
-abbrev pub last_short : (ℕ → Bool) → (held funds : List ℕ) → ℕ → Found
+abbrev pub last_short : (ℕ → Bool) → (held funds : List ℕ) → ℕ → Option ℕ
 last_short on held funds n = last_below (λ k. on k && (short_at held k || short_at funds k)) n

@@ -5,12 +5,12 @@ use Rattle.rulebook.specs.Ledger.{Ledger}
 use Rattle.rulebook.specs.declared.Item.{Item}
 use Rattle.book.specs.Keys.{key_of}
 use Rattle.marks.specs.Marks.{item_in}
-use Rattle.legs.specs.Figures.{Legs, Figures, cash_key}
+use Rattle.legs.specs.Figures.{LegsAre, Figures, cash_key}
 
 -- shares go from the seller's account to the buyer's
 abbrev pub ShareLegs : List Item → List ℕ → Type 0
 ShareLegs waiting legs =
-    Legs (length waiting) (λ k. key_of (seller (item_in waiting k))) (λ k. key_of (buyer (item_in waiting k))) (λ k. (item_in waiting k).quantity.0) legs
+    LegsAre (length waiting) (λ k. key_of (seller (item_in waiting k))) (λ k. key_of (buyer (item_in waiting k))) (λ k. (item_in waiting k).quantity.0) legs
 
 abbrev pub ShareStart : Ledger → List ℕ → Type 0
 ShareStart b figures = Figures (length b.waiting) (λ k. b.holdings.balance (seller (item_in b.waiting k))) (λ k. 0) figures
@@ -24,7 +24,7 @@ payee_of t = cash_key t.debited.member t.currency
 
 abbrev pub CashLegs : List Item → List ℕ → Type 0
 CashLegs waiting legs =
-    Legs (length waiting) (λ k. payer_of (item_in waiting k)) (λ k. payee_of (item_in waiting k)) (λ k. (item_in waiting k).amount.0) legs
+    LegsAre (length waiting) (λ k. payer_of (item_in waiting k)) (λ k. payee_of (item_in waiting k)) (λ k. (item_in waiting k).amount.0) legs
 
 abbrev pub CashStart : Ledger → List ℕ → Type 0
 CashStart b figures =

@@ -4,5 +4,7 @@ pub mod Figures
 pub mod Filled
 -- where the figures stand
 pub mod Slots
+-- the columns as a struct
+pub mod Legs
 -- what the cycle needs of a ledger
 pub mod Ready

@@ -1,7 +1,7 @@
 // Marks on the items of a waiting list: a mask of 64 bits, the first item's the most significant.
 #![tactic(auto)]
 
-ghost use Rattle.std.specs.Prelude.{if◌then◌else◌, ◌≡◌, not, ℕ, ◌<◌, ◌≤◌};
+ghost use Rattle.std.specs.Prelude.{if◌then◌else◌, ◌≡◌, false, not, ℕ, ◌<◌, ◌≤◌};
 ghost use Rattle.plain.specs.Lists.{◌is◌};
 ghost use Rattle.marks.specs.Marks.{is_on, First, count_on};
 
@@ -45,10 +45,24 @@ pub fn count(marks: Marks, n: usize) -> u64
     ensures { result ≡ count_on (is_on marks) n }
 {
     let mut marked: u64 = 0;
-    let mut i: usize = 0;
-    while i < n {
+    for i in 0..n {
         marked += (marks >> (63 - i)) % 2;
-        i += 1;
     }
     marked
+}
+
+// Marks on those of the first `n` items that pass a test.
+pub fn on_each<F: Fn(usize) -> bool>(n: usize, test: F) -> Marks
+    requires size { n ≤ 64 }
+    requires asked { (i : ℕ) → i < n → F.pre test i }
+    ensures tested { (k : ℕ) → k < n → F.post test k (is_on result k) }
+    ensures behind { (k : ℕ) → n ≤ k → k < 64 → is_on result k ≡ false }
+{
+    let mut marks: Marks = 0;
+    for i in 0..n {
+        if test(i) {
+            marks = flip(marks, i);
+        }
+    }
+    marks
 }

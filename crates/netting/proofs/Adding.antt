@@ -26,7 +26,9 @@ use Rattle.marks.specs.Marks.{Marked, First, with_mark, no_item, item_in, is_on,
 use Rattle.marks.proofs.Masks.{none_on}
 use Rattle.marks.proofs.Marking.{marking, marking-same, by_places, over-more, over-marked}
 use Rattle.legs.specs.Figures.{has_at, owes_at, brings, takes, Figures, Room, short_at, short_with}
+use Rattle.legs.specs.Legs.{figures_in, SameLegs}
 use Rattle.legs.specs.Slots.{viewed}
+use Rattle.legs.specs.declared.figures.Legs.{Legs}
 use Rattle.legs.specs.Ready.{Ready}
 use Rattle.netting.specs.Rounds.{mark_of, due_mark}
 use Rattle.netting.specs.Figured.{Figured}
@@ -58,22 +60,22 @@ module _ (b : Ledger) (r : Ready b) (due before : ℕ) (s : Started b due before
   out_due k e = let p = both (is_on due k) (not (is_on before k)) e in (p.0, not-true (is_on before k) p.1)
 
   -- what is still to be looked at stands at i or behind it; before it all was
-  pub record Passing (pending marks : ℕ) (shares held_at held cents funds_at funds : List ℕ) : Type 0 where
+  pub record Passing (pending marks : ℕ) (shares cash : Legs) : Type 0 where
     pub i : ℕ
     pub inside : i ≤ n
     pub marks_as : (k : ℕ) → k < 64 → is_on marks k ≡ to i k
     pub pending_as : (k : ℕ) → k < 64 → is_on pending k ≡ (out k && not (k below i))
-    pub figured : Figured b marks shares held_at held cents funds_at funds
+    pub figured : Figured b marks shares cash
     pub covered : NothingShort b.holdings (with_mark (marked_of marks b.waiting))
 
   -- ---- before the first
 
   pub begins :
-      (pending : ℕ) (shares held_at held cents funds_at funds : List ℕ)
+      (pending : ℕ) (shares cash : Legs)
       → ((k : ℕ) → k < 64 → is_on pending k ≡ (if is_on before k then not (is_on due k) else is_on due k))
-      → Figured b before shares held_at held cents funds_at funds → Passing pending before shares held_at held cents funds_at funds
+      → Figured b before shares cash → Passing pending before shares cash
   unfolding walked
-  begins pending shares held_at held cents funds_at funds d f = record {
+  begins pending shares cash d f = record {
     i = 0;
     inside = omega arith;
     marks_as = λ k l. refl;
@@ -90,7 +92,7 @@ module _ (b : Ledger) (r : Ready b) (due before : ℕ) (s : Started b due before
       go k l false e true d = rw (e, d, le-ltb k 0 (omega arith))
       go k l false e false d = rw (e, d)
 
-  module _ {pending marks : ℕ} {shares held_at held cents funds_at funds : List ℕ} (w : Passing pending marks shares held_at held cents funds_at funds) where
+  module _ {pending marks : ℕ} {shares cash : Legs} (w : Passing pending marks shares cash) where
     abbrev trades_in_lem : List Item
     trades_in_lem = with_mark (marked_of marks b.waiting)
 
@@ -132,10 +134,10 @@ module _ (b : Ledger) (r : Ready b) (due before : ℕ) (s : Started b due before
       -- the code's tests are the definition's
 
       abbrev held_in : List ℕ
-      held_in = viewed held_at held
+      held_in = figures_in shares
 
       abbrev funds_in : List ℕ
-      funds_in = viewed funds_at funds
+      funds_in = figures_in cash
 
       here : marked_of marks b.waiting ≡ marking (to j) item n
       unfolding marked_of
@@ -144,7 +146,7 @@ module _ (b : Ledger) (r : Ready b) (due before : ℕ) (s : Started b due before
       abbrev own : Entry
       own = record { item = item j; others = []; standing = taken }
 
-      pub tested : fits_at b.holdings item n out (is_on before) (to j) j ≡ (not (short_with shares held_in j) && not (short_with cents funds_in j))
+      pub tested : fits_at b.holdings item n out (is_on before) (to j) j ≡ (not (short_with shares.legs held_in j) && not (short_with cash.legs funds_in j))
       unfolding fits debits_short
       tested =
           let ts : List Item = trades_in_lem ++ item j ∷ [] in
@@ -152,26 +154,26 @@ module _ (b : Ledger) (r : Ready b) (due before : ℕ) (s : Started b due before
           ∙ own_test b.holdings trades_in_lem own w.covered
           ∙ nor (missing b.holdings ts (delivers (item j)) is_not 0) (missing b.holdings ts (pays (item j)) is_not 0)
           ∙ ap₂ (λ (x y : Bool). not x && not y)
-          (sym (with_missing b delivers shares (share_column b r shares w.figured.share_legs) marks held_in w.figured.held_figures j there))
-          (sym (with_missing b pays cents (cash_column b r cents w.figured.cash_legs) marks funds_in w.figured.funds_figures j there))
+          (sym (with_missing b delivers shares.legs (share_column b r shares.legs w.figured.share_legs) marks held_in w.figured.held_figures j there))
+          (sym (with_missing b pays cash.legs (cash_column b r cash.legs w.figured.cash_legs) marks funds_in w.figured.funds_figures j there))
 
       -- what it needs: neither place is short yet, and there is room
 
       pub held-fine : short_at held_in j ≡ false
       held-fine =
-          short_missing b delivers shares (share_column b r shares w.figured.share_legs) marks held_in w.figured.held_figures j there
+          short_missing b delivers shares.legs (share_column b r shares.legs w.figured.share_legs) marks held_in w.figured.held_figures j there
           ∙ ap (λ (x : ℕ). x is_not 0) (w.covered (delivers (item j)))
 
       pub funds_fine : short_at funds_in j ≡ false
       funds_fine =
-          short_missing b pays cents (cash_column b r cents w.figured.cash_legs) marks funds_in w.figured.funds_figures j there
+          short_missing b pays cash.legs (cash_column b r cash.legs w.figured.cash_legs) marks funds_in w.figured.funds_figures j there
           ∙ ap (λ (x : ℕ). x is_not 0) (w.covered (pays (item j)))
 
-      pub held-room : Room n shares j held_in
-      held-room = room_one b delivers shares (share_column b r shares w.figured.share_legs) marks held_in w.figured.held_figures j there
+      pub held-room : Room n shares.legs j held_in
+      held-room = room_one b delivers shares.legs (share_column b r shares.legs w.figured.share_legs) marks held_in w.figured.held_figures j there
 
-      pub funds_room : Room n cents j funds_in
-      funds_room = room_one b pays cents (cash_column b r cents w.figured.cash_legs) marks funds_in w.figured.funds_figures j there
+      pub funds_room : Room n cash.legs j funds_in
+      funds_room = room_one b pays cash.legs (cash_column b r cash.legs w.figured.cash_legs) marks funds_in w.figured.funds_figures j there
 
       -- ---- once it was looked at
 
@@ -192,7 +194,7 @@ module _ (b : Ledger) (r : Ready b) (due before : ℕ) (s : Started b due before
                 (w.pending_as k l ∙ rw (le-ltb k w.i (omega (arith, later, a)), le-ltb k (suc j) (omega (arith, a))))
 
         -- it does not fit
-        pub refused : fits_at b.holdings item n out (is_on before) (to j) j ≡ false → Passing less marks shares held_at held cents funds_at funds
+        pub refused : fits_at b.holdings item n out (is_on before) (to j) j ≡ false → Passing less marks shares cash
         refused not-fits = record {
           i = suc j;
           inside = omega (arith, there);
@@ -246,28 +248,29 @@ module _ (b : Ledger) (r : Ready b) (due before : ℕ) (s : Started b due before
               (ap (λ (ms : List Marked). any_short b.holdings (with_mark ms ++ item j ∷ [])) here ∙ not-true _ does-fit))
 
           pub added :
-              (held' funds' : List ℕ) → length held' ≡ 128 → length funds' ≡ 128
-              → Figures n (λ k. has_at held_in k + brings shares j k) (λ k. owes_at held_in k + takes shares j k) (viewed held_at held')
-              → Figures n (λ k. has_at funds_in k + brings cents j k) (λ k. owes_at funds_in k + takes cents j k) (viewed funds_at funds')
-              → Passing less more shares held_at held' cents funds_at funds'
-          added held' funds' p q h g = record {
+              (shares' cash' : Legs) → SameLegs shares shares' → SameLegs cash cash'
+              → Figures n (λ k. has_at held_in k + brings shares.legs j k) (λ k. owes_at held_in k + takes shares.legs j k)
+              (viewed shares.slots shares'.figures)
+              → Figures n (λ k. has_at funds_in k + brings cash.legs j k) (λ k. owes_at funds_in k + takes cash.legs j k) (viewed cash.slots cash'.figures)
+              → Passing less more shares' cash'
+          added shares' cash' p q h g = record {
             i = suc j;
             inside = omega (arith, there);
             marks_as = more-as;
             pending_as = next;
             figured = record {
-              share_legs = w.figured.share_legs;
-              share_slots = w.figured.share_slots;
-              held_long = p;
+              share_trades = p.trades ∙ w.figured.share_trades;
+              share_legs = rw p.legs w.figured.share_legs;
               held_figures =
-                  more-figures b delivers shares (share_column b r shares w.figured.share_legs) marks held_in w.figured.held_figures j there off more
-                  now others_in (viewed held_at held') h;
-              cash_legs = w.figured.cash_legs;
-              cash_slots = w.figured.cash_slots;
-              funds_long = q;
+                  rw p.slots
+                  (more-figures b delivers shares.legs (share_column b r shares.legs w.figured.share_legs) marks held_in w.figured.held_figures j there off
+                  more now others_in (viewed shares.slots shares'.figures) h);
+              cash_trades = q.trades ∙ w.figured.cash_trades;
+              cash_legs = rw q.legs w.figured.cash_legs;
               funds_figures =
-                  more-figures b pays cents (cash_column b r cents w.figured.cash_legs) marks funds_in w.figured.funds_figures j there off more now
-                  others_in (viewed funds_at funds') g;
+                  rw q.slots
+                  (more-figures b pays cash.legs (cash_column b r cash.legs w.figured.cash_legs) marks funds_in w.figured.funds_figures j there off more
+                  now others_in (viewed cash.slots cash'.figures) g);
             };
             covered = still_covered;
           }

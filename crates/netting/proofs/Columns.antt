@@ -3,7 +3,7 @@ use Prim.Native.Nat.{ℕ, ◌<◌}
 use native.Mathlib.Omega.{arith}
 use mathlib.Core.Bool.{Bool, true, false, ◌&&◌}
 use mathlib.Core.List.{List}
-use mathlib.Core.Path.{◌≡◌, refl, sym, ap, ◌∙◌}
+use mathlib.Core.Path.{◌≡◌, refl, sym, ap, subst, ◌∙◌}
 use borrow.Author.Tests.{eq-eqb, ne_eqb, eqb-true, eqb-false}
 use lib.ListN.{length}
 use Rattle.plain.specs.Lists.{◌is◌}
@@ -18,7 +18,9 @@ use Rattle.marks.specs.Marks.{item_in, is_on}
 use Rattle.marks.proofs.Marking.{if-below}
 use Rattle.legs.specs.Figures.{from_at, has_at, RoomAll, cash_key}
 use Rattle.legs.specs.Filled.{ShareLegs, ShareStart, CashLegs, CashStart, payer_of}
+use Rattle.legs.specs.Legs.{figures_in, SameLegs}
 use Rattle.legs.specs.Slots.{Slots, viewed, WithMarked}
+use Rattle.legs.specs.declared.figures.Legs.{Legs}
 use Rattle.legs.specs.Ready.{Ready}
 use Rattle.legs.proofs.Slotted.{has-viewed, owes_viewed, viewed-long, slot_leg, slot_own}
 use Rattle.netting.specs.Figured.{FiguresOf}
@@ -130,3 +132,24 @@ module _ (b : Ledger) (r : Ready b) where
         → FiguresOf b due pays (viewed slots after)
     cash_figures l f after d =
         start_figures b pays legs (cash_column legs l) due (viewed slots before) (cash_viewed legs slots before l s f) (viewed slots after) d
+
+  -- the same, as a struct keeps them
+  module _ (due : ℕ) (l : Legs) (trades : l.trades ≡ n) where
+    slotted : Slots n l.legs l.slots
+    slotted = subst (λ (m : ℕ). Slots m l.legs l.slots) trades l.slotted
+
+    pub share_room_in : ShareLegs b.waiting l.legs → ShareStart b l.figures → RoomAll l.trades (is_on due) l.legs (figures_in l)
+    share_room_in f g = rw trades (share_room due l.legs l.slots l.figures slotted f g)
+
+    pub cash_room_in : CashLegs b.waiting l.legs → CashStart b l.figures → RoomAll l.trades (is_on due) l.legs (figures_in l)
+    cash_room_in f g = rw trades (cash_room due l.legs l.slots l.figures slotted f g)
+
+    module _ (after : Legs) (s : SameLegs l after) (d : WithMarked l.trades (is_on due) l.legs l.slots l.figures after.figures) where
+      added : WithMarked n (is_on due) l.legs l.slots l.figures after.figures
+      added = subst (λ (m : ℕ). WithMarked m (is_on due) l.legs l.slots l.figures after.figures) trades d
+
+      pub share_figures_in : ShareLegs b.waiting l.legs → ShareStart b l.figures → FiguresOf b due delivers (figures_in after)
+      share_figures_in f g = rw s.slots (share_figures due l.legs l.slots l.figures slotted f g after.figures added)
+
+      pub cash_figures_in : CashLegs b.waiting l.legs → CashStart b l.figures → FiguresOf b due pays (figures_in after)
+      cash_figures_in f g = rw s.slots (cash_figures due l.legs l.slots l.figures slotted f g after.figures added)

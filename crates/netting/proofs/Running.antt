@@ -1,5 +1,5 @@
 -- The rounds as code runs them: the marks, and beside them the figures of every item. Assumes nothing.
-use Rattle.std.specs.Prelude.{if◌then◌else◌}
+use Rattle.std.specs.Prelude.{if◌then◌else◌, Some, None}
 use Prim.Native.Nat.{ℕ, suc, ◌+◌, ◌-◌, ◌≤◌, ◌<◌}
 use native.Mathlib.Omega.{arith}
 use mathlib.Core.Bool.{Bool, true, false, not, ◌&&◌, ◌||◌, false≢true}
@@ -15,17 +15,17 @@ use Rattle.plain.proofs.Tests.{both}
 use Rattle.rulebook.specs.Ledger.{Ledger}
 use Rattle.rulebook.specs.Shortfall.{debits_short, delivers, pays}
 use Rattle.rulebook.specs.declared.Item.{Item}
-use Rattle.words.specs.declared.Found.TheVariants.{At, Nothing}
 use Rattle.words.proofs.Places.{from_get, from_set, length_from}
 use Rattle.marks.specs.Marks.{Marked, with_mark, item_in, is_on, marked_of, count_on}
 use Rattle.marks.proofs.Marking.{marking, count_most}
 use Rattle.legs.specs.Figures.{from_at, to_at, has_at, owes_at, brings, takes, Figures, Cover, short_at, last_short}
-use Rattle.legs.specs.Filled.{ShareLegs, CashLegs}
+use Rattle.legs.specs.Legs.{figures_in, SameLegs}
 use Rattle.legs.specs.Slots.{viewed}
+use Rattle.legs.specs.declared.figures.Legs.{Legs}
 use Rattle.legs.specs.Ready.{Ready}
 use Rattle.legs.proofs.Searches.{Last, last_at, last_none, last_same}
 use Rattle.netting.specs.Rounds.{unmark_last, mark_rounds}
-use Rattle.netting.specs.Figured.{FiguresOf, Figured}
+use Rattle.netting.specs.Figured.{Figured}
 use Rattle.netting.specs.Selected.{Within}
 use Rattle.netting.proofs.Netting.{short_missing, cover_one, less_figures}
 use Rattle.netting.proofs.Columns.{share_column, cash_column}
@@ -59,11 +59,8 @@ module _ (b : Ledger) (r : Ready b) where
   n = length b.waiting
 
   -- the marks and the figures after some rounds
-  pub record Running (due marks : ℕ) (shares cents held funds : List ℕ) : Type 0 where
-    pub share_legs : ShareLegs b.waiting shares
-    pub cash_legs : CashLegs b.waiting cents
-    pub held_figures : FiguresOf b marks delivers held
-    pub funds_figures : FiguresOf b marks pays funds
+  pub record Running (due marks : ℕ) (shares cash : Legs) : Type 0 where
+    pub figured : Figured b marks shares cash
     -- no mark is new
     pub within : Within due marks
     -- there are as many rounds left as marks, or more
@@ -77,36 +74,17 @@ module _ (b : Ledger) (r : Ready b) where
   mark-long : (on : ℕ → Bool) → length (marking on item n) ≡ n
   mark-long on = length_from (λ i. (on i, item i)) 0 n
 
-  -- before the first round, and between rounds
+  -- before the first round
+  pub starts : {shares cash : Legs} {due : ℕ} → Figured b due shares cash → Running due due shares cash
+  starts {due = due} f = record { figured = f; within = λ k l e. e; left = n; enough = count_most (is_on due) n; same = refl }
 
-  module _ {shares held_at held₀ cents funds_at funds₀ : List ℕ} {due : ℕ} (f : Figured b due shares held_at held₀ cents funds_at funds₀) where
-    pub starts : Running due due shares cents (viewed held_at held₀) (viewed funds_at funds₀)
-    starts = record {
-      share_legs = f.share_legs;
-      cash_legs = f.cash_legs;
-      held_figures = f.held_figures;
-      funds_figures = f.funds_figures;
-      within = λ k l e. e;
-      left = n;
-      enough = count_most (is_on due) n;
-      same = refl;
-    }
+  module _ {due marks : ℕ} {shares cash : Legs} (w : Running due marks shares cash) where
+    abbrev held : List ℕ
+    held = figures_in shares
 
-    pub figured :
-        (marks : ℕ) (held funds : List ℕ) → length held ≡ 128 → length funds ≡ 128 → Running due marks shares cents (viewed held_at held) (viewed funds_at funds)
-        → Figured b marks shares held_at held cents funds_at funds
-    figured marks held funds p q w = record {
-      share_legs = f.share_legs;
-      share_slots = f.share_slots;
-      held_long = p;
-      held_figures = w.held_figures;
-      cash_legs = f.cash_legs;
-      cash_slots = f.cash_slots;
-      funds_long = q;
-      funds_figures = w.funds_figures;
-    }
+    abbrev funds : List ℕ
+    funds = figures_in cash
 
-  module _ {due marks : ℕ} {shares cents held funds : List ℕ} (w : Running due marks shares cents held funds) where
     abbrev ms : List Marked
     ms = marking (is_on marks) item n
 
@@ -119,13 +97,13 @@ module _ (b : Ledger) (r : Ready b) where
     tested k l =
         rw (
           mark-at (is_on marks) k l,
-          short_missing b delivers shares (share_column b r shares w.share_legs) marks held w.held_figures k l,
-          short_missing b pays cents (cash_column b r cents w.cash_legs) marks funds w.funds_figures k l,
+          short_missing b delivers shares.legs (share_column b r shares.legs w.figured.share_legs) marks held w.figured.held_figures k l,
+          short_missing b pays cash.legs (cash_column b r cash.legs w.figured.cash_legs) marks funds w.figured.funds_figures k l,
         )
 
     -- ---- no one is short
 
-    pub stops : last_short (is_on marks) held funds n ≡ Nothing → marked_of marks b.waiting ≡ mark_rounds n b.holdings (marked_of due b.waiting)
+    pub stops : last_short (is_on marks) held funds n ≡ None → marked_of marks b.waiting ≡ mark_rounds n b.holdings (marked_of due b.waiting)
     unfolding marked_of
     stops e =
         let low : (k : ℕ) → k < length ms → k < n = λ k l. rw (mark-long (is_on marks)) at l in
@@ -134,7 +112,7 @@ module _ (b : Ledger) (r : Ready b) where
 
     -- ---- the trade at j is the last that debits a short one
 
-    module _ {j : ℕ} (found : last_short (is_on marks) held funds n ≡ At j) where
+    module _ {j : ℕ} (found : last_short (is_on marks) held funds n ≡ Some j) where
       last : Last (at (debits_short b.holdings (with_mark ms)) ms) n j
       last = last_same _ _ n j tested (last_at code n j found)
 
@@ -144,11 +122,11 @@ module _ (b : Ledger) (r : Ready b) where
       pub marked : is_on marks j ≡ true
       marked = (both (is_on marks j) _ (last_at code n j found).passed).0
 
-      pub share_cover : Cover n shares j held
-      share_cover = cover_one b delivers shares (share_column b r shares w.share_legs) marks held w.held_figures j inside marked
+      pub share_cover : Cover n shares.legs j held
+      share_cover = cover_one b delivers shares.legs (share_column b r shares.legs w.figured.share_legs) marks held w.figured.held_figures j inside marked
 
-      pub cash_cover : Cover n cents j funds
-      cash_cover = cover_one b pays cents (cash_column b r cents w.cash_legs) marks funds w.funds_figures j inside marked
+      pub cash_cover : Cover n cash.legs j funds
+      cash_cover = cover_one b pays cash.legs (cash_column b r cash.legs w.figured.cash_legs) marks funds w.figured.funds_figures j inside marked
 
       module _ (now : ℕ) (flips : (k : ℕ) → k < 64 → is_on now k ≡ (if k is j then not (is_on marks j) else is_on marks k)) where
         gone : is_on now j ≡ false
@@ -200,10 +178,10 @@ module _ (b : Ledger) (r : Ready b) where
 
         -- none from j on is short, unless what j credits is
         pub behind_still :
-            (held' funds' : List ℕ) → Figures n (λ k. has_at held k - brings shares j k) (λ k. owes_at held k - takes shares j k) held'
-            → Figures n (λ k. has_at funds k - brings cents j k) (λ k. owes_at funds k - takes cents j k) funds'
-            → (k : ℕ) → ((to_at shares j is from_at shares k) ≡ true → short_at held' k ≡ false)
-            → ((to_at cents j is from_at cents k) ≡ true → short_at funds' k ≡ false)
+            (held' funds' : List ℕ) → Figures n (λ k. has_at held k - brings shares.legs j k) (λ k. owes_at held k - takes shares.legs j k) held'
+            → Figures n (λ k. has_at funds k - brings cash.legs j k) (λ k. owes_at funds k - takes cash.legs j k) funds'
+            → (k : ℕ) → ((to_at shares.legs j is from_at shares.legs k) ≡ true → short_at held' k ≡ false)
+            → ((to_at cash.legs j is from_at cash.legs k) ≡ true → short_at funds' k ≡ false)
             → j ≤ k → k < n → (is_on now k && (short_at held' k || short_at funds' k)) ≡ false
         behind_still held' funds' h f k a c l m = go (ltb j k) refl
           where
@@ -212,21 +190,31 @@ module _ (b : Ledger) (r : Ready b) where
                 let d : j < k = ltb-true j k t in
                 neither (is_on now k) (short_at held k) (short_at funds k) (short_at held' k) (short_at funds' k)
                 (rw (sym (others k m (λ e. omega (arith, e)))) ((last_at code n j found).behind k d m))
-                (still n shares held held' j h k a m) (still n cents funds funds' j f k c m)
+                (still n shares.legs held held' j h k a m) (still n cash.legs funds funds' j f k c m)
             go false t =
                 let e : k ≡ j = omega (arith, ltb-false j k t) in
                 off (is_on now k) _ (ap (is_on now) e ∙ gone)
 
         pub runs_on :
-            (held' funds' : List ℕ) → Figures n (λ k. has_at held k - brings shares j k) (λ k. owes_at held k - takes shares j k) held'
-            → Figures n (λ k. has_at funds k - brings cents j k) (λ k. owes_at funds k - takes cents j k) funds' → Running due now shares cents held' funds'
-        runs_on held' funds' h f = record {
-          share_legs = w.share_legs;
-          cash_legs = w.cash_legs;
-          held_figures =
-              less_figures b delivers shares (share_column b r shares w.share_legs) marks held w.held_figures j inside marked now gone others held' h;
-          funds_figures =
-              less_figures b pays cents (cash_column b r cents w.cash_legs) marks funds w.funds_figures j inside marked now gone others funds' f;
+            (shares' cash' : Legs) → SameLegs shares shares' → SameLegs cash cash'
+            → Figures n (λ k. has_at held k - brings shares.legs j k) (λ k. owes_at held k - takes shares.legs j k) (viewed shares.slots shares'.figures)
+            → Figures n (λ k. has_at funds k - brings cash.legs j k) (λ k. owes_at funds k - takes cash.legs j k) (viewed cash.slots cash'.figures)
+            → Running due now shares' cash'
+        runs_on shares' cash' s t h f = record {
+          figured = record {
+            share_trades = s.trades ∙ w.figured.share_trades;
+            share_legs = rw s.legs w.figured.share_legs;
+            held_figures =
+                rw s.slots
+                (less_figures b delivers shares.legs (share_column b r shares.legs w.figured.share_legs) marks held w.figured.held_figures j inside marked
+                now gone others (viewed shares.slots shares'.figures) h);
+            cash_trades = t.trades ∙ w.figured.cash_trades;
+            cash_legs = rw t.legs w.figured.cash_legs;
+            funds_figures =
+                rw t.slots
+                (less_figures b pays cash.legs (cash_column b r cash.legs w.figured.cash_legs) marks funds w.figured.funds_figures j inside marked now
+                gone others (viewed cash.slots cash'.figures) f);
+          };
           within = λ k l e. w.within k l (was_on k l e);
           left = w.left - 1;
           enough = omega (arith, w.enough, fewer);

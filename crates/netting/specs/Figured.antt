@@ -7,7 +7,8 @@ use Rattle.rulebook.specs.declared.Item.{Item}
 use Rattle.marks.specs.Marks.{over, item_in, marked_of}
 use Rattle.legs.specs.Figures.{Figures}
 use Rattle.legs.specs.Filled.{ShareLegs, CashLegs}
-use Rattle.legs.specs.Slots.{Slots, viewed}
+use Rattle.legs.specs.Legs.{figures_in}
+use Rattle.legs.specs.declared.figures.Legs.{Legs}
 
 -- at the place that each trade debits: what there is with what the marked ones bring, and what these take
 abbrev pub FiguresOf : Ledger → (marks : ℕ) → (debits : Item → Place) → List ℕ → Type 0
@@ -16,13 +17,11 @@ FiguresOf b marks debits figures =
     (λ k. book_has (debits (item_in b.waiting k)) b.holdings + over (brings (debits (item_in b.waiting k))) (marked_of marks b.waiting))
     (λ k. over (takes (debits (item_in b.waiting k))) (marked_of marks b.waiting)) figures
 
--- the columns of shares, and those of cash
-pub record Figured (b : Ledger) (marks : ℕ) (shares held_at held cents funds_at funds : List ℕ) : Type 0 where
-  pub share_legs : ShareLegs b.waiting shares
-  pub share_slots : Slots (length b.waiting) shares held_at
-  pub held_long : length held ≡ 128
-  pub held_figures : FiguresOf b marks delivers (viewed held_at held)
-  pub cash_legs : CashLegs b.waiting cents
-  pub cash_slots : Slots (length b.waiting) cents funds_at
-  pub funds_long : length funds ≡ 128
-  pub funds_figures : FiguresOf b marks pays (viewed funds_at funds)
+-- the legs of shares and those of cash, with such figures
+pub record Figured (b : Ledger) (marks : ℕ) (shares cash : Legs) : Type 0 where
+  pub share_trades : shares.trades ≡ length b.waiting
+  pub share_legs : ShareLegs b.waiting shares.legs
+  pub held_figures : FiguresOf b marks delivers (figures_in shares)
+  pub cash_trades : cash.trades ≡ length b.waiting
+  pub cash_legs : CashLegs b.waiting cash.legs
+  pub funds_figures : FiguresOf b marks pays (figures_in cash)

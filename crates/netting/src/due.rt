@@ -26,14 +26,8 @@ pub fn due_marks(book: &[u64]) -> Marks
     ensures { Taken (ledger_of book.now) result }
 {
     let day = book::day(book);
-    let n = book_items::items(book);
-    let mut marks: Marks = 0;
-    let mut i: usize = 0;
-    while i < n {
-        if is_due(book_items::item_at(book, i), day.number) {
-            marks = marks::flip(marks, i);
-        }
-        i += 1;
-    }
-    marks
+    marks::on_each(
+        book_items::items(book),
+        |i| is_due(book_items::item_at(book, i), day.number),
+    )
 }

@@ -6,15 +6,15 @@ mod passes;
 mod rounds;
 
 ghost use Rattle.std.specs.Prelude.{map, ◌≡◌};
+ghost use Rattle.rulebook.specs.Ledger.{Ledger};
 ghost use Rattle.rulebook.specs.Selection.{selection};
 ghost use Rattle.book.specs.Meaning.{ledger_of};
-ghost use Rattle.book.specs.Stored.{Stored};
+ghost use Rattle.book.specs.Stored.{Stored, Means};
 ghost use Rattle.legs.specs.Ready.{Ready};
 ghost use Rattle.marks.specs.Marks.{marked_of};
 ghost use Rattle.netting.specs.Rounds.{mark_of};
 ghost use Rattle.netting.specs.Selected.{Taken, Selected};
 
-use legs::figures;
 use marks::Marks;
 
 // The waiting trades that are due, and those of them that a cycle fixes.
@@ -26,28 +26,17 @@ pub struct Selection {
 
 // What the rounds and the passes make of the marks of what is due.
 fn selected_marks(book: &[u64], due: Marks) -> Marks
-    requires { Stored book.now × Ready (ledger_of book.now) × Taken (ledger_of book.now) due }
-    ensures { marked_of result (ledger_of book.now).waiting ≡ map mark_of (selection (ledger_of book.now)) }
+    ghost b: { Ledger }
+    requires means { Means book.now b }
+    requires taken { Ready b × Taken b due }
+    ensures { marked_of result b.waiting ≡ map mark_of (selection b) }
 {
-    let n = book_items::items(book);
-    let mut shares = [0u64; 192];
-    let mut held = [0u64; 128];
-    legs::fill_shares(&mut shares, &mut held, book);
-    let mut held_at = [0u64; 128];
-    slots::fill(&mut held_at, &shares, n);
-    figures::add_marked(&mut held, &shares, &held_at, due, n);
-    let mut cents = [0u64; 192];
-    let mut funds = [0u64; 128];
-    legs::fill_cash(&mut cents, &mut funds, book);
-    let mut funds_at = [0u64; 128];
-    slots::fill(&mut funds_at, &cents, n);
-    figures::add_marked(&mut funds, &cents, &funds_at, due, n);
-    let kept = rounds::drop_short(
-        book, due, &mut held, &shares, &held_at, &mut funds, &cents, &funds_at,
-    );
-    passes::put_back(
-        book, due, kept, &mut held, &shares, &held_at, &mut funds, &cents, &funds_at,
-    )
+    let mut shares = slots::share_legs(book);
+    shares.add_marked(due);
+    let mut cash = slots::cash_legs(book);
+    cash.add_marked(due);
+    let kept = rounds::drop_short(due, &mut shares, &mut cash);
+    passes::put_back(due, kept, &mut shares, &mut cash)
 }
 
 // What a cycle does with the book as it is.

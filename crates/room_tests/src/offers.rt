@@ -59,12 +59,10 @@ fn fixed_flows(book: &[u64], account: Account) -> Flow
     let n = book_items::items(book);
     let mut taken: u64 = 0;
     let mut brought: u64 = 0;
-    let mut i: usize = 0;
-    while i < n {
+    for i in 0..n {
         let flow = fixed_flow(book, i, account);
         taken += flow.taken.0;
         brought += flow.brought.0;
-        i += 1;
     }
     Flow {
         taken: Shares(taken),

@@ -36,13 +36,11 @@ fn credit_marked(book: &mut [u64], marks: Marks)
     ensures { HoldingsBecome (credits (legs (with_mark (marked_of marks (waiting_of book.old))))) book.old book.new }
 {
     let n = book_items::items(book);
-    let mut i: usize = 0;
-    while i < n {
+    for i in 0..n {
         if marks::is_on(marks, i) {
             let trade = book_items::item_at(book, i);
             credit_trade(book, trade);
         }
-        i += 1;
     }
 }
 
@@ -52,13 +50,11 @@ fn debit_marked(book: &mut [u64], marks: Marks)
     ensures { HoldingsBecome (debits (legs (with_mark (marked_of marks (waiting_of book.old))))) book.old book.new }
 {
     let n = book_items::items(book);
-    let mut i: usize = 0;
-    while i < n {
+    for i in 0..n {
         if marks::is_on(marks, i) {
             let trade = book_items::item_at(book, i);
             debit_trade(book, trade);
         }
-        i += 1;
     }
 }
 

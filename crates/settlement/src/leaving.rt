@@ -13,14 +13,12 @@ pub fn leave_marked(book: &mut [u64], marks: Marks)
 {
     let n = book_items::items(book);
     let mut j: usize = 0;
-    let mut i: usize = 0;
-    while i < n {
+    for i in 0..n {
         if !marks::is_on(marks, i) {
             let item = book_items::item_at(book, i);
             book_items::put_item(book, j, item);
             j += 1;
         }
-        i += 1;
     }
     book_items::keep_first(book, j);
 }

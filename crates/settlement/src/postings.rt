@@ -14,13 +14,11 @@ pub fn write_marked(area: &mut [u8], book: &[u64], marks: Marks)
 {
     let n = book_items::items(book);
     let mut at: usize = 0;
-    let mut i: usize = 0;
-    while i < n {
+    for i in 0..n {
         if marks::is_on(marks, i) {
             let trade = book_items::item_at(book, i);
             rows::write_trade(&mut area[at..], trade);
             at += 64;
         }
-        i += 1;
     }
 }

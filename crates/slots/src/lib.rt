@@ -2,10 +2,14 @@
 #![tactic(auto)]
 
 ghost use Rattle.std.specs.Prelude.{◌≡◌, ◌+◌, ◌≤◌, ◌<◌, length, get_or, set};
+ghost use Rattle.book.specs.Meaning.{ledger_of};
+ghost use Rattle.book.specs.Stored.{Stored};
+ghost use Rattle.legs.specs.Filled.{ShareLegs, ShareStart, CashLegs, CashStart};
+ghost use Rattle.legs.specs.Ready.{Ready};
 ghost use Rattle.legs.specs.Slots.{slot_of, Slots};
 ghost use Rattle.slots.specs.Links.{bucket_of, Unlinked, Linked};
 
-use legs::{TO, figures};
+use legs::{Legs, NOWHERE, TO};
 
 const HEADS: usize = 64;
 
@@ -31,11 +35,9 @@ fn link(links: &mut [u64], legs: &[u64], n: usize)
     requires { Unlinked links.old × (length legs.now ≡ 192) × (n ≤ 64) }
     ensures { Linked n legs.now links.new }
 {
-    let mut i: usize = 0;
-    while i < n {
+    for i in 0..n {
         let bucket = bucket_of(legs[i]);
         put_link(links, i, bucket);
-        i += 1;
     }
 }
 
@@ -46,13 +48,13 @@ fn slot_of(legs: &[u64], links: &[u64], key: u64, n: usize) -> u64
 {
     let bucket = bucket_of(key);
     let mut k = links[bucket + HEADS] as usize;
-    while k != figures::NOWHERE {
+    while k != NOWHERE {
         if legs[k] == key {
             return k as u64;
         }
         k = links[k] as usize;
     }
-    figures::NOWHERE as u64
+    NOWHERE as u64
 }
 
 // The slots of what the leg at `i` debits and credits.
@@ -65,17 +67,57 @@ fn put_slots(slots: &mut [u64], i: usize, from: u64, to: u64)
 }
 
 // The slots of what each leg debits, and of what it credits.
-pub fn fill(slots: &mut [u64], legs: &[u64], n: usize)
+fn fill(slots: &mut [u64], legs: &[u64], n: usize)
     requires { (length slots.old ≡ 128) × (length legs.now ≡ 192) × (n ≤ 64) }
     ensures { Slots n legs.now slots.new }
 {
     let mut links = [64u64; 128];
     link(&mut links, legs, n);
-    let mut k: usize = 0;
-    while k < n {
+    for k in 0..n {
         let from = slot_of(legs, &links, legs[k], n);
         let to = slot_of(legs, &links, legs[k + TO], n);
         put_slots(slots, k, from, to);
-        k += 1;
+    }
+}
+
+// The legs of the waiting trades' shares, with the balances that they debit.
+pub fn share_legs(book: &[u64]) -> Legs
+    requires { Stored book.now × Ready (ledger_of book.now) }
+    ensures trades { result.trades ≡ length (ledger_of book.now).waiting }
+    ensures share_legs { ShareLegs (ledger_of book.now).waiting result.legs }
+    ensures share_start { ShareStart (ledger_of book.now) result.figures }
+{
+    let trades = book_items::items(book);
+    let mut legs = [0u64; 192];
+    let mut figures = [0u64; 128];
+    legs::fill_shares(&mut legs, &mut figures, book);
+    let mut slots = [0u64; 128];
+    fill(&mut slots, &legs, trades);
+    Legs {
+        trades,
+        legs,
+        slots,
+        figures,
+    }
+}
+
+// The legs of their cash, with the amounts that they debit.
+pub fn cash_legs(book: &[u64]) -> Legs
+    requires { Stored book.now × Ready (ledger_of book.now) }
+    ensures trades { result.trades ≡ length (ledger_of book.now).waiting }
+    ensures cash_legs { CashLegs (ledger_of book.now).waiting result.legs }
+    ensures cash_start { CashStart (ledger_of book.now) result.figures }
+{
+    let trades = book_items::items(book);
+    let mut legs = [0u64; 192];
+    let mut figures = [0u64; 128];
+    legs::fill_cash(&mut legs, &mut figures, book);
+    let mut slots = [0u64; 128];
+    fill(&mut slots, &legs, trades);
+    Legs {
+        trades,
+        legs,
+        slots,
+        figures,
     }
 }

@@ -8,7 +8,7 @@ use Rattle.settlement.proofs.booking.credit_marked.Goals as goal
 use Rattle.settlement.proofs.booking.credit_marked.Goals.{then-is_on, else-is_on}
 
 pub loop-i-init : goal.loop-i-init
-loop-i-init c = (omega arith, credit-start c.args.marks c.args.book.now c.requires.0)
+loop-i-init c = credit-start c.args.marks c.args.book.now c.requires.0
 
 -- i is a place of the waiting list, which stays as it was
 pub item_at-trade-requires : goal.item_at-trade-requires
@@ -16,7 +16,7 @@ item_at-trade-requires c =
     let l = c.loop-i in
     let b = ledger_of c.args.book.now in
     let low : l.i < length b.waiting = omega (arith, c.items-n.ensures) in
-    (l.invariant.1.stored, subst (λ (w : List Item). l.i < length w) (sym (waiting_now b l.book _ l.invariant.1)) low)
+    (l.invariant.stored, subst (λ (w : List Item). l.i < length w) (sym (waiting_now b l.book _ l.invariant)) low)
 
 pub credit_trade-requires : goal.credit_trade-requires
 credit_trade-requires c =
@@ -25,7 +25,7 @@ credit_trade-requires c =
     let low : l.i < length b.waiting = omega (arith, c.items-n.ensures) in
     let marked = sym c.is_on.ensures ∙ c.if-is_on.true in
     let item = c.item_at-trade.ensures no_item in
-    (l.invariant.1.stored, credit-fits b c.args.marks l.i l.book marked _ item l.invariant.1 low c.requires.1)
+    (l.invariant.stored, credit-fits b c.args.marks l.i l.book marked _ item l.invariant low c.requires.1)
 
 pub loop-i-preserved : goal.loop-i-preserved
 loop-i-preserved c =
@@ -35,14 +35,14 @@ loop-i-preserved c =
     let test = sym c.is_on.ensures in
     elim c.if-is_on.branch [
       | then-is_on w ↦
-          let on = credit-on b marks l.i l.book (test ∙ w.if-is_on.true) _ (w.item_at-trade.ensures no_item) l.invariant.1 _ w.credit_trade.ensures in
-          (omega arith, subst (Credited b marks (l.i + 1)) (sym w.book-is) on)
+          let on = credit-on b marks l.i l.book (test ∙ w.if-is_on.true) _ (w.item_at-trade.ensures no_item) l.invariant _ w.credit_trade.ensures in
+          subst (Credited b marks (l.i + 1)) (sym w.book-is) on
       | else-is_on w ↦
-          let off = credit-off b marks l.i l.book l.invariant.1 (test ∙ w.if-is_on.false) in
-          (omega arith, subst (Credited b marks (l.i + 1)) (sym w.book-is) off)
+          let off = credit-off b marks l.i l.book l.invariant (test ∙ w.if-is_on.false) in
+          subst (Credited b marks (l.i + 1)) (sym w.book-is) off
     ]
 
 pub returns : goal.returns
 returns c =
     let l = c.loop-i in
-    credit-done (ledger_of c.args.book.now) c.args.marks l.i l.book (omega (arith, c.items-n.ensures)) l.invariant.1
+    credit-done (ledger_of c.args.book.now) c.args.marks l.i l.book (omega (arith, c.items-n.ensures)) l.invariant
