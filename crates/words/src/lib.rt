@@ -5,28 +5,11 @@ mod order;
 
 ghost use Rattle.std.specs.Prelude.{◌≡◌, ◌+◌, ◌-◌, ◌≤◌, ◌<◌, length, take, drop};
 ghost use borrow.Rule.Slice.PartMut.{put_mid};
-ghost use Rattle.words.specs.Places.{bit, is_found, first_from};
+ghost use Rattle.words.specs.Places.{bit, first_from};
 ghost use Rattle.words.specs.Tables as Tables;
 ghost use Rattle.words.specs.Tables.{rows, is_key, place_of, value_of, KeysOnce};
 
 pub use order::next_key;
-
-// What a search for a place finds.
-#[derive(Clone, Copy)]
-pub enum Found {
-    At(usize),
-    Nothing,
-}
-
-// Whether a search found something.
-pub fn is_found(found: Found) -> bool
-    ensures { result ≡ is_found found }
-{
-    match found {
-        Found::At(_) => true,
-        Found::Nothing => false,
-    }
-}
 
 // A flag as a word.
 pub fn bit_of(b: bool) -> u64
@@ -72,7 +55,7 @@ fn passed(table: &[u64], key: u64, n: usize) -> usize
 }
 
 // Where the row of `key` stands in a table, whose keys are the words behind its first.
-pub fn find(table: &[u64], key: u64) -> Found
+pub fn find(table: &[u64], key: u64) -> Option<usize>
     requires { rows table.now < length table.now }
     ensures { result ≡ place_of key table.now }
 {
@@ -80,11 +63,11 @@ pub fn find(table: &[u64], key: u64) -> Found
     let mut i = passed(table, key, n);
     while i < n {
         if table[i + 1] == key {
-            return Found::At(i);
+            return Some(i);
         }
         i += 1;
     }
-    Found::Nothing
+    None
 }
 
 // What the row of `key` has in the column that starts at `column`: 0 where there is none.
@@ -94,8 +77,8 @@ pub fn value(table: &[u64], key: u64, column: usize) -> u64
 {
     let found = find(table, key);
     match found {
-        Found::At(i) => table[i + column],
-        Found::Nothing => 0,
+        Some(i) => table[i + column],
+        None => 0,
     }
 }
 

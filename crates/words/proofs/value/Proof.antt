@@ -9,22 +9,22 @@ use Rattle.words.proofs.value.Statement.{statement}
 use Rattle.words.proofs.value.Tie as tie
 
 here :
-    (c : tie.In-At) → (c.in-At.i < rows c.args.table.now)
-    × (key_at c.args.table.now c.in-At.i ≡ c.args.key)
+    (c : tie.In-Some) → (c.in-Some.i < rows c.args.table.now)
+    × (key_at c.args.table.now c.in-Some.i ≡ c.args.key)
 here c =
-    let a = c.args in place_at a.table.now a.key c.in-At.i
-    (sym c.find-found.ensures ∙ c.in-At.is)
+    let a = c.args in place_at a.table.now a.key c.in-Some.i
+    (sym c.find-found.ensures ∙ c.in-Some.is)
 
-returns : tie.Need-returns-in-At
+returns : tie.Need-returns-in-Some
 returns c =
     let f = c.before in
     let s = f in
-    sym (value_at s.args.table.now s.args.key s.args.column s.requires.0 f.in-At.i (here f).0 (here f).1)
+    sym (value_at s.args.table.now s.args.key s.args.column s.requires.0 f.in-Some.i (here f).0 (here f).1)
 
-returns-2 : tie.Need-returns-in-Nothing
+returns-2 : tie.Need-returns-in-None
 returns-2 c =
     let a = c.args in
-    sym (value_none a.table.now a.key a.column (sym c.find-found.ensures ∙ c.in-Nothing.is))
+    sym (value_none a.table.now a.key a.column (sym c.find-found.ensures ∙ c.in-None.is))
 
 pub value_spec : {M : Type 1} → statement M
 value_spec =
