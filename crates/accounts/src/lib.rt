@@ -11,7 +11,6 @@ ghost use Rattle.words.specs.Tables.{rows, place_of};
 ghost use Rattle.accounts.specs.Map.{balance_of, with_accounts, Kept, CreditFits, opened, removed};
 
 use rulebook::{Account, Shares};
-use words::Found;
 
 const BALANCES: usize = 257;
 
@@ -60,7 +59,7 @@ pub fn next_account(accounts: &[u64], from: u64) -> u64
 }
 
 // Where the account stands.
-fn find(accounts: &[u64], account: Account) -> Found
+fn find(accounts: &[u64], account: Account) -> Option<usize>
     requires { Kept accounts.now × AccountInRange account }
     ensures { result ≡ place_of (key_of account) accounts.now }
 {
@@ -114,11 +113,11 @@ pub fn credit(accounts: &mut [u64], account: Account, quantity: Shares)
 {
     let found = find(accounts, account);
     match found {
-        Found::At(i) => {
+        Some(i) => {
             let held = accounts[i + BALANCES];
             accounts[i + BALANCES] = held + quantity.0;
         }
-        Found::Nothing => open_account(accounts, account, quantity),
+        None => open_account(accounts, account, quantity),
     }
 }
 
@@ -132,7 +131,7 @@ pub fn debit(accounts: &mut [u64], account: Account, quantity: Shares)
 {
     let found = find(accounts, account);
     match found {
-        Found::At(i) => {
+        Some(i) => {
             let held = accounts[i + BALANCES];
             if held == quantity.0 {
                 remove_account(accounts, i);
@@ -140,6 +139,6 @@ pub fn debit(accounts: &mut [u64], account: Account, quantity: Shares)
                 accounts[i + BALANCES] = held - quantity.0;
             }
         }
-        Found::Nothing => {}
+        None => {}
     }
 }

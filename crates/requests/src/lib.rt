@@ -9,7 +9,6 @@ ghost use Rattle.requests.specs.Packed.{ReferenceInRange, in_range, key_of, key_
 ghost use Rattle.requests.specs.Map.{requests_of, Kept, removed};
 
 use rulebook::{Request, Shares};
-use words::Found;
 
 const SHARES: usize = 17;
 
@@ -67,7 +66,7 @@ fn request_in(shares: u64, quantity: u64) -> Request
 // ---- the requests
 
 // Where the request stands.
-fn find(requests: &[u64], member: u64, reference: u64) -> Found
+fn find(requests: &[u64], member: u64, reference: u64) -> Option<usize>
     requires { Kept requests.now × ReferenceInRange member reference }
     ensures { result ≡ place_of (key_of member reference) requests.now }
 {
@@ -82,8 +81,8 @@ pub fn request(requests: &[u64], member: u64, reference: u64) -> Request
 {
     let found = find(requests, member, reference);
     match found {
-        Found::At(i) => request_in(requests[i + SHARES], requests[i + QUANTITIES]),
-        Found::Nothing => request_in(0, 0),
+        Some(i) => request_in(requests[i + SHARES], requests[i + QUANTITIES]),
+        None => request_in(0, 0),
     }
 }
 
@@ -137,7 +136,7 @@ pub fn end_request(requests: &mut [u64], member: u64, reference: u64)
 {
     let found = find(requests, member, reference);
     match found {
-        Found::At(i) => remove_request(requests, i),
-        Found::Nothing => {}
+        Some(i) => remove_request(requests, i),
+        None => {}
     }
 }

@@ -7,7 +7,6 @@ ghost use Rattle.words.specs.Tables.{rows};
 ghost use Rattle.securities.specs.Admitted.{securities_of, with_securities, entered, left, Kept};
 
 use rulebook::{Security, Shares};
-use words::Found;
 
 const ISSUED: usize = 33;
 
@@ -22,8 +21,8 @@ pub fn admitted(securities: &[u64], code: u64) -> bool
 {
     let found = words::find(securities, code);
     match found {
-        Found::At(_) => true,
-        Found::Nothing => false,
+        Some(_) => true,
+        None => false,
     }
 }
 
@@ -80,13 +79,13 @@ pub fn enter_custody(securities: &mut [u64], code: u64, quantity: Shares)
 {
     let found = words::find(securities, code);
     match found {
-        Found::At(i) => {
+        Some(i) => {
             let outside = securities[i + OUTSIDE];
             securities[i + OUTSIDE] = outside - quantity.0;
             let held = securities[i + HELD];
             securities[i + HELD] = held + quantity.0;
         }
-        Found::Nothing => {}
+        None => {}
     }
 }
 
@@ -99,12 +98,12 @@ pub fn leave_custody(securities: &mut [u64], code: u64, quantity: Shares)
 {
     let found = words::find(securities, code);
     match found {
-        Found::At(i) => {
+        Some(i) => {
             let outside = securities[i + OUTSIDE];
             securities[i + OUTSIDE] = outside + quantity.0;
             let held = securities[i + HELD];
             securities[i + HELD] = held - quantity.0;
         }
-        Found::Nothing => {}
+        None => {}
     }
 }

@@ -7,7 +7,7 @@ use native.Mathlib.Omega.{arith}
 use Rattle.rulebook.specs.Ledger.{Holdings}
 use Rattle.rulebook.specs.Movements as movements
 use Rattle.words.specs.Tables.{rows, place_of}
-use Rattle.words.specs.declared.Found.TheVariants.{Nothing}
+use Rattle.std.specs.Prelude.{None}
 use Rattle.accounts.specs.Keys.{key_of}
 use Rattle.accounts.specs.Map.{balance_of, balance_at, with_accounts, Kept}
 use Rattle.accounts.proofs.Map.{balance_none, balance_here, credited_at, credited_new}
@@ -15,32 +15,32 @@ use Rattle.accounts.proofs.credit.Statement.{statement}
 use Rattle.accounts.proofs.credit.Tie as tie
 
 here :
-    (c : tie.In-At) → (c.in-At.i < rows c.args.accounts.now)
+    (c : tie.In-Some) → (c.in-Some.i < rows c.args.accounts.now)
     × (balance_of c.args.accounts.now c.args.account ≡ balance_at
-    c.args.accounts.now c.in-At.i)
+    c.args.accounts.now c.in-Some.i)
 here c =
     let s = c in
-    balance_here s.args.accounts.now s.requires.0 s.args.account s.requires.1.named c.in-At.i
-    (sym c.find-found.ensures ∙ c.in-At.is)
+    balance_here s.args.accounts.now s.requires.0 s.args.account s.requires.1.named c.in-Some.i
+    (sym c.find-found.ensures ∙ c.in-Some.is)
 
 nowhere :
-    (c : tie.In-Nothing)
-    → place_of (key_of c.args.account) c.args.accounts.now ≡ Nothing
-nowhere c = sym c.find-found.ensures ∙ c.in-Nothing.is
+    (c : tie.In-None)
+    → place_of (key_of c.args.account) c.args.accounts.now ≡ None
+nowhere c = sym c.find-found.ensures ∙ c.in-None.is
 
-room : (c : tie.In-Nothing) → rows c.args.accounts.now < 256
+room : (c : tie.In-None) → rows c.args.accounts.now < 256
 room c =
     let s = c in
     s.requires.1.room (balance_none s.args.accounts.now s.requires.0 s.args.account s.requires.1.named (nowhere c))
 
-returns : tie.Need-returns-in-At
+returns : tie.Need-returns-in-Some
 returns c =
     let f = c in
     let s = f in
-    credited_at s.args.accounts.now s.requires.0 s.args.account s.requires.1.named s.args.quantity.0 f.in-At.i
-    (sym f.find-found.ensures ∙ f.in-At.is) s.requires.1.some
+    credited_at s.args.accounts.now s.requires.0 s.args.account s.requires.1.named s.args.quantity.0 f.in-Some.i
+    (sym f.find-found.ensures ∙ f.in-Some.is) s.requires.1.some
 
-returns-2 : tie.Need-returns-in-Nothing
+returns-2 : tie.Need-returns-in-None
 returns-2 c =
     let t = c.before.before.before.before in
     let s = t in

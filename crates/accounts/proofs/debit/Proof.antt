@@ -8,7 +8,7 @@ use Rattle.rulebook.specs.Ledger.{Holdings}
 use Rattle.rulebook.specs.Movements as movements
 use Rattle.rulebook.specs.Ranges.{AccountInRange}
 use Rattle.words.specs.Tables.{rows, place_of}
-use Rattle.words.specs.declared.Found.TheVariants.{At}
+use Rattle.std.specs.Prelude.{Some}
 use Rattle.accounts.specs.Keys.{key_of}
 use Rattle.accounts.specs.Map.{balance_of, balance_at, with_accounts, Kept}
 use Rattle.accounts.proofs.Map.{balance_range, balance_none, balance_here, debited_part, debited_whole}
@@ -20,18 +20,18 @@ named : (s : tie.Start) → AccountInRange s.args.account
 named s = balance_range s.args.accounts.now s.args.account (omega (arith, s.requires.1, s.requires.2))
 
 spot :
-    (c : tie.In-At)
+    (c : tie.In-Some)
     → place_of (key_of c.args.account) c.args.accounts.now
-    ≡ At c.in-At.i
-spot c = sym c.find-found.ensures ∙ c.in-At.is
+    ≡ Some c.in-Some.i
+spot c = sym c.find-found.ensures ∙ c.in-Some.is
 
 here :
-    (c : tie.In-At) → (c.in-At.i < rows c.args.accounts.now)
+    (c : tie.In-Some) → (c.in-Some.i < rows c.args.accounts.now)
     × (balance_of c.args.accounts.now c.args.account ≡ balance_at
-    c.args.accounts.now c.in-At.i)
+    c.args.accounts.now c.in-Some.i)
 here c =
     let s = c.before.before.before in balance_here s.args.accounts.now s.requires.0 s.args.account (named s)
-    c.in-At.i (spot c)
+    c.in-Some.i (spot c)
 
 remove-account-requires : tie.Need-remove_account-requires
 remove-account-requires c κs =
@@ -49,18 +49,18 @@ returns c =
     ((h : Holdings) → with_accounts r h ≡ movements.debit (movements.account s.args.account) s.args.quantity.0
     (with_accounts s.args.accounts.now h)))
     (sym c.remove_account.ensures)
-    (debited_whole s.args.accounts.now s.requires.0 s.args.account (named s) s.args.quantity.0 f.in-At.i (spot f)
+    (debited_whole s.args.accounts.now s.requires.0 s.args.account (named s) s.args.quantity.0 f.in-Some.i (spot f)
     equal.if-held-quantity.true)
 
 returns-2 : tie.Need-returns-else-held-quantity
 returns-2 c =
     let f = c.before.before.before.before in
     let s = f.before.before.before in
-    debited_part s.args.accounts.now s.requires.0 s.args.account (named s) s.args.quantity.0 f.in-At.i (spot f) s.requires.2
+    debited_part s.args.accounts.now s.requires.0 s.args.account (named s) s.args.quantity.0 f.in-Some.i (spot f) s.requires.2
     c.if-held-quantity.false
 
 -- an account that has a balance stands somewhere
-returns-3 : tie.Need-returns-in-Nothing
+returns-3 : tie.Need-returns-in-None
 returns-3 c =
     let s = c.before.before.before in
     absurd
@@ -69,7 +69,7 @@ returns-3 c =
       s.requires.1,
       s.requires.2,
       balance_none s.args.accounts.now s.requires.0 s.args.account (named s)
-          (sym c.find-found.ensures ∙ c.in-Nothing.is),
+          (sym c.find-found.ensures ∙ c.in-None.is),
     ))
 
 pub debit_spec : {M : Type 1} → statement M

@@ -7,7 +7,7 @@ use native.Mathlib.Omega.{arith}
 use Rattle.rulebook.specs.Ledger.{no_request, put_request}
 use Rattle.rulebook.specs.declared.Request.{Request}
 use Rattle.words.specs.Tables.{place_of}
-use Rattle.words.specs.declared.Found.TheVariants.{At}
+use Rattle.std.specs.Prelude.{Some}
 use Rattle.words.proofs.Tables.{place_at}
 use Rattle.requests.specs.Packed.{key_of}
 use Rattle.requests.specs.Map.{requests_of, Kept}
@@ -16,11 +16,11 @@ use Rattle.requests.proofs.Changed.{removed-kept, removed-means}
 use Rattle.requests.proofs.end_request.Statement.{statement}
 use Rattle.requests.proofs.end_request.Tie as tie
 
-abbrev start : tie.In-At → tie.Start
+abbrev start : tie.In-Some → tie.Start
 start c = c.before.before.before
 
-spot : (c : tie.In-At) → place_of (key_of (start c).args.member (start c).args.reference) (start c).args.requests.now ≡ At c.in-At.i
-spot c = sym c.find-found.ensures ∙ c.in-At.is
+spot : (c : tie.In-Some) → place_of (key_of (start c).args.member (start c).args.reference) (start c).args.requests.now ≡ Some c.in-Some.i
+spot c = sym c.find-found.ensures ∙ c.in-Some.is
 
 remove-request-requires : tie.Need-remove_request-requires
 remove-request-requires c κs =
@@ -28,7 +28,7 @@ remove-request-requires c κs =
     let kept = (start f).requires.0 in
     (kept.long, (place_at (start f).args.requests.now _ _ (spot f)).0, kept.size)
 
-returns : tie.Need-returns-in-At
+returns : tie.Need-returns-in-Some
 returns c =
     let removed = c.before.before in
     let f = removed.before.before in
@@ -37,18 +37,18 @@ returns c =
     let words = a.requests.now in
     subst (λ (r : List ℕ). Kept r × (requests_of r ≡ put_request a.member a.reference no_request (requests_of words)))
     (sym removed.remove_request.ensures) (
-      removed-kept words s.requires.0 a.member a.reference s.requires.1 f.in-At.i (spot f),
-      removed-means words s.requires.0 a.member a.reference s.requires.1 f.in-At.i (spot f),
+      removed-kept words s.requires.0 a.member a.reference s.requires.1 f.in-Some.i (spot f),
+      removed-means words s.requires.0 a.member a.reference s.requires.1 f.in-Some.i (spot f),
     )
 
 -- a request of some quantity stands somewhere
-returns-2 : tie.Need-returns-in-Nothing
+returns-2 : tie.Need-returns-in-None
 returns-2 c =
     let s = c in
     let a = s.args in
     let none =
     asked-of a.requests.now a.member a.reference s.requires.1
-    ∙ request_none a.requests.now s.requires.0 (key_of a.member a.reference) (sym c.find-found.ensures ∙ c.in-Nothing.is)
+    ∙ request_none a.requests.now s.requires.0 (key_of a.member a.reference) (sym c.find-found.ensures ∙ c.in-None.is)
     in
     absurd (omega (arith, s.requires.2, ap (λ (r : Request). r.quantity.0) none))
 

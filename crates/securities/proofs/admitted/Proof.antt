@@ -1,19 +1,19 @@
 -- `securities::admitted` meets its contract. Assumes nothing.
 use mathlib.Core.Path.{sym, ap, ◌∙◌}
 use borrow.Author.Rules.{rules}
-use Rattle.words.specs.Places.{is_found}
+use Rattle.std.specs.Prelude.{is_some}
 use Rattle.securities.proofs.StoredSecurities.{admitted-found}
 use Rattle.securities.proofs.admitted.Statement.{statement}
 use Rattle.securities.proofs.admitted.Tie as tie
 
-returns : tie.Need-returns-in-At
+returns : tie.Need-returns-in-Some
 returns c =
-    let a = c.args in λ h. ap is_found (sym c.in-At.is ∙ c.find-found.ensures)
+    let a = c.args in λ h. ap is_some (sym c.in-Some.is ∙ c.find-found.ensures)
     ∙ admitted-found a.securities.now a.code h
 
-returns-2 : tie.Need-returns-in-Nothing
+returns-2 : tie.Need-returns-in-None
 returns-2 c =
-    let a = c.args in λ h. ap is_found (sym c.in-Nothing.is ∙ c.find-found.ensures)
+    let a = c.args in λ h. ap is_some (sym c.in-None.is ∙ c.find-found.ensures)
     ∙ admitted-found a.securities.now a.code h
 
 pub admitted_spec : {M : Type 1} → statement M

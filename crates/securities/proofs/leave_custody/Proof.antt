@@ -7,7 +7,7 @@ use lib.ListN.{length-set}
 use Rattle.rulebook.specs.Ledger.{fresh}
 use Rattle.rulebook.specs.Movements.{credit}
 use Rattle.words.specs.Tables.{rows, key_at, place_of}
-use Rattle.words.specs.declared.Found.TheVariants.{At}
+use Rattle.std.specs.Prelude.{Some}
 use Rattle.words.proofs.Tables.{place_at}
 use Rattle.securities.proofs.StoredSecurities.{outside-here}
 use Rattle.securities.proofs.StoredCounts.{held-as, both_stored, both_nowhere}
@@ -15,26 +15,26 @@ use Rattle.securities.proofs.leave_custody.Statement.{statement}
 use Rattle.securities.proofs.leave_custody.Tie as tie
 
 -- where the search has found the code
-abbrev start : tie.In-At → tie.Start
+abbrev start : tie.In-Some → tie.Start
 start c = c.before.before.before
 
-abbrev place : tie.In-At → ℕ
-place c = c.in-At.i
+abbrev place : tie.In-Some → ℕ
+place c = c.in-Some.i
 
-spot : (c : tie.In-At) → place_of (start c).args.code (start c).args.securities.now ≡ At (place c)
-spot c = sym c.find-found.ensures ∙ c.in-At.is
+spot : (c : tie.In-Some) → place_of (start c).args.code (start c).args.securities.now ≡ Some (place c)
+spot c = sym c.find-found.ensures ∙ c.in-Some.is
 
-there : (c : tie.In-At) → (place c < rows (start c).args.securities.now) × (key_at (start c).args.securities.now (place c) ≡ (start c).args.code)
+there : (c : tie.In-Some) → (place c < rows (start c).args.securities.now) × (key_at (start c).args.securities.now (place c) ≡ (start c).args.code)
 there c = place_at (start c).args.securities.now (start c).args.code (place c) (spot c)
 
-low : (c : tie.In-At) → place c < rows (start c).args.securities.now
+low : (c : tie.In-Some) → place c < rows (start c).args.securities.now
 low c = (there c).0
 
 -- what becomes of the two counts
-abbrev outside : tie.In-At → ℕ → ℕ
+abbrev outside : tie.In-Some → ℕ → ℕ
 outside c n = n + (start c).args.quantity.0
 
-abbrev held : tie.In-At → ℕ → ℕ
+abbrev held : tie.In-Some → ℕ → ℕ
 held c n = n - (start c).args.quantity.0
 
 -- the counts that stand there, as the contract names them
@@ -58,19 +58,19 @@ sub-securities c =
       held-as s.args.securities.now s.requires.0 s.args.code (place f) (spot f) (outside f) (held f) fresh.holdings,
     )
 
-returns : tie.Need-returns-in-At
+returns : tie.Need-returns-in-Some
 unfolding credit
 returns c =
     let f = c.before.before.before.before in
     let s = start f in
     both_stored s.args.securities.now s.requires.0 s.args.code (place f) (spot f) (outside f) (held f)
 
-returns-2 : tie.Need-returns-in-Nothing
+returns-2 : tie.Need-returns-in-None
 unfolding credit
 returns-2 c =
     let s = c in (
       s.requires.0,
-      both_nowhere s.args.securities.now s.requires.0 s.args.code (sym c.find-found.ensures ∙ c.in-Nothing.is)
+      both_nowhere s.args.securities.now s.requires.0 s.args.code (sym c.find-found.ensures ∙ c.in-None.is)
           (λ n. n + s.args.quantity.0) (λ n. n - s.args.quantity.0),
     )
 
