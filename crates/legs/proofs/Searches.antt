@@ -6,11 +6,11 @@ use mathlib.Core.Bool.{Bool, true, false}
 use mathlib.Core.Path.{◌≡◌, refl, sym, ap, subst, ◌∙◌}
 use borrow.Author.Tests.{ltb-true, ltb-false}
 use lib.Dec.{ltb}
-use Rattle.words.specs.declared.Found.TheVariants.{At, Nothing}
+use Rattle.std.specs.Prelude.{Some, None}
 use Rattle.legs.specs.Figures.{last_below}
 
 module _ (p : ℕ → Bool) where
-  pub last_here : (i : ℕ) → 0 < i → p (i - 1) ≡ true → last_below p i ≡ At (i - 1)
+  pub last_here : (i : ℕ) → 0 < i → p (i - 1) ≡ true → last_below p i ≡ Some (i - 1)
   unfolding last_below
   last_here zero h e = absurd (omega arith)
   last_here (suc i) h e =
@@ -26,7 +26,7 @@ module _ (p : ℕ → Bool) where
       let t : p i ≡ false = subst (λ (x : ℕ). p x ≡ false) z e in
       rw (t, z)
 
-  pub last_nowhere : (i : ℕ) → i ≡ 0 → last_below p i ≡ Nothing
+  pub last_nowhere : (i : ℕ) → i ≡ 0 → last_below p i ≡ None
   unfolding last_below
   last_nowhere zero e = refl
   last_nowhere (suc i) e = absurd (omega arith)
@@ -44,28 +44,28 @@ module _ (p : ℕ → Bool) where
       go true t = f (ltb-true k n t)
       go false t = let s : n ≤ k = ltb-false k n t in subst q (omega arith) e
 
-  pub last_at : (n j : ℕ) → last_below p n ≡ At j → Last n j
+  pub last_at : (n j : ℕ) → last_below p n ≡ Some j → Last n j
   unfolding last_below
   last_at zero j e = let z : ◌≡◌ {A = ℕ} 0 1 = cc in absurd (omega arith)
   last_at (suc n) j e = go (p n) refl (λ f. last_at n j f)
     where
-      go : (b : Bool) → p n ≡ b → (last_below p n ≡ At j → Last n j) → Last (suc n) j
+      go : (b : Bool) → p n ≡ b → (last_below p n ≡ Some j → Last n j) → Last (suc n) j
       go true t ih =
-          let f : At n ≡ At j = rw t at e in
+          let f : Some n ≡ Some j = rw t at e in
           let s : n ≡ j = cc in
           record { inside = omega arith; passed = subst (λ (x : ℕ). p x ≡ true) s t; behind = λ k l h. absurd (omega arith) }
       go false t ih =
           let r = ih (rw t at e) in
           record { inside = omega (arith, r.inside); passed = r.passed; behind = λ k l h. upto (λ x. p x ≡ false) n k (λ g. r.behind k l g) t h }
 
-  pub last_none : (n : ℕ) → last_below p n ≡ Nothing → (k : ℕ) → k < n → p k ≡ false
+  pub last_none : (n : ℕ) → last_below p n ≡ None → (k : ℕ) → k < n → p k ≡ false
   unfolding last_below
   last_none zero e k h = absurd (not-suc-le-zero h)
   last_none (suc n) e k h = go (p n) refl (λ f. last_none n f)
     where
-      go : (b : Bool) → p n ≡ b → (last_below p n ≡ Nothing → (k : ℕ) → k < n → p k ≡ false) → p k ≡ false
+      go : (b : Bool) → p n ≡ b → (last_below p n ≡ None → (k : ℕ) → k < n → p k ≡ false) → p k ≡ false
       go true t ih =
-          let f : At n ≡ Nothing = rw t at e in
+          let f : Some n ≡ None = rw t at e in
           let z : ◌≡◌ {A = ℕ} 0 1 = cc in
           absurd (omega arith)
       go false t ih = upto (λ x. p x ≡ false) n k (λ g. ih (rw t at e) k g) t h

@@ -1,5 +1,5 @@
 -- Slots tell apart what legs debit, and a store at a slot changes the figures of the legs that debit the same. Assumes nothing.
-use Rattle.std.specs.Prelude.{if◌then◌else◌}
+use Rattle.std.specs.Prelude.{if◌then◌else◌, Option, Some, None}
 use Prim.Native.Nat.{ℕ, ◌+◌, ◌-◌, ◌≤◌, ◌<◌}
 use native.Mathlib.Omega.{arith}
 use native.Mathlib.Decide.{ℕ_discrete}
@@ -11,8 +11,6 @@ use lib.Dec.{ltb}
 use lib.ListN.{length, get_or, set, length-set}
 use lib.Seq.{get_or-set_same, get_or-set_other}
 use Rattle.plain.specs.Lists.{◌is◌, ◌below◌}
-use Rattle.words.specs.declared.Found.{Found}
-use Rattle.words.specs.declared.Found.TheVariants.{At, Nothing}
 use Rattle.words.proofs.Places.{length_from, from_get}
 use Rattle.legs.specs.Figures.{OWES, from_at, to_at, has_at, owes_at, Figures, short_at, last_below}
 use Rattle.legs.specs.Slots.{slot_at, slot_of, Slots, Low, viewed}
@@ -45,7 +43,7 @@ module _ (slots figures : List ℕ) where
 
 module _ (legs : List ℕ) (n : ℕ) where
   -- where a key is debited
-  pub slot_found : (key j : ℕ) → last_below (λ k. from_at legs k is key) n ≡ At j → (j < n) × (from_at legs j ≡ key)
+  pub slot_found : (key j : ℕ) → last_below (λ k. from_at legs k is key) n ≡ Some j → (j < n) × (from_at legs j ≡ key)
   slot_found key j e = let h = last_at (λ k. from_at legs k is key) n j e in (h.inside, eqb-true (from_at legs j) key h.passed)
 
   -- a slot below 64 is a leg that debits the key
@@ -53,9 +51,9 @@ module _ (legs : List ℕ) (n : ℕ) where
   unfolding slot_of
   slot_leg key l = go (last_below (λ k. from_at legs k is key) n) refl l
     where
-      go : (f : Found) → last_below (λ k. from_at legs k is key) n ≡ f → slot_at f < 64 → (slot_at f < n) × (from_at legs (slot_at f) ≡ key)
-      go (At j) e m = slot_found key j e
-      go Nothing e m = absurd (omega arith)
+      go : (f : Option ℕ) → last_below (λ k. from_at legs k is key) n ≡ f → slot_at f < 64 → (slot_at f < n) × (from_at legs (slot_at f) ≡ key)
+      go (Some j) e m = slot_found key j e
+      go None e m = absurd (omega arith)
 
   -- no leg behind it debits the key
   pub slot_last : (key k : ℕ) → k < n → from_at legs k ≡ key → k ≤ slot_of legs n key
@@ -65,13 +63,13 @@ module _ (legs : List ℕ) (n : ℕ) where
       there : (from_at legs k is key) ≡ true
       there = eq-eqb (from_at legs k) key q
 
-      by : (i : ℕ) (t : Bool) → last_below (λ m. from_at legs m is key) n ≡ At i → ltb i k ≡ t → k ≤ i
+      by : (i : ℕ) (t : Bool) → last_below (λ m. from_at legs m is key) n ≡ Some i → ltb i k ≡ t → k ≤ i
       by i true e t = absurd (false≢true (sym ((last_at (λ m. from_at legs m is key) n i e).behind k (ltb-true i k t) l) ∙ there))
       by i false e t = ltb-false i k t
 
-      go : (f : Found) → last_below (λ i. from_at legs i is key) n ≡ f → k ≤ slot_at f
-      go (At i) e = by i (ltb i k) e refl
-      go Nothing e = absurd (false≢true (sym (last_none (λ i. from_at legs i is key) n e k l) ∙ there))
+      go : (f : Option ℕ) → last_below (λ i. from_at legs i is key) n ≡ f → k ≤ slot_at f
+      go (Some i) e = by i (ltb i k) e refl
+      go None e = absurd (false≢true (sym (last_none (λ i. from_at legs i is key) n e k l) ∙ there))
 
   module _ (size : n ≤ 64) where
     -- a leg's own
@@ -79,9 +77,9 @@ module _ (legs : List ℕ) (n : ℕ) where
     unfolding slot_of
     slot_own k l = go (last_below (λ i. from_at legs i is from_at legs k) n) refl
       where
-        go : (f : Found) → last_below (λ i. from_at legs i is from_at legs k) n ≡ f → slot_at f < 64
-        go (At j) e = omega (arith, (slot_found (from_at legs k) j e).0)
-        go Nothing e = absurd (eqb-false (from_at legs k) (from_at legs k) (last_none (λ i. from_at legs i is from_at legs k) n e k l) refl)
+        go : (f : Option ℕ) → last_below (λ i. from_at legs i is from_at legs k) n ≡ f → slot_at f < 64
+        go (Some j) e = omega (arith, (slot_found (from_at legs k) j e).0)
+        go None e = absurd (eqb-false (from_at legs k) (from_at legs k) (last_none (λ i. from_at legs i is from_at legs k) n e k l) refl)
 
     pub slot_test : (key k : ℕ) → k < n → (slot_of legs n key is slot_of legs n (from_at legs k)) ≡ (key is from_at legs k)
     slot_test key k l = go (ℕ_discrete key (from_at legs k))
@@ -164,9 +162,9 @@ module _ (n : ℕ) (legs slots figures : List ℕ) (size : n ≤ 64) (long : len
   unfolding slot_of
   to_most = rw (s.owes_as j low) (go (last_below (λ k. from_at legs k is to_at legs j) n) refl)
     where
-      go : (f : Found) → last_below (λ k. from_at legs k is to_at legs j) n ≡ f → slot_at f ≤ 64
-      go (At i) e = omega (arith, (slot_found legs n (to_at legs j) i e).0)
-      go Nothing e = omega arith
+      go : (f : Option ℕ) → last_below (λ k. from_at legs k is to_at legs j) n ≡ f → slot_at f ≤ 64
+      go (Some i) e = omega (arith, (slot_found legs n (to_at legs j) i e).0)
+      go None e = omega arith
 
   -- what leg j owes is at its slot, and what is brought to leg k at that of what j credits
   pub owes_there : (k : ℕ) → k < n → (from_at legs j is from_at legs k) ≡ true → owes_at view k ≡ owes_at figures from

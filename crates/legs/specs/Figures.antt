@@ -1,8 +1,6 @@
 -- Legs of trades, and the figures that their debits are held against, in columns of 64 words.
-use Rattle.std.specs.Prelude.{if◌then◌else◌, ℕ, zero, suc, ◌+◌, ◌*◌, ◌^◌, ◌≤◌, ◌<◌, Bool, ◌&&◌, ◌||◌, List, ◌≡◌, length, get_or}
+use Rattle.std.specs.Prelude.{if◌then◌else◌, ℕ, zero, suc, ◌+◌, ◌*◌, ◌^◌, ◌≤◌, ◌<◌, Bool, ◌&&◌, ◌||◌, List, ◌≡◌, length, get_or, Option, Some, None}
 use Rattle.plain.specs.Lists.{◌is◌, ◌below◌, sum_below}
-use Rattle.words.specs.declared.Found.{Found}
-use Rattle.words.specs.declared.Found.TheVariants.{At, Nothing}
 
 abbrev pub TO : ℕ
 TO = 64
@@ -95,9 +93,9 @@ pub record RoomAll (n : ℕ) (on : ℕ → Bool) (legs figures : List ℕ) : Typ
 -- ---- the last marked leg that debits what is short
 
 -- the last number below n that passes the test
-unfoldable pub last_below : (ℕ → Bool) → ℕ → Found
-last_below test zero = Nothing
-last_below test (suc n) = if test n then At n else last_below test n
+unfoldable pub last_below : (ℕ → Bool) → ℕ → Option ℕ
+last_below test zero = None
+last_below test (suc n) = if test n then Some n else last_below test n
 
-abbrev pub last_short : (ℕ → Bool) → (held funds : List ℕ) → ℕ → Found
+abbrev pub last_short : (ℕ → Bool) → (held funds : List ℕ) → ℕ → Option ℕ
 last_short on held funds n = last_below (λ k. on k && (short_at held k || short_at funds k)) n

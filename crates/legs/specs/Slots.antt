@@ -1,14 +1,12 @@
 -- Slots: the figures of what a leg debits stand at the last leg that debits the same.
-use Rattle.std.specs.Prelude.{if◌then◌else◌, ℕ, ◌+◌, ◌-◌, ◌≤◌, ◌<◌, Bool, true, false, List, ◌≡◌, length}
+use Rattle.std.specs.Prelude.{if◌then◌else◌, ℕ, ◌+◌, ◌-◌, ◌≤◌, ◌<◌, Bool, true, false, List, ◌≡◌, length, Option, Some, None}
 use Rattle.plain.specs.Lists.{◌is◌, ◌below◌}
-use Rattle.words.specs.declared.Found.{Found}
-use Rattle.words.specs.declared.Found.TheVariants.{At, Nothing}
 use Rattle.words.specs.Places.{list_from}
 use Rattle.legs.specs.Figures.{from_at, to_at, has_at, owes_at, brings, takes, brings_all, takes_all, Figures, short_at, last_below, last_short}
 
-abbrev pub slot_at : Found → ℕ
-slot_at (At i) = i
-slot_at Nothing = 64
+abbrev pub slot_at : Option ℕ → ℕ
+slot_at (Some i) = i
+slot_at None = 64
 
 -- the last of n legs that debits the key; 64 where none does
 unfoldable pub slot_of : List ℕ → (n key : ℕ) → ℕ
@@ -50,5 +48,5 @@ pub record FineFrom (n : ℕ) (legs slots : List ℕ) (j : ℕ) (figures : List 
   pub fine : (k : ℕ) → from ≤ k → k < n → (to_at legs j is from_at legs k) ≡ true → short_at (viewed slots figures) k ≡ false
 
 -- the last of n marked legs that debits a short account or short cash
-abbrev pub LastShort : (ℕ → Bool) → (held_at held funds_at funds : List ℕ) → ℕ → Found → Type 0
+abbrev pub LastShort : (ℕ → Bool) → (held_at held funds_at funds : List ℕ) → ℕ → Option ℕ → Type 0
 LastShort on held_at held funds_at funds n found = found ≡ last_short on (viewed held_at held) (viewed funds_at funds) n

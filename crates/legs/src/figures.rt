@@ -7,7 +7,6 @@ ghost use Rattle.legs.specs.Slots.{Slots, Low, viewed, WithLeg, WithoutLeg, With
 use crate::{NUMBER, TO};
 use marks::Marks;
 use rulebook::{Cents, Shares};
-use words::Found;
 
 const OWES: usize = 64;
 
@@ -127,7 +126,7 @@ pub fn last_short(
     funds_at: &[u64],
     marks: Marks,
     n: usize,
-) -> Found
+) -> Option<usize>
     requires { (length held.now ≡ 128) × (length funds.now ≡ 128) × (n ≤ 64) × Low n held_at.now × Low n funds_at.now }
     ensures { LastShort (is_on marks) held_at.now held.now funds_at.now funds.now n result }
 {
@@ -136,12 +135,12 @@ pub fn last_short(
         i -= 1;
         if marks::is_on(marks, i) {
             if is_short(held, held_at, i) {
-                return Found::At(i);
+                return Some(i);
             }
             if is_short(funds, funds_at, i) {
-                return Found::At(i);
+                return Some(i);
             }
         }
     }
-    Found::Nothing
+    None
 }

@@ -1,5 +1,5 @@
 -- The rounds as code runs them: the marks, and beside them the figures of every item. Assumes nothing.
-use Rattle.std.specs.Prelude.{if◌then◌else◌}
+use Rattle.std.specs.Prelude.{if◌then◌else◌, Some, None}
 use Prim.Native.Nat.{ℕ, suc, ◌+◌, ◌-◌, ◌≤◌, ◌<◌}
 use native.Mathlib.Omega.{arith}
 use mathlib.Core.Bool.{Bool, true, false, not, ◌&&◌, ◌||◌, false≢true}
@@ -15,7 +15,6 @@ use Rattle.plain.proofs.Tests.{both}
 use Rattle.rulebook.specs.Ledger.{Ledger}
 use Rattle.rulebook.specs.Shortfall.{debits_short, delivers, pays}
 use Rattle.rulebook.specs.declared.Item.{Item}
-use Rattle.words.specs.declared.Found.TheVariants.{At, Nothing}
 use Rattle.words.proofs.Places.{from_get, from_set, length_from}
 use Rattle.marks.specs.Marks.{Marked, with_mark, item_in, is_on, marked_of, count_on}
 use Rattle.marks.proofs.Marking.{marking, count_most}
@@ -125,7 +124,7 @@ module _ (b : Ledger) (r : Ready b) where
 
     -- ---- no one is short
 
-    pub stops : last_short (is_on marks) held funds n ≡ Nothing → marked_of marks b.waiting ≡ mark_rounds n b.holdings (marked_of due b.waiting)
+    pub stops : last_short (is_on marks) held funds n ≡ None → marked_of marks b.waiting ≡ mark_rounds n b.holdings (marked_of due b.waiting)
     unfolding marked_of
     stops e =
         let low : (k : ℕ) → k < length ms → k < n = λ k l. rw (mark-long (is_on marks)) at l in
@@ -134,7 +133,7 @@ module _ (b : Ledger) (r : Ready b) where
 
     -- ---- the trade at j is the last that debits a short one
 
-    module _ {j : ℕ} (found : last_short (is_on marks) held funds n ≡ At j) where
+    module _ {j : ℕ} (found : last_short (is_on marks) held funds n ≡ Some j) where
       last : Last (at (debits_short b.holdings (with_mark ms)) ms) n j
       last = last_same _ _ n j tested (last_at code n j found)
 

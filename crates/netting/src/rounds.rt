@@ -8,7 +8,6 @@ ghost use Rattle.netting.specs.Selected.{Netted};
 
 use legs::figures;
 use marks::Marks;
-use words::Found;
 
 // Below which place the next short one is looked for: the one that was dropped stands there, or what it credited is debited last.
 fn next_top(less: usize, poorer: usize, j: usize, n: usize) -> usize
@@ -49,7 +48,7 @@ pub fn drop_short(
     let mut top = n;
     loop {
         let found = figures::last_short(held, held_at, funds, funds_at, marks, top);
-        let Found::At(j) = found else {
+        let Some(j) = found else {
             return marks;
         };
         let less = figures::drop_trade(held, shares, held_at, j, n);

@@ -1,5 +1,5 @@
 -- The legs of a bucket as a list: a search along it finds what a search through all legs finds. Assumes nothing.
-use Rattle.std.specs.Prelude.{if◌then◌else◌}
+use Rattle.std.specs.Prelude.{if◌then◌else◌, Option, Some, None}
 use Prim.Native.Nat.{ℕ, ◌+◌, ◌-◌, ◌≤◌, ◌<◌}
 use native.Mathlib.Omega.{arith}
 use native.Mathlib.Decide.{ℕ_discrete}
@@ -11,8 +11,6 @@ use borrow.Author.Count.{below_more}
 use lib.ListN.{length, get_or, set, length-set}
 use lib.Seq.{get_or-set_same, get_or-set_other}
 use Rattle.plain.specs.Lists.{◌is◌}
-use Rattle.words.specs.declared.Found.{Found}
-use Rattle.words.specs.declared.Found.TheVariants.{At, Nothing}
 use Rattle.legs.specs.Figures.{from_at, last_below}
 use Rattle.legs.specs.Slots.{slot_at, slot_of}
 use Rattle.legs.proofs.Searches.{last_at, last_none, last_here, last_before, last_nowhere, last_cut}
@@ -44,8 +42,8 @@ goes p q imp m size = go (last_below p m) refl
         by true h = absurd (false≢true (sym e ∙ imp i h))
         by false h = refl
 
-    go : (f : Found) → last_below p m ≡ f → Goes p q m (slot_at f)
-    go (At k) e =
+    go : (f : Option ℕ) → last_below p m ≡ f → Goes p q m (slot_at f)
+    go (Some k) e =
         let a = last_at p m k e in
         let s : left k ≡ k + 1 = left-some k (omega (arith, a.inside)) in
         record {
@@ -54,7 +52,7 @@ goes p q imp m size = go (last_below p m) refl
           same = last_cut q (k + 1) m (omega (arith, a.inside)) (λ i h l. not i (a.behind i (omega arith) l)) ∙ ap (last_below q) (sym s);
           here = λ l. a.passed;
         }
-    go Nothing e = record {
+    go None e = record {
       most = omega arith;
       less = omega arith;
       same = last_cut q 0 m (omega arith) (λ i h l. not i (last_none p m e i l));

@@ -1,6 +1,5 @@
 -- `legs::figures::add_marked` meets its contract. The invariant: the figures have the marked ones of the first j legs. Assumes nothing.
 use mathlib.Core.List.{List}
-use mathlib.Core.Logic.{⊎_elim}
 use mathlib.Core.Path.{◌≡◌, sym, subst, ◌∙◌}
 use Prim.Native.Nat.{ℕ, ◌+◌, ◌-◌, ◌≤◌}
 use native.Mathlib.Omega.{arith}

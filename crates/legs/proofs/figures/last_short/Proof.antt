@@ -4,7 +4,7 @@ use mathlib.Core.List.{List}
 use mathlib.Core.Path.{◌≡◌, refl, sym, ◌∙◌}
 use Prim.Native.Nat.{ℕ, ◌-◌, ◌≤◌, ◌<◌}
 use native.Mathlib.Omega.{arith}
-use Rattle.words.specs.declared.Found.TheVariants.{At}
+use Rattle.std.specs.Prelude.{Some}
 use Rattle.marks.specs.Marks.{is_on}
 use Rattle.legs.specs.Figures.{short_at, last_below}
 use Rattle.legs.specs.Slots.{viewed}
@@ -56,7 +56,7 @@ marked c = sym c.before.is_on.ensures ∙ c.if-is_on.true
 
 passes :
     (t : tie.In-loop-i invariant-loop decreases-loop) → tested t (t.before.loop-i.i - 1) ≡ true
-    → last_below (tested t) (entry t.before).args.n ≡ At (t.before.loop-i.i - 1)
+    → last_below (tested t) (entry t.before).args.n ≡ Some (t.before.loop-i.i - 1)
 passes t e = t.before.loop-i.invariant.1 ∙ last_here (tested t) t.before.loop-i.i t.loop-i-test.true e
 
 fails :

@@ -8,7 +8,7 @@ use borrow.Author.Rules.{rules}
 use lib.ListN.{length}
 use Rattle.rulebook.specs.Ledger.{Ledger}
 use Rattle.book.specs.Meaning.{ledger_of}
-use Rattle.words.specs.declared.Found.TheVariants.{At}
+use Rattle.std.specs.Prelude.{Some}
 use Rattle.marks.specs.Marks.{is_on, count_on}
 use Rattle.legs.specs.Figures.{short_at, last_below, last_short}
 use Rattle.legs.specs.Slots.{Slots, Low, viewed, WithoutLeg}
@@ -137,21 +137,21 @@ returns c =
 
 -- ---- the trade that is dropped
 
-abbrev head : tie.In-At invariant-loop decreases-loop → tie.At-loop-j invariant-loop decreases-loop
+abbrev head : tie.In-Some invariant-loop decreases-loop → tie.At-loop-j invariant-loop decreases-loop
 head c = searched c.before
 
-abbrev found : tie.After-drop_trade-less invariant-loop decreases-loop → tie.In-At invariant-loop decreases-loop
+abbrev found : tie.After-drop_trade-less invariant-loop decreases-loop → tie.In-Some invariant-loop decreases-loop
 found c = c.before.before
 
 abbrev held-less : tie.After-drop_trade-poorer invariant-loop decreases-loop → tie.After-drop_trade-less invariant-loop decreases-loop
 held-less c = c.before.before.before.before
 
 spot :
-    (c : tie.In-At invariant-loop decreases-loop)
-    → (let l = head c in last_short (is_on l.loop-j.marks) (held_in l) (funds_in l) (length (b l).waiting) ≡ At c.in-At.j)
-spot c = cut (head c) ∙ sym c.last_short-found.ensures ∙ c.in-At.is
+    (c : tie.In-Some invariant-loop decreases-loop)
+    → (let l = head c in last_short (is_on l.loop-j.marks) (held_in l) (funds_in l) (length (b l).waiting) ≡ Some c.in-Some.j)
+spot c = cut (head c) ∙ sym c.last_short-found.ensures ∙ c.in-Some.is
 
-there : (c : tie.In-At invariant-loop decreases-loop) → c.in-At.j < length (b (head c)).waiting
+there : (c : tie.In-Some invariant-loop decreases-loop) → c.in-Some.j < length (b (head c)).waiting
 there c = let l = head c in inside (b l) (r l) (running l) (spot c)
 
 drop-trade-requires : tie.Need-drop_trade-less-requires invariant-loop decreases-loop
@@ -200,8 +200,8 @@ loop-again c =
     let h = (held-less d).drop_trade-less.ensures in
     let g = d.drop_trade-poorer.ensures in
     let v = c.flip-marks in
-    let h0 = less-sized _ _ a.shares.now _ f.in-At.j _ _ e h.0 in
-    let g0 = less-sized _ _ a.cents.now _ f.in-At.j _ _ e g.0 in
+    let h0 = less-sized _ _ a.shares.now _ f.in-Some.j _ _ e h.0 in
+    let g0 = less-sized _ _ a.cents.now _ f.in-Some.j _ _ e g.0 in
     let t = c.next_top-top.ensures in (
       h.1.0,
       g.1.0,
