@@ -1,5 +1,6 @@
 -- What a search by places has found, and lists by places after a store, a push and a removal. Assumes nothing.
-use Rattle.std.specs.Prelude.{if◌then◌else◌, is_some, Some, None}
+use Rattle.std.specs.List.{find, range_with_len}
+use Rattle.std.specs.Prelude.{if◌then◌else◌, Option, option_map, is_some, Some, None}
 use Prim.Native.Nat.{ℕ, zero, suc, ◌+◌, ◌-◌, ◌≤◌, ◌<◌}
 use native.Mathlib.Numerals.{add-one}
 use native.Mathlib.Omega.{arith}
@@ -14,23 +15,12 @@ use Rattle.plain.specs.Lists.{some, total, sum_below}
 use Rattle.plain.proofs.Lists.{total-append}
 use Rattle.words.specs.Places.{first_from, list_from, remove_at}
 
--- ---- a search that has come to place i
+-- ---- a search that goes on from place i
 
 module _ (p : ℕ → Bool) where
-  pub first-start : (n : ℕ) → first_from p 0 n ≡ first_from p 0 (n - 0)
-  first-start n = let s : n - 0 ≡ n = omega arith in rw s
-
-  pub first-here : (n i : ℕ) → i < n → p i ≡ true → first_from p i (n - i) ≡ Some i
-  unfolding first_from
-  first-here n i l e = let s : n - i ≡ suc (n - (i + 1)) = omega arith in rw (s, e)
-
   pub first_next : (n i : ℕ) → i < n → p i ≡ false → first_from p i (n - i) ≡ first_from p (i + 1) (n - (i + 1))
   unfolding first_from
   first_next n i l e = let s : n - i ≡ suc (n - (i + 1)) = omega arith in rw (s, e) (ap (λ (k : ℕ). first_from p k (n - (i + 1))) (sym (add-one i)))
-
-  pub first-none : (n i : ℕ) → n ≤ i → first_from p i (n - i) ≡ None
-  unfolding first_from
-  first-none n i l = let s : n - i ≡ 0 = omega arith in rw s
 
   -- ---- what it has found
 
@@ -69,6 +59,18 @@ module _ (p : ℕ → Bool) where
 
   pub miss : (n : ℕ) → first_from p 0 n ≡ None → (j : ℕ) → j < n → p j ≡ false
   miss n e j l = miss_from n 0 j e (omega arith) (omega arith)
+
+-- ---- the library's search of the places
+
+find_of_range : (p : ℕ → Bool) (i n : ℕ) → find p (range_with_len i n) ≡ first_from p i n
+unfolding first_from
+find_of_range p i zero = refl
+find_of_range p i (suc n) = ap (λ (later : Option ℕ). if p i then Some i else later) (rw (← add-one i) (find_of_range p (i + 1) n))
+
+-- what `(i..i + n).find` has found, as `find_from_yields_List` tells it
+pub found_in_range : (p : ℕ → Bool) (i n : ℕ) (found : Option ℕ) → option_map (λ (k : ℕ). k) found ≡ find p (range_with_len i n) → found ≡ first_from p i n
+found_in_range p i n None e = e ∙ find_of_range p i n
+found_in_range p i n (Some k) e = e ∙ find_of_range p i n
 
 -- ---- lists by places
 

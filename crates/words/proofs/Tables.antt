@@ -5,13 +5,24 @@ use native.Mathlib.Omega.{arith}
 use mathlib.Core.Bool.{false}
 use mathlib.Core.List.{List}
 use mathlib.Core.Path.{◌≡◌, refl, ap, ◌∙◌}
-use lib.ListN.{get_or}
+use lib.ListN.{get_or, take, drop}
+use lib.Seq.{get_or-take, get_or-drop}
 use borrow.Author.Tests.{eq-eqb, ne_eqb, eqb-true}
 use Rattle.plain.specs.Lists.{◌is◌}
 use Rattle.plain.proofs.Sums.{sum-none, one_passes, sum_one}
 use Rattle.words.specs.Places.{first_from}
 use Rattle.words.specs.Tables.{rows, key_at, is_key, place_of, sum_of, value_of, KeysOnce}
 use Rattle.words.proofs.Places.{hit, miss, first_next}
+
+-- the words of the keys, as code lends them
+abbrev pub keys_of : List ℕ → List ℕ
+keys_of table = take (rows table + 1 - 1) (drop 1 table)
+
+pub get_or-keys_of : (table : List ℕ) (k : ℕ) → k < rows table → get_or (keys_of table) k 0 ≡ key_at table k
+get_or-keys_of table k l =
+    let m : k < rows table + 1 - 1 = omega arith in
+    let i : 1 + k ≡ k + 1 = omega arith in
+    get_or-take (rows table + 1 - 1) (drop 1 table) k 0 m ∙ get_or-drop 1 table k 0 ∙ ap (λ (n : ℕ). get_or table n 0) i
 
 module _ (table : List ℕ) (key : ℕ) where
   pub place_at : (j : ℕ) → place_of key table ≡ Some j → (j < rows table) × (key_at table j ≡ key)
