@@ -1,10 +1,10 @@
 -- What a search of a table has found, and what the row of a key has in a column. Assumes nothing.
-use Rattle.std.specs.Prelude.{if◌then◌else◌, Option, Some, None}
+use Rattle.std.specs.Prelude.{IfSome, if◌then◌else◌, Option, Some, None}
 use Prim.Native.Nat.{ℕ, ◌+◌, ◌-◌, ◌≤◌, ◌<◌}
 use native.Mathlib.Omega.{arith}
 use mathlib.Core.Bool.{false}
 use mathlib.Core.List.{List}
-use mathlib.Core.Path.{◌≡◌, refl, ap, ◌∙◌}
+use mathlib.Core.Path.{◌≡◌, refl, sym, ap, ◌∙◌}
 use lib.ListN.{get_or, take, drop}
 use lib.Seq.{get_or-take, get_or-drop}
 use borrow.Author.Tests.{eq-eqb, ne_eqb, eqb-true}
@@ -28,6 +28,10 @@ module _ (table : List ℕ) (key : ℕ) where
   pub place_at : (j : ℕ) → place_of key table ≡ Some j → (j < rows table) × (key_at table j ≡ key)
   unfolding place_of
   place_at j e = let h = hit (is_key table key) (rows table) j e in (h.0, eqb-true (key_at table j) key h.1)
+
+  pub place_inside : (found : Option ℕ) → found ≡ place_of key table → IfSome found (λ i. i < rows table)
+  place_inside None e = tt
+  place_inside (Some i) e = (place_at i (sym e)).0
 
   pub place_none : place_of key table ≡ None → (i : ℕ) → i < rows table → (key_at table i is key) ≡ false
   unfolding place_of

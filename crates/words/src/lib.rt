@@ -3,7 +3,7 @@
 
 mod order;
 
-ghost use Rattle.std.specs.Prelude.{◌≡◌, ◌+◌, ◌-◌, ◌≤◌, ◌<◌, length, take, drop};
+ghost use Rattle.std.specs.Prelude.{◌≡◌, ◌+◌, ◌-◌, ◌≤◌, ◌<◌, length, take, drop, IfSome};
 ghost use borrow.Rule.Slice.PartMut.{put_mid};
 ghost use Rattle.words.specs.Places.{bit, first_from};
 ghost use Rattle.words.specs.Tables as Tables;
@@ -52,7 +52,8 @@ fn passed(table: &[u64], key: u64, n: usize) -> usize
 // Where the row of `key` stands in a table, whose keys are the words behind its first.
 pub fn find(table: &[u64], key: u64) -> Option<usize>
     requires { rows table.now < length table.now }
-    ensures { result ≡ place_of key table.now }
+    ensures place { result ≡ place_of key table.now }
+    ensures inside { IfSome result (λ i. i < rows table.now) }
 {
     let n = table[0] as usize;
     let from = passed(table, key, n);
