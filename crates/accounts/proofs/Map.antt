@@ -1,5 +1,5 @@
 -- What the accounts hold once a row is put: the map, their number, and what is kept true. Assumes nothing.
-use Rattle.std.specs.Prelude.{if◌then◌else◌}
+use Rattle.std.specs.Prelude.{if◌then◌else◌, Option, Some, None}
 use Prim.Native.Nat.{ℕ, ◌+◌, ◌-◌, ◌^◌, ◌≤◌, ◌<◌}
 use native.Mathlib.Omega.{arith}
 use mathlib.Core.Bool.{Bool, true, false}
@@ -16,8 +16,6 @@ use Rattle.rulebook.specs.Movements.{account as place}
 use Rattle.rulebook.specs.declared.Account.{Account}
 use Rattle.rulebook.specs.Ranges.{AccountInRange}
 use Rattle.words.specs.Tables.{rows, key_at, place_of, sum_of, value_of}
-use Rattle.words.specs.declared.Found.{Found}
-use Rattle.words.specs.declared.Found.TheVariants.{At, Nothing}
 use Rattle.words.proofs.Tables.{place_at, place_none, value_none}
 use Rattle.accounts.specs.Keys.{key_of, in_range}
 use Rattle.accounts.specs.Map.{BALANCES, balance_at, opened, removed, balance_of, with_accounts, Kept}
@@ -30,13 +28,13 @@ module _ (a : List ℕ) (kept : Kept a) where
   unfolding counted
   rows_of key = go (place_of key a) refl
     where
-      go : (f : Found) → place_of key a ≡ f → sum_below (rows a) (λ i. if key_at a i is key then 1 else 0) ≡ (if value_of BALANCES a key is 0 then 0 else 1)
-      go (At j) e =
+      go : (f : Option ℕ) → place_of key a ≡ f → sum_below (rows a) (λ i. if key_at a i is key then 1 else 0) ≡ (if value_of BALANCES a key is 0 then 0 else 1)
+      go (Some j) e =
           let h = place_at a key j e in
           let some : (value_of BALANCES a key is 0) ≡ false =
           ne_eqb (value_of BALANCES a key) 0 (λ z. omega (arith, z, value_here a kept key j e 1 (omega arith), balance_some a kept j h.0)) in
           sum_one (rows a) (λ i. key_at a i is key) (kept.once key) j h.0 (eq-eqb _ _ h.1) (λ i. 1) ∙ rw some
-      go Nothing e =
+      go None e =
           let none : (value_of BALANCES a key is 0) ≡ true = eq-eqb _ 0 (value_none a key BALANCES e) in
           sum-none (rows a) (λ i. if key_at a i is key then 1 else 0) (λ i l. rw (place_none a key e i l)) ∙ rw none
 
@@ -130,10 +128,10 @@ module _ (a : List ℕ) (kept : Kept a) (account : Account) (range : AccountInRa
   unfolding balance_of
   balance_value = rw (range_true account range)
 
-  pub balance_none : place_of (key_of account) a ≡ Nothing → balance_of a account ≡ 0
+  pub balance_none : place_of (key_of account) a ≡ None → balance_of a account ≡ 0
   balance_none e = balance_value ∙ value_none a (key_of account) BALANCES e
 
-  pub balance_here : (j : ℕ) → place_of (key_of account) a ≡ At j → (j < rows a) × (balance_of a account ≡ balance_at a j)
+  pub balance_here : (j : ℕ) → place_of (key_of account) a ≡ Some j → (j < rows a) × (balance_of a account ≡ balance_at a j)
   balance_here j e = ((place_at a (key_of account) j e).0, balance_value ∙ value_here a kept (key_of account) j e 1 (omega arith))
 
   -- the account's balance is put, and what is kept true stays so
@@ -145,7 +143,7 @@ module _ (a : List ℕ) (kept : Kept a) (account : Account) (range : AccountInRa
   )
 
   pub credited_at :
-      (q j : ℕ) → place_of (key_of account) a ≡ At j → 0 < q → Kept (set a (j + BALANCES) (balance_at a j + q))
+      (q j : ℕ) → place_of (key_of account) a ≡ Some j → 0 < q → Kept (set a (j + BALANCES) (balance_at a j + q))
       × ((h : Holdings) → with_accounts (set a (j + BALANCES) (balance_at a j + q)) h ≡ credit (place account) q (with_accounts a h))
   unfolding credit
   credited_at q j e some =
@@ -153,13 +151,13 @@ module _ (a : List ℕ) (kept : Kept a) (account : Account) (range : AccountInRa
       (omega (arith, (balance_here j e).1))
 
   pub credited_new :
-      (q : ℕ) → place_of (key_of account) a ≡ Nothing → 0 < q → rows a < 256 → Kept (opened a (key_of account) q)
+      (q : ℕ) → place_of (key_of account) a ≡ None → 0 < q → rows a < 256 → Kept (opened a (key_of account) q)
       × ((h : Holdings) → with_accounts (opened a (key_of account) q) h ≡ credit (place account) q (with_accounts a h))
   unfolding credit
   credited_new q e some room = puts _ q (balance_of a account + q) (put-opened a kept (key_of account) e room q some) (omega (arith, balance_none e))
 
   pub debited_part :
-      (q j : ℕ) → place_of (key_of account) a ≡ At j → q ≤ balance_of a account → balance_at a j ≢ q → Kept (set a (j + BALANCES) (balance_at a j - q))
+      (q j : ℕ) → place_of (key_of account) a ≡ Some j → q ≤ balance_of a account → balance_at a j ≢ q → Kept (set a (j + BALANCES) (balance_at a j - q))
       × ((h : Holdings) → with_accounts (set a (j + BALANCES) (balance_at a j - q)) h ≡ debit (place account) q (with_accounts a h))
   unfolding debit
   debited_part q j e enough ne =
@@ -168,7 +166,7 @@ module _ (a : List ℕ) (kept : Kept a) (account : Account) (range : AccountInRa
       (omega (arith, here))
 
   pub debited_whole :
-      (q j : ℕ) → place_of (key_of account) a ≡ At j → balance_at a j ≡ q → Kept (removed a j)
+      (q j : ℕ) → place_of (key_of account) a ≡ Some j → balance_at a j ≡ q → Kept (removed a j)
       × ((h : Holdings) → with_accounts (removed a j) h ≡ debit (place account) q (with_accounts a h))
   unfolding debit
   debited_whole q j e all = puts _ 0 (balance_of a account - q) (put-removed a kept (key_of account) j e) (omega (arith, (balance_here j e).1))

@@ -1,17 +1,16 @@
 -- The accounts by their keys: the least key of the words is that of the first account that is not empty. Assumes nothing.
-use Rattle.std.specs.Prelude.{if◌then◌else◌}
-use Prim.Native.Nat.{ℕ, ◌^◌, ◌≤◌, ◌<◌}
+use Prim.Native.Nat.{ℕ, ◌<◌}
 use native.Mathlib.Omega.{arith}
-use mathlib.Core.Bool.{Bool, true, false, not}
+use mathlib.Core.Bool.{true, false, not}
 use mathlib.Core.List.{List}
-use mathlib.Core.Path.{◌≡◌, refl, sym, ap, ◌∙◌}
+use mathlib.Core.Path.{◌≡◌, ap, ◌∙◌}
 use borrow.Author.Tests.{eq-eqb, ne_eqb}
-use Rattle.plain.specs.Lists.{◌is◌, ◌is_not◌}
+use Rattle.plain.specs.Lists.{◌is◌}
 use Rattle.plain.proofs.Sums.{sum-none}
 use Rattle.words.specs.Tables.{rows, key_at, sum_of, value_of}
 use Rattle.words.specs.Order.{Next, NextKey, RowOf}
 use Rattle.words.proofs.Tables.{value_at}
-use Rattle.accounts.specs.Keys.{key_of, in_range, key_limit, account_of, has_balance}
+use Rattle.accounts.specs.Keys.{key_limit, account_of, has_balance}
 use Rattle.accounts.specs.Map.{BALANCES, balance_of, Kept}
 use Rattle.accounts.proofs.Keys.{range_true, account_range, key_back}
 use Rattle.accounts.proofs.Rows.{balance_some}

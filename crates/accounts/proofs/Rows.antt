@@ -1,6 +1,6 @@
 -- What a store to the accounts' words does to every sum over the rows: a balance is stored, an account is opened, an account is removed.
 -- Assumes nothing.
-use Rattle.std.specs.Prelude.{if◌then◌else◌}
+use Rattle.std.specs.Prelude.{if◌then◌else◌, Some, None}
 use Prim.Native.Nat.{ℕ, ◌+◌, ◌-◌, ◌≤◌, ◌<◌}
 use native.Mathlib.Omega.{arith}
 use mathlib.Core.Bool.{Bool, true, false}
@@ -15,7 +15,6 @@ use Rattle.plain.proofs.Sums.{sum-change, sum-least}
 use Rattle.rulebook.specs.Ledger.{counted}
 use Rattle.rulebook.proofs.Sizes.{counted-some, counted_none}
 use Rattle.words.specs.Tables.{rows, key_at, place_of, sum_of, value_of, Row, row_at}
-use Rattle.words.specs.declared.Found.TheVariants.{At, Nothing}
 use Rattle.words.proofs.Tables.{place_at, value_at, value_none}
 use Rattle.words.proofs.OneRow.{OneMore, row-long, row-comes, row_goes}
 use Rattle.accounts.specs.Map.{BALANCES, balance_at, opened, removed, Kept}
@@ -49,7 +48,7 @@ module _ (a : List ℕ) (kept : Kept a) where
   module _ (key : ℕ) where
     -- ---- a balance is stored
 
-    module _ (j : ℕ) (here : place_of key a ≡ At j) (v : ℕ) (some : 0 < v) where
+    module _ (j : ℕ) (here : place_of key a ≡ Some j) (v : ℕ) (some : 0 < v) where
       low : j < rows a
       low = (place_at a key j here).0
 
@@ -99,7 +98,7 @@ module _ (a : List ℕ) (kept : Kept a) where
 
     -- ---- an account is opened
 
-    module _ (none : place_of key a ≡ Nothing) (room : rows a < 256) (v : ℕ) (some : 0 < v) where
+    module _ (none : place_of key a ≡ None) (room : rows a < 256) (v : ℕ) (some : 0 < v) where
       pub put-opened : Put a (opened a key v) key v
       put-opened = record {
         long = row-long (rows a) row a (rows a + 1) ∙ kept.long;
@@ -119,7 +118,7 @@ module _ (a : List ℕ) (kept : Kept a) where
 
     -- ---- an account is removed, and the last one moves into its place
 
-    module _ (j : ℕ) (here : place_of key a ≡ At j) where
+    module _ (j : ℕ) (here : place_of key a ≡ Some j) where
       pub put-removed : Put a (removed a j) key 0
       put-removed = record {
         long = row-long j row a (rows a - 1) ∙ kept.long;

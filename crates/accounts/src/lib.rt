@@ -1,7 +1,7 @@
 // The accounts of a book, as 513 words: how many there are, 256 keys, 256 balances. An account's key is one number.
 #![tactic(auto)]
 
-ghost use Rattle.std.specs.Prelude.{◌≡◌, ◌+◌, ◌≤◌, ◌<◌, length};
+ghost use Rattle.std.specs.Prelude.{◌≡◌, ◌+◌, ◌≤◌, ◌<◌, length, IfSome};
 ghost use Rattle.rulebook.specs.Ledger.{Holdings};
 ghost use Rattle.rulebook.specs.Movements as movements;
 ghost use Rattle.rulebook.specs.Ranges.{AccountInRange};
@@ -11,8 +11,8 @@ ghost use Rattle.words.specs.Tables.{rows, place_of};
 ghost use Rattle.accounts.specs.Map.{balance_of, with_accounts, Kept, CreditFits, opened, removed};
 
 use rulebook::{Account, Shares};
-use words::Found;
 
+// Keys and balances are columns of words, for the book is words that a C program lends.
 const BALANCES: usize = 257;
 
 // Keys are below this.
@@ -60,9 +60,10 @@ pub fn next_account(accounts: &[u64], from: u64) -> u64
 }
 
 // Where the account stands.
-fn find(accounts: &[u64], account: Account) -> Found
+fn find(accounts: &[u64], account: Account) -> Option<usize>
     requires { Kept accounts.now × AccountInRange account }
-    ensures { result ≡ place_of (key_of account) accounts.now }
+    ensures place { result ≡ place_of (key_of account) accounts.now }
+    ensures inside { IfSome result (λ i. i < rows accounts.now) }
 {
     let key = key_of(account);
     words::find(accounts, key)
@@ -112,13 +113,9 @@ pub fn credit(accounts: &mut [u64], account: Account, quantity: Shares)
         ((h : Holdings) → with_accounts accounts.new h
         ≡ movements.credit (movements.account account) quantity.0 (with_accounts accounts.old h)) }
 {
-    let found = find(accounts, account);
-    match found {
-        Found::At(i) => {
-            let held = accounts[i + BALANCES];
-            accounts[i + BALANCES] = held + quantity.0;
-        }
-        Found::Nothing => open_account(accounts, account, quantity),
+    match find(accounts, account) {
+        Some(i) => accounts[i + BALANCES] += quantity.0,
+        None => open_account(accounts, account, quantity),
     }
 }
 
@@ -130,16 +127,12 @@ pub fn debit(accounts: &mut [u64], account: Account, quantity: Shares)
         ((h : Holdings) → with_accounts accounts.new h
         ≡ movements.debit (movements.account account) quantity.0 (with_accounts accounts.old h)) }
 {
-    let found = find(accounts, account);
-    match found {
-        Found::At(i) => {
-            let held = accounts[i + BALANCES];
-            if held == quantity.0 {
-                remove_account(accounts, i);
-            } else {
-                accounts[i + BALANCES] = held - quantity.0;
-            }
+    if let Some(i) = find(accounts, account) {
+        let held = accounts[i + BALANCES];
+        if held == quantity.0 {
+            remove_account(accounts, i);
+        } else {
+            accounts[i + BALANCES] = held - quantity.0;
         }
-        Found::Nothing => {}
     }
 }

@@ -59,10 +59,8 @@ pub fn total(cash: &[u64], currency: u64) -> Cents
 {
     let first = (currency - 1) as usize;
     let mut sum: u64 = 0;
-    let mut i: usize = 0;
-    while i < 64 {
-        sum += cash[2 * i + first];
-        i += 1;
+    for member in 0..64 {
+        sum += cash[2 * member + first];
     }
     Cents(sum)
 }

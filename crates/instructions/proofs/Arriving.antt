@@ -17,9 +17,8 @@ use Rattle.rulebook.specs.declared.Counts.{Counts}
 use Rattle.rulebook.specs.declared.Item.{Item}
 use Rattle.rulebook.specs.declared.Order.{Order}
 use Rattle.rulebook.proofs.Space.{instruct-space}
-use Rattle.words.specs.Places.{is_found, remove_at}
-use Rattle.words.specs.declared.Found.{Found}
-use Rattle.words.specs.declared.Found.TheVariants.{At, Nothing}
+use Rattle.std.specs.Prelude.{is_some, Option, Some, None}
+use Rattle.words.specs.Places.{remove_at}
 use Rattle.book.specs.Meaning.{ledger_of}
 use Rattle.book.specs.Stored.{Means}
 use Rattle.book.specs.Handled.{Handled}
@@ -36,16 +35,16 @@ module _ (limit : ℕ) (new : Item) (d : Item) where
   abbrev PairsAt : List Item → ℕ → Type 0
   PairsAt ws i = arrive limit new ws ≡ remove_at i ws ++ (paired new (get_or ws i d) ∷ [])
 
-  pairs_from : (ws : List Item) (k j : ℕ) → place_from (pairs_with limit new) k ws ≡ At j → (i : ℕ) × ((j ≡ k + i) × PairsAt ws i)
+  pairs_from : (ws : List Item) (k j : ℕ) → place_from (pairs_with limit new) k ws ≡ Some j → (i : ℕ) × ((j ≡ k + i) × PairsAt ws i)
   unfolding arrive place_from paired
   pairs_from [] k j e = let z : ◌≡◌ {A = ℕ} 0 1 = cc in absurd (omega arith)
   pairs_from (w ∷ rest) k j e = go (pairs_with limit new w) refl (pairs_from rest (suc k) j)
     where
       go :
-          (t : Bool) → pairs_with limit new w ≡ t → (place_from (pairs_with limit new) (suc k) rest ≡ At j → (i : ℕ) × ((j ≡ suc k + i) × PairsAt rest i))
+          (t : Bool) → pairs_with limit new w ≡ t → (place_from (pairs_with limit new) (suc k) rest ≡ Some j → (i : ℕ) × ((j ≡ suc k + i) × PairsAt rest i))
           → (i : ℕ) × ((j ≡ k + i) × PairsAt (w ∷ rest) i)
       go true p later =
-          let f : At k ≡ At j = rw p at e in
+          let f : Some k ≡ Some j = rw p at e in
           let s : k ≡ j = cc in
           (0, (omega (arith, s), rw p))
       go false p later =
@@ -53,7 +52,7 @@ module _ (limit : ℕ) (new : Item) (d : Item) where
           (suc f.0, (omega (arith, f.1.0), rw p (ap (λ (l : List Item). w ∷ l) f.1.1)))
 
   -- that one is removed and the pair goes last
-  pub arrive-pair : (ws : List Item) (i : ℕ) → place_in (pairs_with limit new) ws ≡ At i → PairsAt ws i
+  pub arrive-pair : (ws : List Item) (i : ℕ) → place_in (pairs_with limit new) ws ≡ Some i → PairsAt ws i
   arrive-pair ws i e =
       let f = pairs_from ws 0 i e in
       let s : f.0 ≡ i = omega (arith, f.1.0) in
@@ -91,7 +90,7 @@ module _ (book : List ℕ) (order : Order) where
   arriving = single_of order
 
   -- the place found
-  abbrev pub place : Found
+  abbrev pub place : Option ℕ
   place = place_in (pairs_with limit arriving) b.waiting
 
   -- once the earlier single is removed there is room for the pair
@@ -103,7 +102,7 @@ module _ (book : List ℕ) (order : Order) where
       omega (arith, e, removed-length b.waiting i l, given.kept.premise.sizes.items)
 
   pub pair_made :
-      (i : ℕ) (waits new pair : Item) (mid after : List ℕ) (r : Counts) → place ≡ At i → ((d : Item) → waits ≡ get_or b.waiting i d) → new ≡ arriving
+      (i : ℕ) (waits new pair : Item) (mid after : List ℕ) (r : Counts) → place ≡ Some i → ((d : Item) → waits ≡ get_or b.waiting i d) → new ≡ arriving
       → pair ≡ paired new waits → Means mid (put_waiting (remove_at i b.waiting) b)
       → Means after (put_waiting ((ledger_of mid).waiting ++ (pair ∷ [])) (ledger_of mid)) → r ≡ counts 0 0 0 0 0 0
       → (area : List ℕ) → Handled (instruct b order) after area area r
@@ -116,9 +115,9 @@ module _ (book : List ℕ) (order : Order) where
       ∙ ap (λ (l : List Item). put_waiting l b) (sym (arrive-pair limit arriving waits b.waiting i e))))
       c
 
-  module _ (given : Given book order) (e : place ≡ Nothing) where
+  module _ (given : Given book order) (e : place ≡ None) where
     none : some (pairs_with limit arriving) b.waiting ≡ false
-    none = sym (found_some (pairs_with limit arriving) 0 b.waiting) ∙ ap is_found e
+    none = sym (found_some (pairs_with limit arriving) 0 b.waiting) ∙ ap is_some e
 
     -- refusal 18 does not apply
     pub alone-room : (order.form one_of (12 ∷ 13 ∷ [])) ≡ true → length b.waiting < 64

@@ -1,5 +1,5 @@
 -- Form 15 by the place of the item that waits under the sender's reference. Assumes nothing.
-use Rattle.std.specs.Prelude.{if◌then◌else◌}
+use Rattle.std.specs.Prelude.{if◌then◌else◌, is_some, Option, Some, None}
 use Prim.Native.Nat.{ℕ, ◌*◌}
 use native.Mathlib.Omega.{arith}
 use mathlib.Core.Bool.{Bool, true, false, not, false≢true}
@@ -21,9 +21,7 @@ use Rattle.rulebook.specs.declared.State.TheVariants.{Single, Pair, Trade}
 use Rattle.rulebook.proofs.ByIndex.{item-at, cancel-at}
 use Rattle.rows.specs.Widths.{NoticeFits}
 use Rattle.rows.proofs.Notices.{notice-fits}
-use Rattle.words.specs.Places.{is_found, remove_at}
-use Rattle.words.specs.declared.Found.{Found}
-use Rattle.words.specs.declared.Found.TheVariants.{At, Nothing}
+use Rattle.words.specs.Places.{remove_at}
 use Rattle.book.specs.Meaning.{ledger_of}
 use Rattle.book.specs.Stored.{Means}
 use Rattle.book.specs.Handled.{Handled}
@@ -73,17 +71,17 @@ module _ (book : List ℕ) (order : Order) (area : List ℕ) (a : Accepted book 
   sender = sender_of order
 
   -- the place found
-  abbrev pub place : Found
+  abbrev pub place : Option ℕ
   place = place_in (sent_by sender order.reference) b.waiting
 
   -- refusal 14 does not apply
-  pub waits : order.form ≡ 15 → place ≡ Nothing → ⊥
+  pub waits : order.form ≡ 15 → place ≡ None → ⊥
   unfolding wrong_reference
   waits form e =
       let r = (known a.given).reference in
-      false≢true (sym (simp form at r) ∙ ap not (sym (found_some (sent_by sender order.reference) 0 b.waiting) ∙ ap is_found e))
+      false≢true (sym (simp form at r) ∙ ap not (sym (found_some (sent_by sender order.reference) 0 b.waiting) ∙ ap is_some e))
 
-  module _ (i : ℕ) (e : place ≡ At i) (item m : Item) (read : (d : Item) → item ≡ get_or b.waiting i d) (mark : m ≡ marked sender item) where
+  module _ (i : ℕ) (e : place ≡ Some i) (item m : Item) (read : (d : Item) → item ≡ get_or b.waiting i d) (mark : m ≡ marked sender item) where
     there : Passes (sent_by sender order.reference) b.waiting i
     there = found-passes (sent_by sender order.reference) b.waiting i e
 

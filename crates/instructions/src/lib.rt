@@ -11,7 +11,6 @@ ghost use Rattle.checking.specs.Given.{Given, Accepted};
 ghost use Rattle.instructions.specs.Paired.{paired};
 
 use rulebook::{Counts, Item, Order, Rate, State};
-use words::Found;
 
 // ---- matching
 
@@ -34,13 +33,13 @@ pub fn instruct(book: &mut [u64], order: Order) -> Counts
     let arriving = item::single_of(order);
     let found = search::first_partner(book, arriving);
     match found {
-        Found::At(i) => {
+        Some(i) => {
             let waits = book_items::item_at(book, i);
             book_items::remove(book, i);
             book_items::push(book, pair_of(arriving, waits));
             rows::no_counts()
         }
-        Found::Nothing => {
+        None => {
             book_items::push(book, arriving);
             rows::no_counts()
         }
@@ -70,7 +69,7 @@ pub fn cancel(book: &mut [u64], order: Order, area: &mut [u8]) -> Counts
     let sender = item::sender_of(order);
     let found = search::first_sent(book, sender, order.reference);
     // refusal 14 does not apply: there is one
-    let Found::At(i) = found else {
+    let Some(i) = found else {
         return rows::no_counts();
     };
     let item = item::mark(sender, book_items::item_at(book, i));

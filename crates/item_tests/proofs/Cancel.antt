@@ -15,9 +15,7 @@ use Rattle.rulebook.specs.Refusals.{wrong_cancel, cancels_sent}
 use Rattle.rulebook.specs.declared.Order.{Order}
 use Rattle.rulebook.specs.declared.Item.{Item}
 use Rattle.rulebook.proofs.ByIndex.{reference-once}
-use Rattle.words.specs.Places.{is_found}
-use Rattle.words.specs.declared.Found.{Found}
-use Rattle.words.specs.declared.Found.TheVariants.{At, Nothing}
+use Rattle.std.specs.Prelude.{is_some, Option, Some, None}
 use Rattle.search.specs.Place.{place_in}
 use Rattle.search.proofs.Found.{Passes, found_some, found-passes}
 
@@ -52,10 +50,10 @@ module _
         sent : sent_by s r x ≡ true
         sent = ap (sent_by s r) here ∙ at.passes x
 
-        go : (t : Bool) → why x ≡ t → (f : Found) → place_in refused b.waiting ≡ f → some refused b.waiting ≡ t
+        go : (t : Bool) → why x ≡ t → (f : Option ℕ) → place_in refused b.waiting ≡ f → some refused b.waiting ≡ t
         go true e f q = some_at refused b.waiting i x at.inside (ap refused (sym here) ∙ rw (sent, e))
-        go false e Nothing q = sym (found_some refused 0 b.waiting) ∙ ap is_found q
-        go false e (At j) q =
+        go false e None q = sym (found_some refused 0 b.waiting) ∙ ap is_some q
+        go false e (Some j) q =
             let there = found-passes refused b.waiting j q in
             let passes = both (sent_by s r (get_or b.waiting j x)) (why (get_or b.waiting j x)) (there.passes x) in
             let same : i ≡ j = reference-once b p s r i j x at.inside there.inside (at.passes x) passes.0 in
@@ -64,21 +62,21 @@ module _
 
 -- ---- tests 15 and 24, by what the search for the item finds
 
-module _ (b : Ledger) (o : Order) (s : ℕ) (f : Found) (form : o.form ≡ 15) (sender : s ≡ sender_of o) (found : f ≡ place_in (sent_by s o.reference) b.waiting)
+module _ (b : Ledger) (o : Order) (s : ℕ) (f : Option ℕ) (form : o.form ≡ 15) (sender : s ≡ sender_of o) (found : f ≡ place_in (sent_by s o.reference) b.waiting)
   where
-    none_under : (why : Item → Bool) → f ≡ Nothing → some (λ item. sent_by s o.reference item && why item) b.waiting ≡ false
+    none_under : (why : Item → Bool) → f ≡ None → some (λ item. sent_by s o.reference item && why item) b.waiting ≡ false
     none_under why e =
-        none_both (sent_by s o.reference) why b.waiting (sym (found_some (sent_by s o.reference) 0 b.waiting) ∙ ap is_found (sym found ∙ e))
+        none_both (sent_by s o.reference) why b.waiting (sym (found_some (sent_by s o.reference) 0 b.waiting) ∙ ap is_some (sym found ∙ e))
 
-    pub cancel-nothing : f ≡ Nothing → wrong_cancel b.waiting o ≡ false
+    pub cancel-nothing : f ≡ None → wrong_cancel b.waiting o ≡ false
     unfolding wrong_cancel
     cancel-nothing e = rw (eq-eqb o.form 15 form, ← sender) (none_under (not_cancellable s) e)
 
-    pub sent-nothing : f ≡ Nothing → cancels_sent b.waiting o ≡ false
+    pub sent-nothing : f ≡ None → cancels_sent b.waiting o ≡ false
     unfolding cancels_sent
     sent-nothing e = rw (eq-eqb o.form 15 form, ← sender) (none_under (λ item. item.sent) e)
 
-    module _ (i : ℕ) (e : f ≡ At i) where
+    module _ (i : ℕ) (e : f ≡ Some i) where
       passes : Passes (sent_by s o.reference) b.waiting i
       passes = found-passes (sent_by s o.reference) b.waiting i (sym found ∙ e)
 

@@ -8,7 +8,6 @@ ghost use Rattle.book.specs.Meaning.{ledger_of};
 ghost use Rattle.book.specs.Stored.{Stored, Kept};
 
 use rulebook::Order;
-use words::Found;
 
 // RULES 7.14: a reference that already waits, or one to cancel that does not.
 fn wrong_reference(book: &[u64], order: Order) -> bool
@@ -19,7 +18,7 @@ fn wrong_reference(book: &[u64], order: Order) -> bool
     if !checking::is_within(12, 15, form) {
         return false;
     }
-    let waits = words::is_found(search::first_sent(book, item::sender_of(order), order.reference));
+    let waits = search::first_sent(book, item::sender_of(order), order.reference).is_some();
     (checking::is_within(12, 14, form) & waits) | ((form == 15) & !waits)
 }
 
@@ -33,7 +32,7 @@ fn wrong_cancel(book: &[u64], order: Order) -> bool
     }
     let sender = item::sender_of(order);
     let found = search::first_sent(book, sender, order.reference);
-    let Found::At(i) = found else {
+    let Some(i) = found else {
         return false;
     };
     let item = book_items::item_at(book, i);
@@ -49,7 +48,7 @@ fn cancels_sent(book: &[u64], order: Order) -> bool
         return false;
     }
     let found = search::first_sent(book, item::sender_of(order), order.reference);
-    let Found::At(i) = found else {
+    let Some(i) = found else {
         return false;
     };
     let item = book_items::item_at(book, i);

@@ -1,17 +1,16 @@
 -- A request goes last, and a request ends: what is open then, and what is kept true. Assumes nothing.
-use Rattle.std.specs.Prelude.{if◌then◌else◌}
+use Rattle.std.specs.Prelude.{if◌then◌else◌, Some, None}
 use Prim.Native.Nat.{ℕ, ◌+◌, ◌-◌, ◌/◌, ◌^◌, ◌≤◌, ◌<◌}
 use native.Mathlib.Omega.{arith}
 use mathlib.Core.List.{List, [], ◌∷◌}
 use mathlib.Core.Path.{◌≡◌, refl, sym, ap, ◌∙◌}
 use lib.ListN.{length, get_or}
-use borrow.Author.Tests.{ne_eqb, le-ltb}
+use borrow.Author.Tests.{le-ltb}
 use Rattle.plain.specs.Lists.{◌is◌, ◌below◌}
 use Rattle.rulebook.specs.Ledger.{no_request, counted, put_request}
 use Rattle.rulebook.specs.declared.Request.{Request}
 use Rattle.rulebook.proofs.Sizes.{counted-some, counted_none}
 use Rattle.words.specs.Tables.{rows, key_at, place_of, value_of, Row, row_at}
-use Rattle.words.specs.declared.Found.TheVariants.{At, Nothing}
 use Rattle.words.proofs.Tables.{place_at, value_at}
 use Rattle.words.proofs.OneRow.{Apart, column_of, word_of, OneMore, row-long, row-comes, row_goes, less_once, less_values, more-once, more-values}
 use Rattle.requests.specs.Packed.{ReferenceInRange, key_of, RequestInRange, shares_word, quantity_word}
@@ -38,7 +37,7 @@ module _ (a : List ℕ) (kept : Kept a) (member reference : ℕ) (range : Refere
     none_there : (request_of a key).quantity.0 ≡ 0
     none_there = ap (λ (r : Request). r.quantity.0) (sym (asked-of a member reference range)) ∙ none
 
-    nowhere : place_of key a ≡ Nothing
+    nowhere : place_of key a ≡ None
     nowhere = none_open a kept key none_there
 
     comes : (m : ℕ) → m < 3 → column_of row m + 16 ≤ 49 → OneMore (column_of row m) a (opened a key request) key (word_of row m)
@@ -73,7 +72,7 @@ module _ (a : List ℕ) (kept : Kept a) (member reference : ℕ) (range : Refere
         ∙ ap (λ (r : Request). put_request member reference r (requests_of a)) (packed_back request fits)
 
   -- the request that stands at j ends
-  module _ (j : ℕ) (here : place_of key a ≡ At j) where
+  module _ (j : ℕ) (here : place_of key a ≡ Some j) where
     abbrev last_key : ℕ
     last_key = key_at a (rows a - 1)
 

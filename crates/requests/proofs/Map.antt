@@ -1,5 +1,5 @@
 -- What is asked, by the place that a search answers, and what the words mean once the row of a key has other words. Assumes nothing.
-use Rattle.std.specs.Prelude.{if◌then◌else◌}
+use Rattle.std.specs.Prelude.{if◌then◌else◌, Option, Some, None}
 use Prim.Native.Nat.{ℕ, ◌+◌, ◌-◌, ◌/◌, ◌^◌, ◌≤◌, ◌<◌}
 use native.Mathlib.Omega.{arith}
 use mathlib.Core.Bool.{Bool, true, false, ◌&&◌}
@@ -12,8 +12,6 @@ use Rattle.plain.proofs.Sums.{sum-least}
 use Rattle.rulebook.specs.Ledger.{no_request, counted, put_request}
 use Rattle.rulebook.specs.declared.Request.{Request}
 use Rattle.words.specs.Tables.{rows, place_of, sum_of, value_of}
-use Rattle.words.specs.declared.Found.{Found}
-use Rattle.words.specs.declared.Found.TheVariants.{At, Nothing}
 use Rattle.words.proofs.Tables.{place_at, value_at, value_none}
 use Rattle.requests.specs.Packed.{ReferenceInRange, in_range, key_of, request_in}
 use Rattle.requests.specs.Map.{SHARES, QUANTITIES, request_of, asked_of, requests_of, Kept}
@@ -33,21 +31,21 @@ module _ (a : List ℕ) (kept : Kept a) where
 
   module _ (key : ℕ) where
     -- the request of the key, by the place that a search answers
-    pub request_at : (j : ℕ) → place_of key a ≡ At j → request_of a key ≡ request_in (get_or a (j + SHARES) 0) (get_or a (j + QUANTITIES) 0)
+    pub request_at : (j : ℕ) → place_of key a ≡ Some j → request_of a key ≡ request_in (get_or a (j + SHARES) 0) (get_or a (j + QUANTITIES) 0)
     request_at j e =
         let h = place_at a key j e in
         λ i. request_in (value_at a key SHARES kept.once j h.0 h.1 i) (value_at a key QUANTITIES kept.once j h.0 h.1 i)
 
-    pub request_none : place_of key a ≡ Nothing → request_of a key ≡ request_in 0 0
+    pub request_none : place_of key a ≡ None → request_of a key ≡ request_in 0 0
     request_none e = λ i. request_in (value_none a key SHARES e i) (value_none a key QUANTITIES e i)
 
     -- one of quantity 0 stands nowhere
-    pub none_open : (request_of a key).quantity.0 ≡ 0 → place_of key a ≡ Nothing
+    pub none_open : (request_of a key).quantity.0 ≡ 0 → place_of key a ≡ None
     none_open none = go (place_of key a) refl
       where
-        go : (f : Found) → place_of key a ≡ f → f ≡ Nothing
-        go (At j) e = absurd (omega (arith, none, quantity-some j (place_at a key j e).0, ap (λ (r : Request). r.quantity.0) (request_at j e)))
-        go Nothing e = refl
+        go : (f : Option ℕ) → place_of key a ≡ f → f ≡ None
+        go (Some j) e = absurd (omega (arith, none, quantity-some j (place_at a key j e).0, ap (λ (r : Request). r.quantity.0) (request_at j e)))
+        go None e = refl
 
 -- what is asked under a reference in range
 pub asked-of :

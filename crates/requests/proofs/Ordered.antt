@@ -1,19 +1,18 @@
 -- The requests by their keys: the least key of the words is that of the first request that is open. Assumes nothing.
-use Rattle.std.specs.Prelude.{if◌then◌else◌}
-use Prim.Native.Nat.{ℕ, ◌/◌, ◌^◌, ◌≤◌, ◌<◌}
+use Prim.Native.Nat.{ℕ, ◌/◌, ◌^◌, ◌<◌}
 use native.Mathlib.Omega.{arith}
-use mathlib.Core.Bool.{Bool, true, false, not}
+use mathlib.Core.Bool.{true, false, not}
 use mathlib.Core.List.{List}
-use mathlib.Core.Path.{◌≡◌, refl, sym, ap, ◌∙◌}
+use mathlib.Core.Path.{◌≡◌, ap, ◌∙◌}
 use borrow.Author.Tests.{eq-eqb, ne_eqb}
-use Rattle.plain.specs.Lists.{◌is◌, ◌is_not◌}
+use Rattle.plain.specs.Lists.{◌is◌}
 use Rattle.plain.proofs.Sums.{sum-none}
 use Rattle.rulebook.specs.declared.Request.{Request}
 use Rattle.words.specs.Tables.{rows, key_at, sum_of, value_of}
 use Rattle.words.specs.Order.{Next, NextKey, RowOf}
 use Rattle.words.proofs.Tables.{value_at}
 use Rattle.requests.specs.Packed.{ReferenceInRange, key_of, key_limit, member_of, reference_of, is_open}
-use Rattle.requests.specs.Map.{QUANTITIES, request_of, requests_of, Kept}
+use Rattle.requests.specs.Map.{QUANTITIES, requests_of, Kept}
 use Rattle.requests.proofs.Map.{quantity-some, asked-of}
 
 module _ (a : List ℕ) (kept : Kept a) where

@@ -1,7 +1,7 @@
 // The open requests for paper of a book, as 49 words: how many there are, 16 keys, and two words for each. A member and a reference are one key.
 #![tactic(auto)]
 
-ghost use Rattle.std.specs.Prelude.{◌≡◌, ◌≤◌, ◌<◌, length};
+ghost use Rattle.std.specs.Prelude.{◌≡◌, ◌≤◌, ◌<◌, length, IfSome};
 ghost use Rattle.rulebook.specs.Ledger.{no_request, put_request};
 ghost use Rattle.words.specs.Tables.{rows, place_of};
 ghost use Rattle.words.specs.Order.{Next};
@@ -9,8 +9,8 @@ ghost use Rattle.requests.specs.Packed.{ReferenceInRange, in_range, key_of, key_
 ghost use Rattle.requests.specs.Map.{requests_of, Kept, removed};
 
 use rulebook::{Request, Shares};
-use words::Found;
 
+// Keys and what is asked are columns of words, for the book is words that a C program lends.
 const SHARES: usize = 17;
 
 const QUANTITIES: usize = 33;
@@ -67,9 +67,10 @@ fn request_in(shares: u64, quantity: u64) -> Request
 // ---- the requests
 
 // Where the request stands.
-fn find(requests: &[u64], member: u64, reference: u64) -> Found
+fn find(requests: &[u64], member: u64, reference: u64) -> Option<usize>
     requires { Kept requests.now × ReferenceInRange member reference }
-    ensures { result ≡ place_of (key_of member reference) requests.now }
+    ensures place { result ≡ place_of (key_of member reference) requests.now }
+    ensures inside { IfSome result (λ i. i < rows requests.now) }
 {
     let key = key_of(member, reference);
     words::find(requests, key)
@@ -80,10 +81,9 @@ pub fn request(requests: &[u64], member: u64, reference: u64) -> Request
     requires { Kept requests.now × ReferenceInRange member reference }
     ensures { result ≡ (requests_of requests.now).asked member reference }
 {
-    let found = find(requests, member, reference);
-    match found {
-        Found::At(i) => request_in(requests[i + SHARES], requests[i + QUANTITIES]),
-        Found::Nothing => request_in(0, 0),
+    match find(requests, member, reference) {
+        Some(i) => request_in(requests[i + SHARES], requests[i + QUANTITIES]),
+        None => request_in(0, 0),
     }
 }
 
@@ -135,9 +135,7 @@ pub fn end_request(requests: &mut [u64], member: u64, reference: u64)
     ensures { Kept requests.new
         × (requests_of requests.new ≡ put_request member reference no_request (requests_of requests.old)) }
 {
-    let found = find(requests, member, reference);
-    match found {
-        Found::At(i) => remove_request(requests, i),
-        Found::Nothing => {}
+    if let Some(i) = find(requests, member, reference) {
+        remove_request(requests, i);
     }
 }

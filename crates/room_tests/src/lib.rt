@@ -68,7 +68,7 @@ fn is_matched(book: &[u64], order: Order) -> bool
     requires { Kept book.now }
     ensures { result ≡ is_matched (ledger_of book.now) order }
 {
-    words::is_found(search::first_partner(book, item::single_of(order)))
+    search::first_partner(book, item::single_of(order)).is_some()
 }
 
 // Shares that go from one account to another open the second where it has none; the first makes room where it keeps none.

@@ -10,7 +10,6 @@ ghost use Rattle.book.specs.Stored.{Stored};
 ghost use Rattle.search.specs.Place.{place_in};
 
 use rulebook::{Cents, Item};
-use words::Found;
 
 // Whether the item at `i` waits under that sender's reference; it is read whole only where it bears the reference.
 fn is_sent(book: &[u64], i: usize, sender: u64, reference: u64) -> bool
@@ -35,7 +34,7 @@ fn is_pairing(book: &[u64], i: usize, limit: Cents, arriving: Item) -> bool
 }
 
 // The item that waits under that sender's reference.
-pub fn first_sent(book: &[u64], sender: u64, reference: u64) -> Found
+pub fn first_sent(book: &[u64], sender: u64, reference: u64) -> Option<usize>
     requires { Stored book.now }
     ensures { result ≡ place_in (sent_by sender reference) (ledger_of book.now).waiting }
 {
@@ -43,15 +42,15 @@ pub fn first_sent(book: &[u64], sender: u64, reference: u64) -> Found
     let mut i: usize = 0;
     while i < n {
         if is_sent(book, i, sender, reference) {
-            return Found::At(i);
+            return Some(i);
         }
         i += 1;
     }
-    Found::Nothing
+    None
 }
 
 // The first single that pairs with an arriving one within a limit.
-fn first_pairing(book: &[u64], limit: Cents, arriving: Item) -> Found
+fn first_pairing(book: &[u64], limit: Cents, arriving: Item) -> Option<usize>
     requires { Stored book.now }
     ensures { result ≡ place_in (pairs_with limit.0 arriving) (ledger_of book.now).waiting }
 {
@@ -59,15 +58,15 @@ fn first_pairing(book: &[u64], limit: Cents, arriving: Item) -> Found
     let mut i: usize = 0;
     while i < n {
         if is_pairing(book, i, limit, arriving) {
-            return Found::At(i);
+            return Some(i);
         }
         i += 1;
     }
-    Found::Nothing
+    None
 }
 
 // The first single that pairs with an arriving one, by the rate that the book has now.
-pub fn first_partner(book: &[u64], arriving: Item) -> Found
+pub fn first_partner(book: &[u64], arriving: Item) -> Option<usize>
     requires { Stored book.now × RateFits (ledger_of book.now).rate }
     ensures { result ≡ place_in (pairs_with (tolerance (ledger_of book.now).rate arriving.currency) arriving) (ledger_of book.now).waiting }
 {

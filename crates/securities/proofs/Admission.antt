@@ -8,10 +8,9 @@ use mathlib.Core.Path.{◌≡◌, refl, sym, ap, ◌∙◌}
 use lib.ListN.{length, get_or}
 use Rattle.rulebook.specs.Ledger.{Holdings, fresh, admitted}
 use Rattle.rulebook.specs.declared.Security.{Security}
-use Rattle.words.specs.Places.{is_found, list_from}
+use Rattle.std.specs.Prelude.{is_some, Option, Some, None}
+use Rattle.words.specs.Places.{list_from}
 use Rattle.words.specs.Tables.{rows, place_of, Row, with_row}
-use Rattle.words.specs.declared.Found.{Found}
-use Rattle.words.specs.declared.Found.TheVariants.{At, Nothing}
 use Rattle.words.proofs.Places.{from_push}
 use Rattle.words.proofs.OneRow.{Apart, column_of, word_of, OneMore, row-long, value_here, value_other, row-comes, more-once}
 use Rattle.securities.specs.Admitted.{ISSUED, OUTSIDE, HELD, security, security_at, securities_of, with_securities, Kept}
@@ -58,12 +57,12 @@ module _
         security (here 0 (omega arith) (omega arith) t) (here 1 (omega arith) (omega arith) t) (here 2 (omega arith) (omega arith) t)
         (here 3 (omega arith) (omega arith) t)
 
-    nowhere : place_of code s ≡ Nothing
+    nowhere : place_of code s ≡ None
     nowhere = go (place_of code s) refl
       where
-        go : (f : Found) → place_of code s ≡ f → f ≡ Nothing
-        go (At i) e = let z : true ≡ false = sym (ap is_found e) ∙ admitted-found s code fresh.holdings ∙ new fresh.holdings in absurd (true≢false z)
-        go Nothing e = refl
+        go : (f : Option ℕ) → place_of code s ≡ f → f ≡ None
+        go (Some i) e = let z : true ≡ false = sym (ap is_some e) ∙ admitted-found s code fresh.holdings ∙ new fresh.holdings in absurd (true≢false z)
+        go None e = refl
 
     one : OneMore HELD s r code 0
     one = row-comes 32 s code counts apart 3 (omega arith) (long 3 (omega arith)) room

@@ -1,5 +1,5 @@
 -- Counts of a security are stored: one law for both columns, and an outside count with a held count. Assumes nothing.
-use Rattle.std.specs.Prelude.{if◌then◌else◌}
+use Rattle.std.specs.Prelude.{if◌then◌else◌, Some, None}
 use Prim.Native.Nat.{ℕ, ◌+◌, ◌≤◌, ◌<◌}
 use native.Mathlib.Decide.{ℕ_discrete}
 use native.Mathlib.Omega.{arith}
@@ -16,7 +16,6 @@ use Rattle.rulebook.specs.Ledger.{Holdings, put_securities, changing, with_outsi
 use Rattle.rulebook.specs.declared.Security.{Security}
 use Rattle.words.specs.Places.{list_from}
 use Rattle.words.specs.Tables.{rows, key_at, place_of, KeysOnce}
-use Rattle.words.specs.declared.Found.TheVariants.{At, Nothing}
 use Rattle.words.proofs.Places.{from_same, from_map}
 use Rattle.words.proofs.Tables.{place_at, place_none, key_once}
 use Rattle.securities.specs.Admitted.{ISSUED, OUTSIDE, HELD, security, security_at, securities_of, with_securities, Kept}
@@ -74,7 +73,7 @@ module _ (s : List ℕ) (kept : Kept s) (code : ℕ) where
       λ i. record { securities = list i; balance = h.balance; accounts = h.accounts; cash = h.cash }
 
   -- where there is none with the code nothing changes
-  nowhere : place_of code s ≡ Nothing → (change : Security → Security) (h : Holdings) → with_securities s h ≡ changing code change (with_securities s h)
+  nowhere : place_of code s ≡ None → (change : Security → Security) (h : Holdings) → with_securities s h ≡ changing code change (with_securities s h)
   nowhere e change h = puts change s refl (λ k l. rw (place_none s code e k l)) h
 
   module _ (j : ℕ) (low : j < rows s) (own : key_at s j ≡ code) (start : ℕ) (put : ℕ → Security → Security) (column : Column start put) (v : ℕ) where
@@ -110,7 +109,7 @@ module _ (s : List ℕ) (kept : Kept s) (code : ℕ) where
 abbrev counted : (outside held : ℕ → ℕ) → ℕ → Holdings → Holdings
 counted outside held code h = let k = put_outside code (outside (outside_of code h)) h in put_held code (held (held_of code k)) k
 
-module _ (s : List ℕ) (kept : Kept s) (code j : ℕ) (here : place_of code s ≡ At j) (outside held : ℕ → ℕ) where
+module _ (s : List ℕ) (kept : Kept s) (code j : ℕ) (here : place_of code s ≡ Some j) (outside held : ℕ → ℕ) where
   abbrev low : j < rows s
   low = (place_at s code j here).0
 
@@ -156,7 +155,7 @@ module _ (s : List ℕ) (kept : Kept s) (code j : ℕ) (here : place_of code s �
 
 -- and where there is none with the code nothing changes
 pub both_nowhere :
-    (s : List ℕ) → Kept s → (code : ℕ) → place_of code s ≡ Nothing → (outside held : ℕ → ℕ) (h : Holdings)
+    (s : List ℕ) → Kept s → (code : ℕ) → place_of code s ≡ None → (outside held : ℕ → ℕ) (h : Holdings)
     → with_securities s h ≡ counted outside held code (with_securities s h)
 unfolding put_outside put_held
 both_nowhere s kept code e outside held h =

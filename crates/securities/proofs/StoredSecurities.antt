@@ -1,5 +1,5 @@
 -- What is read of the securities' words. Assumes nothing.
-use Rattle.std.specs.Prelude.{if◌then◌else◌}
+use Rattle.std.specs.Prelude.{if◌then◌else◌, is_some}
 use Prim.Native.Nat.{ℕ, ◌+◌, ◌<◌}
 use native.Mathlib.Omega.{arith}
 use mathlib.Core.List.{List}
@@ -8,7 +8,6 @@ use lib.ListN.{length, get_or}
 use Rattle.plain.specs.Lists.{◌is◌}
 use Rattle.rulebook.specs.Ledger.{Holdings, admitted, outside_of, held_of}
 use Rattle.rulebook.specs.declared.Security.{Security}
-use Rattle.words.specs.Places.{is_found}
 use Rattle.words.specs.Tables.{rows, key_at, place_of, sum_of, value_of}
 use Rattle.words.proofs.Places.{length_from, from_get, from_some, from_total}
 use Rattle.words.proofs.Tables.{value_at}
@@ -24,7 +23,7 @@ security-there s i d h = let z : i ≡ 0 + i = omega arith in ap (security_at s)
 
 module _ (s : List ℕ) (code : ℕ) where
   -- it is admitted where a search finds it
-  pub admitted-found : (h : Holdings) → is_found (place_of code s) ≡ admitted code (with_securities s h)
+  pub admitted-found : (h : Holdings) → is_some (place_of code s) ≡ admitted code (with_securities s h)
   unfolding admitted securities_of place_of
   admitted-found h = sym (from_some (λ x. x.code is code) (security_at s) 0 (rows s))
 

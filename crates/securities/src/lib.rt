@@ -7,8 +7,8 @@ ghost use Rattle.words.specs.Tables.{rows};
 ghost use Rattle.securities.specs.Admitted.{securities_of, with_securities, entered, left, Kept};
 
 use rulebook::{Security, Shares};
-use words::Found;
 
+// Codes and counts are columns of words, for the book is words that a C program lends.
 const ISSUED: usize = 33;
 
 const OUTSIDE: usize = 65;
@@ -20,11 +20,7 @@ pub fn admitted(securities: &[u64], code: u64) -> bool
     requires { Kept securities.now }
     ensures { (h : Holdings) → result ≡ admitted code (with_securities securities.now h) }
 {
-    let found = words::find(securities, code);
-    match found {
-        Found::At(_) => true,
-        Found::Nothing => false,
-    }
+    words::find(securities, code).is_some()
 }
 
 // The security at `i`.
@@ -78,15 +74,9 @@ pub fn enter_custody(securities: &mut [u64], code: u64, quantity: Shares)
     ensures { Kept securities.new
         × ((h : Holdings) → with_securities securities.new h ≡ entered code quantity.0 (with_securities securities.old h)) }
 {
-    let found = words::find(securities, code);
-    match found {
-        Found::At(i) => {
-            let outside = securities[i + OUTSIDE];
-            securities[i + OUTSIDE] = outside - quantity.0;
-            let held = securities[i + HELD];
-            securities[i + HELD] = held + quantity.0;
-        }
-        Found::Nothing => {}
+    if let Some(i) = words::find(securities, code) {
+        securities[i + OUTSIDE] -= quantity.0;
+        securities[i + HELD] += quantity.0;
     }
 }
 
@@ -97,14 +87,8 @@ pub fn leave_custody(securities: &mut [u64], code: u64, quantity: Shares)
     ensures { Kept securities.new
         × ((h : Holdings) → with_securities securities.new h ≡ left code quantity.0 (with_securities securities.old h)) }
 {
-    let found = words::find(securities, code);
-    match found {
-        Found::At(i) => {
-            let outside = securities[i + OUTSIDE];
-            securities[i + OUTSIDE] = outside + quantity.0;
-            let held = securities[i + HELD];
-            securities[i + HELD] = held - quantity.0;
-        }
-        Found::Nothing => {}
+    if let Some(i) = words::find(securities, code) {
+        securities[i + OUTSIDE] += quantity.0;
+        securities[i + HELD] -= quantity.0;
     }
 }

@@ -1,4 +1,4 @@
--- The least key of the first rows of a table: of none, of one more. Assumes nothing.
+-- The least key of the first rows of a table and of one more. Assumes nothing.
 use Rattle.std.specs.Prelude.{if◌then◌else◌}
 use Prim.Native.Nat.{ℕ, ◌+◌, ◌≤◌, ◌<◌}
 use native.Mathlib.Decide.{ℕ_discrete}
@@ -28,9 +28,6 @@ next_once test from limit m n p q = go (m below n) (n below m) refl refl
     go false false e f = omega (arith, ltb-false m n e, ltb-false n m f)
 
 module _ (table : List ℕ) (from limit : ℕ) where
-  pub least-none : from ≤ limit → LeastOf table 0 from limit limit
-  least-none l = record { from_least = l; most = omega arith; row = λ e. absurd (omega arith); others = λ i e. absurd (omega arith) }
-
   module _ (n least : ℕ) (so_far : LeastOf table n from limit least) where
     one_further : RowOf table n least → RowOf table (n + 1) least
     one_further row = record { place = row.place; inside = omega (arith, row.inside); here = row.here }

@@ -1,5 +1,5 @@
 -- A row is stored in a table, a row comes, a row goes: what the columns have then, and what every sum over the rows is. Assumes nothing.
-use Rattle.std.specs.Prelude.{if◌then◌else◌}
+use Rattle.std.specs.Prelude.{if◌then◌else◌, None}
 use Prim.Native.Nat.{ℕ, zero, suc, ◌+◌, ◌-◌, ◌≤◌, ◌<◌}
 use native.Mathlib.Omega.{arith}
 use mathlib.Core.Bool.{Bool, true, false}
@@ -12,7 +12,6 @@ use borrow.Author.Tests.{eqb-true}
 use Rattle.plain.specs.Lists.{◌is◌, sum_below}
 use Rattle.plain.proofs.Sums.{sum-none, sum_same, sum-last, sum_moved}
 use Rattle.words.specs.Tables.{rows, key_at, place_of, sum_of, value_of, KeysOnce, Row, put_row, with_row}
-use Rattle.words.specs.declared.Found.TheVariants.{Nothing}
 use Rattle.words.proofs.Tables.{place_none, value_none}
 
 -- ---- the words of a row
@@ -203,7 +202,7 @@ module _ (c : ℕ) (less more : List ℕ) (key value : ℕ) (one : OneMore c les
       go false e = let none : ◌≡◌ {A = ℕ} (if key is x then value else 0) 0 = rw e in omega (arith, values x, none)
 
   -- the row has come, where no other had its key
-  module _ (new : place_of key less ≡ Nothing) where
+  module _ (new : place_of key less ≡ None) where
     pub more-once : KeysOnce less → KeysOnce more
     more-once once x = go (key is x) refl
       where

@@ -1,5 +1,6 @@
 -- What a search by places has found, and lists by places after a store, a push and a removal. Assumes nothing.
-use Rattle.std.specs.Prelude.{if◌then◌else◌}
+use Rattle.std.specs.List.{find, range_with_len}
+use Rattle.std.specs.Prelude.{if◌then◌else◌, Option, option_map, is_some, Some, None}
 use Prim.Native.Nat.{ℕ, zero, suc, ◌+◌, ◌-◌, ◌≤◌, ◌<◌}
 use native.Mathlib.Numerals.{add-one}
 use native.Mathlib.Omega.{arith}
@@ -12,54 +13,42 @@ use borrow.Author.Tests.{eqb-true, eqb-false}
 use borrow.Rule.Slice.PartMut.{put_mid}
 use Rattle.plain.specs.Lists.{some, total, sum_below}
 use Rattle.plain.proofs.Lists.{total-append}
-use Rattle.words.specs.Places.{is_found, first_from, list_from, remove_at}
-use Rattle.words.specs.declared.Found.TheVariants.{At, Nothing}
+use Rattle.words.specs.Places.{first_from, list_from, remove_at}
 
--- ---- a search that has come to place i
+-- ---- a search that goes on from place i
 
 module _ (p : ℕ → Bool) where
-  pub first-start : (n : ℕ) → first_from p 0 n ≡ first_from p 0 (n - 0)
-  first-start n = let s : n - 0 ≡ n = omega arith in rw s
-
-  pub first-here : (n i : ℕ) → i < n → p i ≡ true → first_from p i (n - i) ≡ At i
-  unfolding first_from
-  first-here n i l e = let s : n - i ≡ suc (n - (i + 1)) = omega arith in rw (s, e)
-
   pub first_next : (n i : ℕ) → i < n → p i ≡ false → first_from p i (n - i) ≡ first_from p (i + 1) (n - (i + 1))
   unfolding first_from
   first_next n i l e = let s : n - i ≡ suc (n - (i + 1)) = omega arith in rw (s, e) (ap (λ (k : ℕ). first_from p k (n - (i + 1))) (sym (add-one i)))
 
-  pub first-none : (n i : ℕ) → n ≤ i → first_from p i (n - i) ≡ Nothing
-  unfolding first_from
-  first-none n i l = let s : n - i ≡ 0 = omega arith in rw s
-
   -- ---- what it has found
 
-  hit_from : (n i j : ℕ) → first_from p i n ≡ At j → (j < i + n) × (p j ≡ true)
+  hit_from : (n i j : ℕ) → first_from p i n ≡ Some j → (j < i + n) × (p j ≡ true)
   unfolding first_from
   hit_from zero i j e = let z : ◌≡◌ {A = ℕ} 0 1 = cc in absurd (omega arith)
   hit_from (suc n) i j e = go (p i) refl (λ f. hit_from n (suc i) j f)
     where
-      go : (b : Bool) → p i ≡ b → (first_from p (suc i) n ≡ At j → (j < suc i + n) × (p j ≡ true)) → (j < i + suc n) × (p j ≡ true)
+      go : (b : Bool) → p i ≡ b → (first_from p (suc i) n ≡ Some j → (j < suc i + n) × (p j ≡ true)) → (j < i + suc n) × (p j ≡ true)
       go true t rest =
-          let f : At i ≡ At j = rw t at e in
+          let f : Some i ≡ Some j = rw t at e in
           let s : i ≡ j = cc in
           (omega arith, subst (λ (k : ℕ). p k ≡ true) s t)
       go false t rest =
           let r = rest (rw t at e) in
           (omega (arith, r.0), r.1)
 
-  pub hit : (n j : ℕ) → first_from p 0 n ≡ At j → (j < n) × (p j ≡ true)
+  pub hit : (n j : ℕ) → first_from p 0 n ≡ Some j → (j < n) × (p j ≡ true)
   hit n j e = let r = hit_from n 0 j e in (omega (arith, r.0), r.1)
 
-  miss_from : (n i j : ℕ) → first_from p i n ≡ Nothing → i ≤ j → j < i + n → p j ≡ false
+  miss_from : (n i j : ℕ) → first_from p i n ≡ None → i ≤ j → j < i + n → p j ≡ false
   unfolding first_from
   miss_from zero i j e l h = absurd (omega arith)
   miss_from (suc n) i j e l h = go (p i) refl (λ f g. miss_from n (suc i) j f g (omega arith))
     where
-      go : (b : Bool) → p i ≡ b → (first_from p (suc i) n ≡ Nothing → suc i ≤ j → p j ≡ false) → p j ≡ false
+      go : (b : Bool) → p i ≡ b → (first_from p (suc i) n ≡ None → suc i ≤ j → p j ≡ false) → p j ≡ false
       go true t rest =
-          let f : At i ≡ Nothing = rw t at e in
+          let f : Some i ≡ None = rw t at e in
           let z : ◌≡◌ {A = ℕ} 0 1 = cc in
           absurd (omega arith)
       go false t rest = same (eqb i j) refl
@@ -68,8 +57,20 @@ module _ (p : ℕ → Bool) where
           same true q = subst (λ (k : ℕ). p k ≡ false) (eqb-true i j q) t
           same false q = rest (rw t at e) (omega (arith, eqb-false i j q))
 
-  pub miss : (n : ℕ) → first_from p 0 n ≡ Nothing → (j : ℕ) → j < n → p j ≡ false
+  pub miss : (n : ℕ) → first_from p 0 n ≡ None → (j : ℕ) → j < n → p j ≡ false
   miss n e j l = miss_from n 0 j e (omega arith) (omega arith)
+
+-- ---- the library's search of the places
+
+find_of_range : (p : ℕ → Bool) (i n : ℕ) → find p (range_with_len i n) ≡ first_from p i n
+unfolding first_from
+find_of_range p i zero = refl
+find_of_range p i (suc n) = ap (λ (later : Option ℕ). if p i then Some i else later) (rw (← add-one i) (find_of_range p (i + 1) n))
+
+-- what `(i..i + n).find` has found, as `find_from_yields_List` tells it
+pub found_in_range : (p : ℕ → Bool) (i n : ℕ) (found : Option ℕ) → option_map (λ (k : ℕ). k) found ≡ find p (range_with_len i n) → found ≡ first_from p i n
+found_in_range p i n None e = e ∙ find_of_range p i n
+found_in_range p i n (Some k) e = e ∙ find_of_range p i n
 
 -- ---- lists by places
 
@@ -160,14 +161,14 @@ module _ {A : Type 0} where
   from_map h f i zero = refl
   from_map {B} h f i (suc n) = ap {B = List B} (λ r. h (f i) ∷ r) (from_map h f (suc i) n)
 
-  pub from_some : (test : A → Bool) (f : ℕ → A) (i n : ℕ) → some test (list_from f i n) ≡ is_found (first_from (λ k. test (f k)) i n)
+  pub from_some : (test : A → Bool) (f : ℕ → A) (i n : ℕ) → some test (list_from f i n) ≡ is_some (first_from (λ k. test (f k)) i n)
   unfolding list_from first_from
   from_some test f i zero = refl
   from_some test f i (suc n) = go (test (f i)) (from_some test f (suc i) n)
     where
       go :
-          (b : Bool) → some test (list_from f (suc i) n) ≡ is_found (first_from (λ k. test (f k)) (suc i) n) → (b || some test (list_from f (suc i) n))
-          ≡ is_found (if b then At i else first_from (λ k. test (f k)) (suc i) n)
+          (b : Bool) → some test (list_from f (suc i) n) ≡ is_some (first_from (λ k. test (f k)) (suc i) n) → (b || some test (list_from f (suc i) n))
+          ≡ is_some (if b then Some i else first_from (λ k. test (f k)) (suc i) n)
       go true rest = refl
       go false rest = rest
 

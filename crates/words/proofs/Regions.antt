@@ -110,9 +110,6 @@ region-length ws r xs ys fits hr wide = part_length xs ys (start_of ws r) (get_o
 
 -- ---- a copy, told as a part that is put in
 
-pub paste_mid : (d : List ℕ) (at : ℕ) (s : List ℕ) (n : ℕ) → paste d at s n ≡ put_mid at n d (take n s)
-paste_mid d at s n = append_assoc (take at d) (take n s) (drop (at + n) d) ∙ ap (λ (l : List ℕ). take at d ++ (take n s ++ l)) (sym (drop-drop n at d))
-
 pub copy_none : (d : List ℕ) (at : ℕ) (s : List ℕ) → d ≡ paste d at s 0
 copy_none d at s = paste-zero d at s
 

@@ -1,21 +1,14 @@
--- What a search finds; a flag as a word; places counted from 0: the first that passes a test, and the list of what stands at them.
-use Rattle.std.specs.Prelude.{if◌then◌else◌, ℕ, zero, suc, Bool, true, false, List, [], ◌∷◌, ◌++◌, take, drop}
-use Rattle.words.specs.declared.Found.{Found}
-use Rattle.words.specs.declared.Found.TheVariants.{At, Nothing}
-
--- a search found something
-abbrev pub is_found : Found → Bool
-is_found (At i) = true
-is_found Nothing = false
+-- A flag as a word; places counted from 0: the first that passes a test, and the list of what stands at them.
+use Rattle.std.specs.Prelude.{if◌then◌else◌, ℕ, zero, suc, Bool, true, false, List, [], ◌∷◌, ◌++◌, take, drop, Option, Some, None}
 
 abbrev pub bit : Bool → ℕ
 bit true = 1
 bit false = 0
 
 -- the first of the n places from i on that passes the test
-unfoldable pub first_from : (ℕ → Bool) → ℕ → ℕ → Found
-first_from test i zero = Nothing
-first_from test i (suc n) = if test i then At i else first_from test (suc i) n
+unfoldable pub first_from : (ℕ → Bool) → ℕ → ℕ → Option ℕ
+first_from test i zero = None
+first_from test i (suc n) = if test i then Some i else first_from test (suc i) n
 
 -- what stands at the n places from i on
 unfoldable pub list_from : {A : Type 0} → (ℕ → A) → ℕ → ℕ → List A

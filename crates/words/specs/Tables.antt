@@ -1,8 +1,7 @@
 -- A table of words: how many rows it has, then their keys, and columns of values behind them.
-use Rattle.std.specs.Prelude.{if◌then◌else◌, ℕ, ◌+◌, ◌-◌, ◌≤◌, Bool, List, [], ◌∷◌, get_or, set}
+use Rattle.std.specs.Prelude.{if◌then◌else◌, ℕ, ◌+◌, ◌-◌, ◌≤◌, Bool, List, [], ◌∷◌, get_or, set, Option}
 use Rattle.plain.specs.Lists.{◌is◌, sum_below}
 use Rattle.words.specs.Places.{first_from}
-use Rattle.words.specs.declared.Found.{Found}
 
 abbrev pub rows : List ℕ → ℕ
 rows table = get_or table 0 0
@@ -15,7 +14,7 @@ abbrev pub is_key : List ℕ → (key i : ℕ) → Bool
 is_key table key i = key_at table i is key
 
 -- where the row of a key stands
-unfoldable pub place_of : ℕ → List ℕ → Found
+unfoldable pub place_of : ℕ → List ℕ → Option ℕ
 place_of key table = first_from (is_key table key) 0 (rows table)
 
 -- the sum over the rows of a figure of a row's key and its value in the column that starts at c

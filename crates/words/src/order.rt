@@ -23,10 +23,8 @@ pub fn next_key(table: &[u64], from: u64, limit: u64) -> u64
 {
     let n = table[0] as usize;
     let mut least = limit;
-    let mut i: usize = 0;
-    while i < n {
-        least = lesser(from, least, table[i + 1]);
-        i += 1;
+    for &key in &table[1..n + 1] {
+        least = lesser(from, least, key);
     }
     least
 }

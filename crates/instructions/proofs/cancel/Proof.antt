@@ -5,8 +5,7 @@ use mathlib.Core.Path.{◌≡◌, sym, ap, ◌∙◌}
 use borrow.Author.Rules.{rules}
 use lib.ListN.{length}
 use Rattle.rulebook.specs.Waiting.{sender_of, sent_by, marked}
-use Rattle.words.specs.declared.Found.{Found}
-use Rattle.words.specs.declared.Found.TheVariants.{At}
+use Rattle.std.specs.Prelude.{Option, Some}
 use Rattle.book.specs.Meaning.{ledger_of}
 use Rattle.search.specs.Place.{place_in}
 use Rattle.search.proofs.Found.{found-passes}
@@ -17,17 +16,17 @@ use Rattle.instructions.proofs.cancel.Tie as tie
 abbrev start : tie.After-first_sent-found → tie.Start
 start c = c.before.before.before.before
 
-abbrev searched : tie.In-At → tie.After-first_sent-found
+abbrev searched : tie.In-Some → tie.After-first_sent-found
 searched c = c.before
 
-abbrev found : tie.After-mark-item → tie.In-At
+abbrev found : tie.After-mark-item → tie.In-Some
 found c = c.before.before
 
 abbrev removed : tie.After-write_notice-arg-1 → tie.After-remove
 removed c = c.before.before.before
 
 -- what the search is to answer
-abbrev wanted : tie.Start → Found
+abbrev wanted : tie.Start → Option ℕ
 wanted s = place s.args.book.now s.args.order s.args.area.now s.requires.0
 
 placed : (c : tie.After-first_sent-found) → wanted (start c) ≡ c.first_sent-found.result
@@ -36,10 +35,10 @@ placed c =
     let ws = (ledger_of a.book.now).waiting in
     sym (c.first_sent-found.ensures ∙ ap (λ (n : ℕ). place_in (sent_by n a.order.reference) ws) c.sender_of-sender.ensures)
 
-at : (c : tie.In-At) → wanted (start (searched c)) ≡ At c.in-At.i
-at c = placed (searched c) ∙ c.in-At.is
+at : (c : tie.In-Some) → wanted (start (searched c)) ≡ Some c.in-Some.i
+at c = placed (searched c) ∙ c.in-Some.is
 
-waits_there : (c : tie.In-At) → c.in-At.i < length (ledger_of (start (searched c)).args.book.now).waiting
+waits_there : (c : tie.In-Some) → c.in-Some.i < length (ledger_of (start (searched c)).args.book.now).waiting
 waits_there c = (found-passes _ _ _ (at c)).inside
 
 marks : (c : tie.After-mark-item) → c.mark-item.result ≡ marked (sender_of (start (searched (found c))).args.order) c.item_at.result

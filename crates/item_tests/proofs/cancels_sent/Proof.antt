@@ -30,7 +30,7 @@ item-at-requires c κs =
     let s = start found in (
       s.requires.stored,
       cancel-inside (ledger_of s.args.book.now) s.args.order _ _ found.if-order-ne15.false found.sender_of.ensures
-          found.first_sent-found.ensures _ c.in-At.is,
+          found.first_sent-found.ensures _ c.in-Some.is,
     )
 
 -- the item that was found tells it
@@ -43,7 +43,7 @@ told c =
     let item = c.item_at-item in
     sym
     (sent-at (ledger_of s.args.book.now) s.args.order _ _ found.if-order-ne15.false found.sender_of.ensures
-    found.first_sent-found.ensures _ c.in-At.is s.requires.premise item.result (item.ensures item.result))
+    found.first_sent-found.ensures _ c.in-Some.is s.requires.premise item.result (item.ensures item.result))
 
 pub cancels_sent_spec : {M : Type 1} → statement M
 cancels_sent_spec =

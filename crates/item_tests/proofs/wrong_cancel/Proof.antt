@@ -26,7 +26,7 @@ item-at-requires c κs =
     let s = found in (
       s.requires.stored,
       cancel-inside (ledger_of s.args.book.now) s.args.order _ _ found.if-order-ne15.false found.sender_of-sender.ensures
-          found.first_sent-found.ensures _ c.in-At.is,
+          found.first_sent-found.ensures _ c.in-Some.is,
     )
 
 returns-3 : tie.Need-returns
@@ -37,7 +37,7 @@ returns-3 c =
     c.not_cancellable.ensures
     ∙ sym
     (cancel-at (ledger_of s.args.book.now) s.args.order _ _ found.if-order-ne15.false found.sender_of-sender.ensures
-    found.first_sent-found.ensures _ c.in-At.is s.requires.premise item.result (item.ensures item.result))
+    found.first_sent-found.ensures _ c.in-Some.is s.requires.premise item.result (item.ensures item.result))
 
 pub wrong_cancel_spec : {M : Type 1} → statement M
 wrong_cancel_spec =

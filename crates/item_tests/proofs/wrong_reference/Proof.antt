@@ -1,9 +1,8 @@
 -- `item_tests::wrong_reference` meets its contract. Assumes nothing.
 use mathlib.Core.Path.{sym, ap, ◌∙◌}
-use borrow.Author.Tests.{not-true}
 use borrow.Author.Rules.{rules}
 use Rattle.rulebook.specs.Refusals.{wrong_reference}
-use Rattle.words.specs.Places.{is_found}
+use Rattle.std.specs.Prelude.{is_some}
 use Rattle.search.proofs.Found.{found_some}
 use Rattle.rulebook.proofs.Within.{not_waiting}
 use Rattle.item_tests.proofs.wrong_reference.Statement.{statement}
@@ -21,7 +20,7 @@ unfolding wrong_reference
 returns-2 c =
     let sent = c.before.before.first_sent.ensures in
     let sender = c.before.before.before.sender_of.ensures in
-    let waits = c.before.is_found-waits.ensures ∙ ap is_found sent ∙ found_some _ 0 _ in
+    let waits = c.before.is_some-waits.ensures ∙ ap is_some sent ∙ found_some _ 0 _ in
     rw (c.is_within-2.ensures, waits, sender)
 
 pub wrong_reference_spec : {M : Type 1} → statement M
