@@ -8,6 +8,7 @@ use native.Mathlib.Numerals.{add-one}
 use native.Mathlib.Omega.{arith}
 use lib.Dec.{lit<}
 use lib.ListN.{length, get_or, take, drop, set, length-append, length-set, length-drop, take-append-drop}
+use Rattle.std.proofs.Common.{get_or-take, length-take-le}
 use lib.Seq.{take-suc, get_or-drop, drop-cons, set_at, append_snoc}
 use lib.Pow.{pow_pos, pow-add, shr-shr, high, low, field as mod-shr, ones_split, ones_lt, shl_exact, shl_lt, shr_lt}
 use lib.Arith.{digits_lt}
@@ -108,6 +109,13 @@ folded_more xs f i acc h hi hb hf =
           number-take_suc xs i hi ∙ ap (λ (x : ℕ). x * 2 ^ 8 + get_or xs i 0) h.sum
           ∙ rw (e, pow-add 2 (8 * (i - f)) 8) (simp (add-mul, mul_assoc, add_assoc));
     })
+
+-- the bytes from f on: how many they are, and the one at k
+pub length_part : (f n : ℕ) (xs : List ℕ) → f + n ≤ length xs → length (take n (drop f xs)) ≡ n
+length_part f n xs h = length-take-le n (drop f xs) (rw length-drop (omega arith))
+
+pub get_or_part : (f n k : ℕ) (xs : List ℕ) → k < n → get_or (take n (drop f xs)) k 0 ≡ get_or xs (f + k) 0
+get_or_part f n k xs h = get_or-take n (drop f xs) k 0 h ∙ get_or-drop f xs k 0
 
 pub folded_field : (xs : List ℕ) (at w acc : ℕ) → Octets xs → w ≤ 64 → at + w ≤ 8 * length xs → Folded xs (at / 8) (whole_bytes (at + w)) acc
     → bit_and (acc / 2 ^ (whole_bytes (at + w) * 8 - (at + w))) ((2 ^ 64 - 1) / 2 ^ (64 - w)) ≡ field xs at w

@@ -2,27 +2,24 @@
 #![tactic(auto)]
 
 ghost use Rattle.std.specs.Prelude.{◌≡◌, ◌<◌, ◌^◌};
-ghost use Rattle.rulebook.specs.Waiting.{item_of, single_of, is_deliver, is_receive, own_reference, sides_of, sender_of, sent_by, not_cancellable, with_state, marked, both_marked, unmarked};
+ghost use Rattle.rulebook.specs.Waiting.{item_of, single_of, is_deliver, is_receive, own_reference, sides_of, sender_of, sent_by, not_cancellable, marked, both_marked, unmarked};
 ghost use Rattle.rulebook.specs.Close.{close_kind};
 
 use rulebook::{Item, Order, State};
 
 // ---- an order as an item
 
+#[tactic(auto, unfolding(rulebook::specs::Waiting::item_of))]
 pub fn item_of(state: State, order: Order) -> Item
     ensures { result ≡ item_of state order }
 {
-    let debited = order.debited;
-    let credited = order.credited;
-    let quantity = order.quantity;
-    let amount = order.amount;
     Item {
         security: order.security,
         currency: order.currency,
-        debited,
-        credited,
-        quantity,
-        amount,
+        debited: order.debited,
+        credited: order.credited,
+        quantity: order.quantity,
+        amount: order.amount,
         trade_day: order.trade_day,
         settlement_day: order.settlement_day,
         state,
@@ -34,66 +31,41 @@ pub fn item_of(state: State, order: Order) -> Item
 pub fn single_of(order: Order) -> Item
     ensures { result ≡ single_of order }
 {
-    let delivers = order.form == 12;
     let state = State::Single {
-        delivers,
+        delivers: order.form == 12,
         reference: order.reference,
     };
     item_of(state, order)
 }
 
-// The item in another state.
-fn with_state(state: State, item: Item) -> Item
-    ensures { result ≡ with_state state item }
-{
-    let debited = item.debited;
-    let credited = item.credited;
-    let quantity = item.quantity;
-    let amount = item.amount;
-    Item {
-        security: item.security,
-        currency: item.currency,
-        debited,
-        credited,
-        quantity,
-        amount,
-        trade_day: item.trade_day,
-        settlement_day: item.settlement_day,
-        state,
-        sent: item.sent,
-    }
-}
-
 // ---- senders and references
 
 // Who sends an order: the deliverer a deliver, the receiver a receive, the exchange, which has no member's number, a trade; who cancels, a cancel.
+#[tactic(auto, unfolding(rulebook::specs::Waiting::sender_of))]
 pub fn sender_of(order: Order) -> u64
     ensures { result ≡ sender_of order }
 {
-    if order.form == 13 {
-        return order.credited.member;
+    match order.form {
+        13 => order.credited.member,
+        14 => 0,
+        _ => order.debited.member,
     }
-    if order.form == 14 {
-        return 0;
-    }
-    order.debited.member
 }
 
 // The item waits under that sender's reference.
+#[tactic(auto, unfolding(rulebook::specs::Waiting::sent_by))]
 pub fn sent_by(sender: u64, reference: u64, item: Item) -> bool
     ensures { result ≡ sent_by sender reference item }
 {
-    let state = item.state;
-    match state {
+    match item.state {
         State::Single {
-            delivers,
+            delivers: true,
             reference: own,
-        } => {
-            if delivers {
-                return (sender == item.debited.member) & (reference == own);
-            }
-            (sender == item.credited.member) & (reference == own)
-        }
+        } => (sender == item.debited.member) & (reference == own),
+        State::Single {
+            delivers: false,
+            reference: own,
+        } => (sender == item.credited.member) & (reference == own),
         State::Pair {
             deliver_reference,
             receive_reference,
@@ -107,178 +79,133 @@ pub fn sent_by(sender: u64, reference: u64, item: Item) -> bool
 }
 
 // How many sides an item in that state counts.
+#[tactic(auto, unfolding(rulebook::specs::Waiting::sides_of))]
 pub fn sides_of(state: State) -> u64
     ensures { result ≡ sides_of state }
 {
     match state {
         State::Single { .. } => 1,
-        State::Pair { .. } => 2,
-        State::Trade { .. } => 2,
+        State::Pair { .. } | State::Trade { .. } => 2,
     }
 }
 
 // ---- marks
 
 // What this sender cannot cancel: a single, or a pair that bears the sender's mark.
+#[tactic(auto, unfolding(rulebook::specs::Waiting::not_cancellable))]
 pub fn not_cancellable(sender: u64, item: Item) -> bool
     ensures { result ≡ not_cancellable sender item }
 {
-    let state = item.state;
-    match state {
+    match item.state {
         State::Single { .. } => true,
-        State::Pair {
-            deliver_marked,
-            receive_marked,
-            ..
-        } => {
-            if sender == item.debited.member {
-                return deliver_marked;
-            }
-            receive_marked
-        }
+        State::Pair { deliver_marked, .. } if sender == item.debited.member => deliver_marked,
+        State::Pair { receive_marked, .. } => receive_marked,
         State::Trade { .. } => false,
     }
 }
 
 // The item with this sender's mark.
+#[tactic(auto, unfolding(rulebook::specs::Waiting::marked, rulebook::specs::Waiting::with_state))]
 pub fn mark(sender: u64, item: Item) -> Item
     ensures { result ≡ marked sender item }
 {
-    let state = item.state;
-    match state {
-        State::Single { .. } => item,
-        State::Pair {
-            deliver_reference,
-            receive_reference,
-            deliver_marked,
-            receive_marked,
-        } => {
-            if sender == item.debited.member {
-                return with_state(
-                    State::Pair {
-                        deliver_reference,
-                        receive_reference,
-                        deliver_marked: true,
-                        receive_marked,
-                    },
-                    item,
-                );
-            }
-            with_state(
-                State::Pair {
-                    deliver_reference,
-                    receive_reference,
-                    deliver_marked,
-                    receive_marked: true,
-                },
-                item,
-            )
+    let mut marked = item;
+    if let State::Pair {
+        deliver_marked,
+        receive_marked,
+        ..
+    } = &mut marked.state
+    {
+        if sender == item.debited.member {
+            *deliver_marked = true;
+        } else {
+            *receive_marked = true;
         }
-        State::Trade { .. } => item,
     }
+    marked
 }
 
 // Both halves of a pair are marked.
+#[tactic(auto, unfolding(rulebook::specs::Waiting::both_marked))]
 pub fn both_marked(state: State) -> bool
     ensures { result ≡ both_marked state }
 {
-    match state {
-        State::Single { .. } => false,
+    matches!(
+        state,
         State::Pair {
-            deliver_marked,
-            receive_marked,
+            deliver_marked: true,
+            receive_marked: true,
             ..
-        } => deliver_marked & receive_marked,
-        State::Trade { .. } => false,
-    }
+        }
+    )
 }
 
 // The item without marks.
+#[tactic(auto, unfolding(rulebook::specs::Waiting::unmarked, rulebook::specs::Waiting::with_state))]
 pub fn unmark(item: Item) -> Item
     ensures { result ≡ unmarked item }
 {
-    let state = item.state;
-    match state {
-        State::Single { .. } => item,
-        State::Pair {
-            deliver_reference,
-            receive_reference,
-            ..
-        } => with_state(
-            State::Pair {
-                deliver_reference,
-                receive_reference,
-                deliver_marked: false,
-                receive_marked: false,
-            },
-            item,
-        ),
-        State::Trade { .. } => item,
+    let mut unmarked = item;
+    if let State::Pair {
+        deliver_marked,
+        receive_marked,
+        ..
+    } = &mut unmarked.state
+    {
+        *deliver_marked = false;
+        *receive_marked = false;
     }
+    unmarked
 }
 
 // ---- singles
 
 // A single that delivers.
+#[tactic(auto, unfolding(rulebook::specs::Waiting::is_deliver))]
 pub fn is_deliver(state: State) -> bool
     ensures { result ≡ is_deliver state }
 {
-    match state {
-        State::Single { delivers, .. } => delivers,
-        State::Pair { .. } => false,
-        State::Trade { .. } => false,
-    }
+    matches!(state, State::Single { delivers: true, .. })
 }
 
 // A single that receives.
+#[tactic(auto, unfolding(rulebook::specs::Waiting::is_receive))]
 pub fn is_receive(state: State) -> bool
     ensures { result ≡ is_receive state }
 {
-    match state {
-        State::Single { delivers, .. } => !delivers,
-        State::Pair { .. } => false,
-        State::Trade { .. } => false,
-    }
+    matches!(
+        state,
+        State::Single {
+            delivers: false,
+            ..
+        }
+    )
 }
 
 // The reference of a single or an exchange trade.
+#[tactic(auto, unfolding(rulebook::specs::Waiting::own_reference))]
 pub fn own_reference(state: State) -> u64
     ensures { result ≡ own_reference state }
 {
     match state {
-        State::Single { reference, .. } => reference,
+        State::Single { reference, .. } | State::Trade { reference } => reference,
         State::Pair { .. } => 0,
-        State::Trade { reference } => reference,
     }
 }
 
 // ---- close
 
 // The kind of notice with which an item leaves at the close of a day: 1 single, 2 aged pair, 3 suspended; 0 where it stays.
+// A number, since the rulebook's 0 says so too, and an Option would need a clause for each of its cases.
+#[tactic(auto, unfolding(rulebook::specs::Close::close_kind))]
 pub fn close_kind(day: u64, item: Item) -> u64
     requires { item.settlement_day < 2 ^ 63 }
     ensures { result ≡ close_kind day item }
 {
-    let state = item.state;
-    let settles = item.settlement_day;
-    match state {
-        State::Single { .. } => {
-            if settles == day {
-                return 1;
-            }
-            0
-        }
-        State::Pair { .. } => {
-            if day == settles + 10 {
-                return 2;
-            }
-            0
-        }
-        State::Trade { .. } => {
-            if settles <= day {
-                return 3;
-            }
-            0
-        }
+    match item.state {
+        State::Single { .. } if item.settlement_day == day => 1,
+        State::Pair { .. } if day == item.settlement_day + 10 => 2,
+        State::Trade { .. } if item.settlement_day <= day => 3,
+        _ => 0,
     }
 }

@@ -49,15 +49,13 @@ fn wrong_parties(order: Order) -> bool
     let form = order.form;
     let shareholders_differ = order.debited.shareholder != order.credited.shareholder;
     let members_equal = order.debited.member == order.credited.member;
-    let one_account = parties::same_account(
-        parties::account_of(order.security, order.debited),
-        parties::account_of(order.security, order.credited),
-    );
+    let debited = parties::account_of(order.security, order.debited);
+    let credited = parties::account_of(order.security, order.credited);
     let instruction = checking::is_within(12, 13, form);
     ((checking::is_within(5, 9, form) | instruction) & shareholders_differ)
         | (checking::is_within(6, 9, form) & !members_equal)
         | (instruction & members_equal)
-        | (((form == 5) | (form == 14)) & one_account)
+        | (((form == 5) | (form == 14)) & (debited == credited))
 }
 
 // RULES 7.13: days that the form does not allow.

@@ -2,7 +2,7 @@
 #![tactic(auto)]
 
 ghost use Rattle.std.specs.Prelude.{◌≡◌, ℕ};
-ghost use Rattle.rulebook.specs.Ledger.{account_of, request_account, same_account};
+ghost use Rattle.rulebook.specs.Ledger.{account_of, request_account};
 ghost use Rattle.rulebook.specs.TypeTable.{requested};
 ghost use Rattle.rulebook.specs.Shortfall.{seller, buyer};
 ghost use Rattle.rulebook.specs.Forms.{new_request};
@@ -50,15 +50,6 @@ pub fn requested_account(order: Order) -> Account
         typ: types::REQUESTED,
         shareholder: order.debited.shareholder,
     }
-}
-
-pub fn same_account(a: Account, b: Account) -> bool
-    ensures { result ≡ same_account a b }
-{
-    (a.security == b.security)
-        & (a.member == b.member)
-        & (a.typ == b.typ)
-        & (a.shareholder == b.shareholder)
 }
 
 // The account that a trade debits.

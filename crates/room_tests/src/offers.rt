@@ -21,7 +21,7 @@ struct Flow {
 fn if_same(one: Account, other: Account, quantity: Shares) -> Shares
     ensures { result.0 ≡ (if same_account one other then quantity.0 else 0) }
 {
-    if parties::same_account(one, other) {
+    if one == other {
         return quantity;
     }
     Shares(0)

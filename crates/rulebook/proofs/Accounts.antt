@@ -1,9 +1,10 @@
 -- The test of accounts tells them apart. Assumes nothing.
-use mathlib.Core.Path.{◌≡◌}
-use mathlib.Core.Bool.{true}
+use mathlib.Core.Path.{◌≡◌, sym, ◌∙◌}
+use mathlib.Core.Bool.{true, ◌&&◌, and_assoc}
 use borrow.Author.Tests.{eqb-true}
 use lib.Dec.{eqb}
 use Rattle.plain.proofs.Tests.{both}
+use Rattle.plain.specs.Lists.{◌is◌}
 use Rattle.rulebook.specs.declared.Account.{Account}
 use Rattle.rulebook.specs.Ledger.{same_account}
 
@@ -19,3 +20,13 @@ same_eq a b e =
       typ = eqb-true a.typ b.typ h₂.1 i;
       shareholder = eqb-true a.shareholder b.shareholder h₁.1 i;
     }
+
+-- what `==` of accounts computes
+pub same-fields :
+    (a b : Account)
+    → (a.security is b.security && (a.member is b.member && (a.typ is b.typ && a.shareholder is b.shareholder))) ≡ same_account a b
+unfolding same_account
+same-fields a b =
+    sym
+    (and_assoc (a.security is b.security && a.member is b.member) (a.typ is b.typ) (a.shareholder is b.shareholder)
+    ∙ and_assoc (a.security is b.security) (a.member is b.member) (a.typ is b.typ && a.shareholder is b.shareholder))

@@ -2,19 +2,19 @@
 #![tactic(auto)]
 
 // A count of shares.
-#[derive(Clone, Copy)]
+#[derive(Clone, Copy, PartialEq, Eq, PartialOrd, Ord)]
 pub struct Shares(pub u64);
 
 // An amount of cash, in hundredths.
-#[derive(Clone, Copy)]
+#[derive(Clone, Copy, PartialEq, Eq, PartialOrd, Ord)]
 pub struct Cents(pub u64);
 
 // A rate: hundredths of LBP for one USD. It is neither shares nor cash.
-#[derive(Clone, Copy)]
+#[derive(Clone, Copy, PartialEq, Eq)]
 pub struct Rate(pub u64);
 
 // One side of an order: a member, an account type and a shareholder. (`type` is a word of the language.)
-#[derive(Clone, Copy)]
+#[derive(Clone, Copy, PartialEq, Eq)]
 pub struct Party {
     pub member: u64,
     pub typ: u64,
@@ -22,7 +22,7 @@ pub struct Party {
 }
 
 // An account: a party in a security.
-#[derive(Clone, Copy)]
+#[derive(Clone, Copy, PartialEq, Eq)]
 pub struct Account {
     pub security: u64,
     pub member: u64,
@@ -31,7 +31,7 @@ pub struct Account {
 }
 
 // A record's fields.
-#[derive(Clone, Copy)]
+#[derive(Clone, Copy, PartialEq, Eq)]
 pub struct Order {
     pub form: u64,
     pub minute: u64,
@@ -66,7 +66,7 @@ pub enum Written {
 }
 
 // What an accepted call answers with (RULES 1.8): rows, four counts of sides, and trades that a cycle leaves.
-#[derive(Clone, Copy)]
+#[derive(Clone, Copy, PartialEq, Eq)]
 pub struct Counts {
     pub rows: u64,
     pub settled: u64,
@@ -85,7 +85,7 @@ pub enum Answer {
 
 // The day (RULES 4): its number, whether it is open, its kind, how many cycles have run, the last minute, and whether a cycle is sent that nobody has
 // answered yet.
-#[derive(Clone, Copy)]
+#[derive(Clone, Copy, PartialEq, Eq)]
 pub struct Day {
     pub number: u64,
     pub opened: bool,
@@ -96,7 +96,7 @@ pub struct Day {
 }
 
 // An admitted security (RULES 3.1, 3.19): its code, how many shares of it are issued, are outside, and are held in its accounts.
-#[derive(Clone, Copy)]
+#[derive(Clone, Copy, PartialEq, Eq)]
 pub struct Security {
     pub code: u64,
     pub issued: Shares,
@@ -105,7 +105,7 @@ pub struct Security {
 }
 
 // A request for paper (RULES 3.15): of which shares, the type that they came from, how many, and the day on which it was made.
-#[derive(Clone, Copy)]
+#[derive(Clone, Copy, PartialEq, Eq)]
 pub struct Request {
     pub security: u64,
     pub typ: u64,
@@ -115,7 +115,7 @@ pub struct Request {
 }
 
 // The state of a waiting item (RULES 1.19): a single is a deliver or else a receive.
-#[derive(Clone, Copy)]
+#[derive(Clone, Copy, PartialEq, Eq)]
 pub enum State {
     Single {
         delivers: bool,
@@ -133,7 +133,7 @@ pub enum State {
 }
 
 // A waiting item, and whether a sent cycle has fixed it (RULES 9.19).
-#[derive(Clone, Copy)]
+#[derive(Clone, Copy, PartialEq, Eq)]
 pub struct Item {
     pub security: u64,
     pub currency: u64,
@@ -148,7 +148,7 @@ pub struct Item {
 }
 
 // A posting row. `what` is the security or the currency, and `number` the quantity or the amount.
-#[derive(Clone, Copy)]
+#[derive(Clone, Copy, PartialEq, Eq)]
 pub struct Posting {
     pub credit: u64,
     pub cash: u64,
@@ -160,7 +160,7 @@ pub struct Posting {
 }
 
 // A notice row: why an item left, its members and their references.
-#[derive(Clone, Copy)]
+#[derive(Clone, Copy, PartialEq, Eq)]
 pub struct Notice {
     pub kind: u64,
     pub deliverer: u64,

@@ -1,2 +1,2 @@
--- lengths as a number, and what is told behind them
+-- what is left of one word that is written
 mod Answers

@@ -1,8 +1,9 @@
 -- How a program is told what a book says: in words that it lends, each buffer by a pointer and a length.
-use Rattle.std.specs.Prelude.{if◌then◌else◌, ℕ, List, ◌≡◌, length, get_or}
+use Rattle.std.specs.Prelude.{if◌then◌else◌, ℕ, List, ◌≡◌, length, get_or, Result, Ok, Err}
 use Rattle.plain.specs.Lists.{◌is_not◌, ◌below◌}
 use Rattle.book.specs.Meaning.{book_length}
 use Rattle.book.specs.Stored.{Kept}
+use Rattle.telling.specs.declared.Wrong.{Wrong}
 
 -- what is answered for a book or values that are not as long as they should be, and for a place behind the last
 abbrev pub wrong_book : ℕ
@@ -13,6 +14,16 @@ wrong_values = 1004
 
 abbrev pub no_such_place : ℕ
 no_such_place = 1005
+
+abbrev pub number_of : Wrong → ℕ
+number_of Wrong.Book = wrong_book
+number_of Wrong.Values = wrong_values
+number_of Wrong.Place = no_such_place
+
+-- 0 where all is told
+abbrev pub number_in : Result (Unit {0}) Wrong → ℕ
+number_in (Ok told) = 0
+number_in (Err wrong) = number_of wrong
 
 -- the one premise: a buffer of a book's length holds what a fresh book and calls left there. Nothing is asked of another
 abbrev pub Lent : List ℕ → Type 0
