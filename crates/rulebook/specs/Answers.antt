@@ -1,5 +1,5 @@
 -- What reading a record, writing one and a call answer, and the numbers of the refusals (RULES 7).
-use Rattle.std.specs.Prelude.{ℕ, ◌-◌, List, [], ◌∷◌, get_or, Result, Ok, Err}
+use Rattle.std.specs.Prelude.{ℕ, ◌-◌, List, [], ◌∷◌, get_or, Option, Some, None, Result, Ok, Err}
 use Rattle.rulebook.specs.declared.Counts.{Counts}
 use Rattle.rulebook.specs.declared.Order.{Order}
 use Rattle.rulebook.specs.declared.Refusal.{Refusal}
@@ -58,3 +58,8 @@ refusal_of number = get_or all_refusals (number - 1) Refusal.ShortArea
 abbrev pub number_in : {A : Type 0} → Result A Refusal → ℕ
 number_in (Ok value) = 0
 number_in (Err refusal) = number_of refusal
+
+-- 0 where no refusal was found
+abbrev pub number_found : Option Refusal → ℕ
+number_found None = 0
+number_found (Some refusal) = number_of refusal

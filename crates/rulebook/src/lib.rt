@@ -54,8 +54,8 @@ pub struct Order {
     pub edition: u64,
 }
 
-// Why a record or a call is refused (RULES 7), by the number of each refusal; in checking order as far as that is the order of the numbers.
-#[derive(Clone, Copy, PartialEq, Eq, PartialOrd, Ord)]
+// Why a record or a call is refused, by the numbers of RULES 7.
+#[derive(Clone, Copy, PartialEq, Eq)]
 pub enum Refusal {
     ShortArea = 1,
     RecordLength,
