@@ -1,5 +1,5 @@
 -- Refusals and their numbers are one to one, and an answer has the number of the first test that applies. Assumes nothing.
-use Rattle.std.specs.Prelude.{if◌then◌else◌, Ok, Err}
+use Rattle.std.specs.Prelude.{if◌then◌else◌, Result, Ok, Err}
 use mathlib.Core.Path.{◌≡◌, refl, sym}
 use mathlib.Core.Bool.{Bool, true, false}
 use mathlib.Core.List.{List, ◌∷◌}
@@ -15,33 +15,39 @@ use Rattle.rulebook.specs.declared.Refusal.{Refusal}
 use Rattle.rulebook.proofs.Below.{same_below}
 use Rattle.rulebook.proofs.Checking.{Numbered, first-known}
 
--- the refusal of a refusal's number
-pub refusal-back : (refusal : Refusal) → refusal_of (number_of refusal) ≡ refusal
+-- the refusal of a refusal's number, which is not 0
+pub refusal-back : (refusal : Refusal) → (refusal_of (number_of refusal) ≡ refusal) × ((number_of refusal is 0) ≡ false)
 unfolding refusal_of all_refusals
-refusal-back Refusal.ShortArea = refl
-refusal-back Refusal.RecordLength = refl
-refusal-back Refusal.NoForm = refl
-refusal-back Refusal.UnusedField = refl
-refusal-back Refusal.FieldRange = refl
-refusal-back Refusal.WrongDay = refl
-refusal-back Refusal.WrongCycle = refl
-refusal-back Refusal.MinuteGoesBack = refl
-refusal-back Refusal.OutsideWindow = refl
-refusal-back Refusal.WrongSecurity = refl
-refusal-back Refusal.WrongTypes = refl
-refusal-back Refusal.WrongParties = refl
-refusal-back Refusal.WrongDays = refl
-refusal-back Refusal.WrongReference = refl
-refusal-back Refusal.WrongCancel = refl
-refusal-back Refusal.TooLittle = refl
-refusal-back Refusal.OverCeiling = refl
-refusal-back Refusal.NoSpace = refl
-refusal-back Refusal.WrongRequest = refl
-refusal-back Refusal.EndsTooSoon = refl
-refusal-back Refusal.TooManyRequests = refl
-refusal-back Refusal.AwaitsAnswer = refl
-refusal-back Refusal.NothingSent = refl
-refusal-back Refusal.CancelsSent = refl
+refusal-back Refusal.ShortArea = (refl, refl)
+refusal-back Refusal.RecordLength = (refl, refl)
+refusal-back Refusal.NoForm = (refl, refl)
+refusal-back Refusal.UnusedField = (refl, refl)
+refusal-back Refusal.FieldRange = (refl, refl)
+refusal-back Refusal.WrongDay = (refl, refl)
+refusal-back Refusal.WrongCycle = (refl, refl)
+refusal-back Refusal.MinuteGoesBack = (refl, refl)
+refusal-back Refusal.OutsideWindow = (refl, refl)
+refusal-back Refusal.WrongSecurity = (refl, refl)
+refusal-back Refusal.WrongTypes = (refl, refl)
+refusal-back Refusal.WrongParties = (refl, refl)
+refusal-back Refusal.WrongDays = (refl, refl)
+refusal-back Refusal.WrongReference = (refl, refl)
+refusal-back Refusal.WrongCancel = (refl, refl)
+refusal-back Refusal.TooLittle = (refl, refl)
+refusal-back Refusal.OverCeiling = (refl, refl)
+refusal-back Refusal.NoSpace = (refl, refl)
+refusal-back Refusal.WrongRequest = (refl, refl)
+refusal-back Refusal.EndsTooSoon = (refl, refl)
+refusal-back Refusal.TooManyRequests = (refl, refl)
+refusal-back Refusal.AwaitsAnswer = (refl, refl)
+refusal-back Refusal.NothingSent = (refl, refl)
+refusal-back Refusal.CancelsSent = (refl, refl)
+
+-- what answers by a number, where that is a refusal's
+pub refused_by :
+    {A : Type 0} (value : A) (n : ℕ) (refusal : Refusal) → number_of refusal ≡ n
+    → ◌≡◌ {A = Result A Refusal} (if n is 0 then Ok value else Err (refusal_of n)) (Err refusal)
+refused_by value n refusal e = let back = refusal-back refusal in rw (← e, back.1, back.0)
 
 -- the number of a number's refusal
 number_above : (k : ℕ) → k < 24 → number_of (refusal_of (suc k)) ≡ suc k
