@@ -3,7 +3,7 @@ use Prim.Native.Nat.{ℕ, ◌≤◌}
 use mathlib.Core.Path.{◌≡◌, ap, ap₂, ◌∙◌}
 use mathlib.Core.Bool.{true, false}
 use native.Mathlib.Omega.{arith}
-use Rattle.plain.specs.Lists.{◌is◌, within}
+use Rattle.plain.specs.Lists.{within}
 use Rattle.rulebook.specs.AccountTypes.{is_outside}
 use Rattle.rulebook.specs.TypeTable.{requested}
 use Rattle.rulebook.specs.Ledger.{Ledger, account_of, request_account}

@@ -3,7 +3,7 @@ use Prim.Native.Nat.{◌≤◌}
 use mathlib.Core.Path.{◌≡◌, refl, sym, subst, ◌∙◌}
 use mathlib.Core.Bool.{true, and-true}
 use native.Mathlib.Omega.{arith}
-use borrow.Author.Tests.{ne_eqb, not-false}
+use borrow.Author.Tests.{ne_eqb}
 use borrow.Author.Rules.{rules}
 use Rattle.book.specs.Meaning.{ledger_of}
 use Rattle.rulebook.specs.Ledger.{Ledger}
@@ -11,7 +11,6 @@ use Rattle.rulebook.specs.Ranges.{AccountInRange}
 use Rattle.rulebook.specs.declared.Order.{Order}
 use Rattle.rulebook.proofs.Space.{admit-space, deposit-space, instruct-space}
 use Rattle.rulebook.proofs.Within.{instruction}
-use Rattle.search.proofs.Found.{not-true}
 use Rattle.checking.proofs.Orders.{ranges, debited_named, credited_named, some-quantity, requesting_named}
 use Rattle.room_tests.specs.Room.{is_list_full}
 use Rattle.room_tests.proofs.Between.{same_room, transfers, requests}

@@ -1,7 +1,6 @@
 -- `room_tests::offers::fixed_flow` meets its contract. Assumes nothing.
-use mathlib.Core.Path.{sym, ap, ◌∙◌}
+use mathlib.Core.Path.{sym, ◌∙◌}
 use borrow.Author.Rules.{rules}
-use borrow.Author.Tests.{not-true, not-false}
 use Rattle.room_tests.proofs.offers.fixed_flow.Statement.{statement}
 use Rattle.room_tests.proofs.offers.fixed_flow.Tie as tie
 
