@@ -1,17 +1,19 @@
 // What the stages of the checking order share.
 #![tactic(auto)]
 
-ghost use Rattle.std.specs.Prelude.{if◌then◌else◌, ◌≡◌};
+ghost use Rattle.std.specs.Prelude.{◌≡◌, true, false, MatchResult};
 ghost use Rattle.plain.specs.Lists.{within};
 
-// A refusal's number where its test applies, else what the later tests give. A stage puts its last test first.
-pub fn refuse(number: u64, applies: bool, later: u64) -> u64
-    ensures { result ≡ (if applies then number else later) }
+use rulebook::Refusal;
+
+// Refuses where the refusal's test applies.
+pub fn refuse(refusal: Refusal, applies: bool) -> Result<(), Refusal>
+    ensures { MatchResult result (λ _. applies ≡ false) (λ given. (applies ≡ true) × (given ≡ refusal)) }
 {
     if applies {
-        return number;
+        return Err(refusal);
     }
-    later
+    Ok(())
 }
 
 // From `low` to `high`, both ends inside.

@@ -3,12 +3,13 @@
 
 ghost use Rattle.std.specs.Prelude.{◌≡◌, get_or, length, ◌≤◌};
 ghost use Rattle.plain.specs.Lists.{first};
+ghost use Rattle.rulebook.specs.Answers.{number_in};
 ghost use Rattle.rulebook.specs.Windows.{cycle_minutes, all_run, office_end, by_kind};
 ghost use Rattle.rulebook.specs.Forms.{forms, window_of};
 ghost use Rattle.rulebook.specs.Refusals.{wrong_day, wrong_cycle, awaits_answer, nothing_sent, goes_back, outside_window, day_tests};
 ghost use Rattle.day_tests.specs.Window.{payment_end, answer_end, cycles_of};
 
-use rulebook::{Day, Order};
+use rulebook::{Day, Order, Refusal};
 
 // RULES 7.6: no day can open, or none is open.
 fn wrong_day(day: Day, order: Order) -> bool
@@ -168,15 +169,16 @@ fn outside_window(day: Day, order: Order) -> bool
     !checking::is_within(window.first, window.last, order.minute)
 }
 
-// The first refusal of the day's stage; 0 where none applies.
-pub fn refusal(day: Day, order: Order) -> u64
+// The day's stage: whether it lets the order pass, or the first refusal that applies.
+#[tactic(auto, unfolding(rulebook::specs::Refusals::day_tests))]
+pub fn check(day: Day, order: Order) -> Result<(), Refusal>
     requires { (1 ≤ order.form) × (order.form ≤ length forms) }
-    ensures { result ≡ first (day_tests day order) }
+    ensures { number_in result ≡ first (day_tests day order) }
 {
-    let later = checking::refuse(9, outside_window(day, order), 0);
-    let later = checking::refuse(8, goes_back(day, order), later);
-    let later = checking::refuse(23, nothing_sent(day, order), later);
-    let later = checking::refuse(22, awaits_answer(day, order), later);
-    let later = checking::refuse(7, wrong_cycle(day, order), later);
-    checking::refuse(6, wrong_day(day, order), later)
+    checking::refuse(Refusal::WrongDay, wrong_day(day, order))?;
+    checking::refuse(Refusal::WrongCycle, wrong_cycle(day, order))?;
+    checking::refuse(Refusal::AwaitsAnswer, awaits_answer(day, order))?;
+    checking::refuse(Refusal::NothingSent, nothing_sent(day, order))?;
+    checking::refuse(Refusal::MinuteGoesBack, goes_back(day, order))?;
+    checking::refuse(Refusal::OutsideWindow, outside_window(day, order))
 }

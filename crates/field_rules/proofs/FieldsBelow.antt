@@ -1,84 +1,53 @@
--- The first refusal over the fields below a place, which the loop over the places carries. Assumes nothing.
-use mathlib.Core.Path.{◌≡◌, refl, sym, ap, ap₂, ◌∙◌}
-use mathlib.Core.Bool.{Bool, true, false, not, ◌&&◌, ◌||◌, and-false}
+-- What 4 and 5 say of each place settles what they say of all fields. Assumes nothing.
+use Rattle.std.specs.Prelude.{if◌then◌else◌}
+use Rattle.std.specs.List.{find, list_all, range_with_len}
+use Rattle.std.specs.Prelude.{Option, Some, None}
+use Rattle.std.specs.Option.{option_map, unwrap_or}
+use mathlib.Core.Path.{◌≡◌, refl, ap, ◌∙◌}
+use mathlib.Core.Bool.{Bool, cond, true, false, not, ◌&&◌, and-false}
 use mathlib.Core.List.{List, [], ◌∷◌, ◌++◌, map}
-use Prim.Native.Nat.{ℕ, zero, suc, ◌+◌, ◌≤◌, ◌<◌}
+use Prim.Native.Nat.{ℕ, zero, suc, ◌+◌, ◌<◌}
 use borrow.Author.Tests.{eqb-true, not-false}
 use native.Mathlib.Omega.{arith}
-use native.Mathlib.Numerals.{add-one}
-use lib.ListN.{length, get_or, drop, drop_of_length-le}
-use lib.Seq.{drop-cons}
+use lib.ListN.{length, get_or}
 use Rattle.plain.proofs.Tests.{both}
+use Rattle.plain.proofs.Lists.{some-append}
 use Rattle.plain.specs.Lists.{◌is◌, ◌is_not◌, within, some, first}
+use Rattle.rulebook.specs.Field as Field
 use Rattle.rulebook.specs.Field.{places, always, rule_in}
 use Rattle.rulebook.specs.Forms.{Form, forms, row_of, used, least, most}
+use Rattle.rulebook.specs.Record.{unused_not_zero, used_out_of_range}
 use Rattle.rulebook.proofs.ByCall.{by_test_lem}
-use Rattle.field_rules.specs.Fields.{earlier_of, last_are_zero, first_place}
-use Rattle.rulebook.proofs.Below.{any, any-more, none_passes}
+use Rattle.rulebook.proofs.Below.{any, none_passes}
+use Rattle.field_rules.specs.Fields.{field_refusal, last_are_zero, first_place}
 
--- 4 or 5, whichever applies first
-abbrev pub either : Bool → Bool → ℕ
-either unused outside = first ((4, unused) ∷ (5, outside) ∷ [])
+-- ---- what is found at some place
 
-earlier_either : (a b a' b' : Bool) → earlier_of (either a b) (either a' b') ≡ either (a || a') (b || b')
-unfolding earlier_of
-earlier_either true b true b' = refl
-earlier_either true b false true = refl
-earlier_either true b false false = refl
-earlier_either false true true b' = refl
-earlier_either false true false true = refl
-earlier_either false true false false = refl
-earlier_either false false true b' = refl
-earlier_either false false false b' = refl
+some_same : (f g : ℕ → Bool) → ((place : ℕ) → f place ≡ g place) → (l : List ℕ) → some f l ≡ some g l
+some_same f g e [] = refl
+some_same f g e (place ∷ rest) = rw (e place, some_same f g e rest)
 
-module _ (of_form : ℕ) (fields : List ℕ) where
-  -- the field at a place is unused and not zero; is used and outside its range
-  abbrev pub unused : ℕ → Bool
-  unused place = not (used of_form place) && get_or fields place 0 is_not 0
+-- a field is not both used and unused
+which : (u a b : Bool)
+    → ((first ((4, not u && a) ∷ (5, u && b) ∷ []) is 4) ≡ (not u && a)) × ((first ((4, not u && a) ∷ (5, u && b) ∷ []) is 5) ≡ (u && b))
+which true a true = (refl, refl)
+which true a false = (refl, refl)
+which false true b = (refl, refl)
+which false false b = (refl, refl)
 
-  abbrev pub outside : ℕ → Bool
-  outside place = used of_form place && not (within (least of_form place) (most of_form place) (get_or fields place 0))
+module _ (fields : List ℕ) where
+  abbrev form : ℕ
+  form = get_or fields Field.form 0
 
-  abbrev pub below : ℕ → ℕ
-  below n = either (any n unused) (any n outside)
+  pub unused_found : some (λ place. field_refusal fields place is 4) places ≡ unused_not_zero fields
+  unfolding field_refusal unused_not_zero
+  unused_found =
+      some_same _ _ (λ place. (which (used form place) (get_or fields place 0 is_not 0) (not (within (least form place) (most form place) (get_or fields place 0)))).0) places
 
-  -- one place more
-  pub below_more : (n number next : ℕ) → number ≡ below n → next ≡ either (unused n) (outside n) → earlier_of number next ≡ below (n + 1)
-  below_more n number next e f =
-      ap₂ earlier_of e f ∙ earlier_either (any n unused) (any n outside) (unused n) (outside n) ∙ rw (add-one n, any-more n unused, any-more n outside)
-
-  -- the field there, by its bit and its bounds
-  pub field_is :
-      (place : ℕ) (bit : Bool) (low high : ℕ) → bit ≡ used of_form place → low ≡ least of_form place → high ≡ most of_form place
-      → either (not bit && get_or fields place 0 is_not 0) (bit && not (within low high (get_or fields place 0))) ≡ either (unused place) (outside place)
-  field_is place bit low high b l h = simp (b, l, h)
-
--- 0 is right behind the reference in every form
-refuses_0 : Form → ℕ → Bool
-refuses_0 f place =
-    let rule = rule_in (always ++ f.fields) place in
-    some (λ r. place is r.place) (always ++ f.fields) && not (within rule.least rule.most 0)
-
-zero_right : (form k : ℕ) → k < 4 → (used form (15 + k) && not (within (least form (15 + k)) (most form (15 + k)) 0)) ≡ false
-unfolding refuses_0 forms used least most
-zero_right form k l = none_passes 4 (λ k. refuses_0 (row_of form) (15 + k)) (by_test_lem (λ n f. any 4 (λ k. refuses_0 f (15 + k))) refl (λ m. refl) form) k l
-
-module _ (form : ℕ) (fields : List ℕ) where
-  zero_more : (k : ℕ) → k < 4 → get_or fields (15 + k) 0 ≡ 0 → 0 ≡ below form fields (15 + k) → 0 ≡ below form fields (15 + k + 1)
-  unfolding earlier_of
-  zero_more k l z e = below_more form fields (15 + k) 0 0 e (simp (z, zero_right form k l, and-false))
-
-  pub last_right : last_are_zero fields ≡ true → 0 ≡ below form fields 15 → 0 ≡ below form fields 19
-  last_right t e =
-      let z = four (get_or fields 15 0) (get_or fields 16 0) (get_or fields 17 0) (get_or fields 18 0) t in
-      zero_more 3 (omega arith) z.2.1 (zero_more 2 (omega arith) z.2.0 (zero_more 1 (omega arith) z.1 (zero_more 0 (omega arith) z.0 e)))
-    where
-      four : (a b c d : ℕ) → (((a is 0 && b is 0) && c is 0) && d is 0) ≡ true → (a ≡ 0) × (b ≡ 0) × ((c ≡ 0) × (d ≡ 0))
-      four a b c d p =
-          let x = both ((a is 0 && b is 0) && c is 0) (d is 0) p in
-          let y = both (a is 0 && b is 0) (c is 0) x.0 in
-          let w = both (a is 0) (b is 0) y.0 in
-          (eqb-true a 0 w.0, eqb-true b 0 w.1, (eqb-true c 0 y.1, eqb-true d 0 x.1))
+  pub outside_found : some (λ place. field_refusal fields place is 5) places ≡ used_out_of_range fields
+  unfolding field_refusal used_out_of_range
+  outside_found =
+      some_same _ _ (λ place. (which (used form place) (get_or fields place 0 is_not 0) (not (within (least form place) (most form place) (get_or fields place 0)))).1) places
 
 -- the places are the numbers below how many there are
 misplaced : ℕ → Bool
@@ -98,25 +67,83 @@ unfolding misplaced places
 at_place f place l =
     get_d_map f places place l ∙ ap f (eqb-true (get_or places place 0) place (not-false _ (none_passes (length places) misplaced none_misplaced place l)))
 
+-- 0 is right behind the reference in every form
+refuses_0 : Form → ℕ → Bool
+refuses_0 f place =
+    let rule = rule_in (always ++ f.fields) place in
+    some (λ r. place is r.place) (always ++ f.fields) && not (within rule.least rule.most 0)
+
+zero_right : (form k : ℕ) → k < 4 → (used form (15 + k) && not (within (least form (15 + k)) (most form (15 + k)) 0)) ≡ false
+unfolding refuses_0 forms used least most
+zero_right form k l = none_passes 4 (λ k. refuses_0 (row_of form) (15 + k)) (by_test_lem (λ n f. any 4 (λ k. refuses_0 f (15 + k))) refl (λ m. refl) form) k l
+
+-- the fields before the last ones are not refused, and those are 0
+quiet :
+    (test other : ℕ → Bool) → ((place : ℕ) → test place ≡ true → other place ≡ false) → (l : List ℕ) → list_all test l ≡ true → some other l ≡ false
+quiet test other h [] e = refl
+quiet test other h (place ∷ rest) e =
+    let e : (test place ≡ true) × (list_all test rest ≡ true) = both (test place) (list_all test rest) e in
+    rw (h place e.0, quiet test other h rest e.1)
+
+neither_applies :
+    (u a b : Bool) → (first ((4, not u && a) ∷ (5, u && b) ∷ []) is 0) ≡ true → ((not u && a) ≡ false) × ((u && b) ≡ false)
+neither_applies true a true e = cc
+neither_applies true a false e = (refl, refl)
+neither_applies false true b e = cc
+neither_applies false false b e = (refl, refl)
+
+module _ (fields : List ℕ) where
+  -- the field at a place is unused and not zero; is used and outside its range
+  abbrev unused : ℕ → Bool
+  unused place = not (used (form fields) place) && get_or fields place 0 is_not 0
+
+  abbrev outside : ℕ → Bool
+  outside place = used (form fields) place && not (within (least (form fields) place) (most (form fields) place) (get_or fields place 0))
+
+  no_refusal : (place : ℕ) → (field_refusal fields place is 0) ≡ true → (unused place ≡ false) × (outside place ≡ false)
+  unfolding field_refusal
+  no_refusal place = neither_applies (used (form fields) place) _ _
+
+  four : last_are_zero fields ≡ true → (some unused (15 ∷ 16 ∷ 17 ∷ 18 ∷ []) ≡ false) × (some outside (15 ∷ 16 ∷ 17 ∷ 18 ∷ []) ≡ false)
+  four p =
+      let x = both ((get_or fields 15 0 is 0 && get_or fields 16 0 is 0) && get_or fields 17 0 is 0) (get_or fields 18 0 is 0) p in
+      let y = both (get_or fields 15 0 is 0 && get_or fields 16 0 is 0) (get_or fields 17 0 is 0) x.0 in
+      let w = both (get_or fields 15 0 is 0) (get_or fields 16 0 is 0) y.0 in
+      let z = zero_right (form fields) in (
+        simp (w.0, w.1, y.1, x.1, and-false),
+        simp (eqb-true _ 0 w.0, eqb-true _ 0 w.1, eqb-true _ 0 y.1, eqb-true _ 0 x.1, z 0 (omega arith), z 1 (omega arith), z 2 (omega arith), z 3 (omega arith)),
+      )
+
+  pub none_refused :
+      list_all (λ place. field_refusal fields place is 0) (range_with_len 0 15) ≡ true → last_are_zero fields ≡ true
+      → (unused_not_zero fields ≡ false) × (used_out_of_range fields ≡ false)
+  unfolding unused_not_zero used_out_of_range places
+  none_refused all zeros =
+      let last = four zeros in
+      let first = range_with_len 0 15 in
+      let a = quiet _ unused (λ place e. (no_refusal place e).0) first all in
+      let b = quiet _ outside (λ place e. (no_refusal place e).1) first all in (
+        some-append unused first (15 ∷ 16 ∷ 17 ∷ 18 ∷ []) ∙ rw (a, last.0),
+        some-append outside first (15 ∷ 16 ∷ 17 ∷ 18 ∷ []) ∙ rw (b, last.1),
+      )
+
 -- ---- the first place that passes a test
 
-here : (place : ℕ) → place < length places → drop place places ≡ place ∷ drop (place + 1) places
-unfolding misplaced
-here place l =
-    let e : get_or places place 0 ≡ place =
-    eqb-true (get_or places place 0) place (not-false _ (none_passes (length places) misplaced none_misplaced place l))
-    in
-    drop-cons places place 0 l ∙ rw (e, add-one place)
+first_of : (test : ℕ → Bool) (l : List ℕ) → unwrap_or (find test l) 19 ≡ first_place test l
+unfolding first_place places
+first_of test [] = refl
+first_of test (place ∷ rest) = go (test place) (first_of test rest)
+  where
+    go :
+        (t : Bool) → unwrap_or (find test rest) 19 ≡ first_place test rest
+        → unwrap_or (cond t (Some place) (find test rest)) 19 ≡ (if t then place else first_place test rest)
+    go true later = refl
+    go false later = later
 
-module _ (test : ℕ → Bool) (place r : ℕ) (e : first_place test (drop place places) ≡ r) where
-  pub place_found : place < length places → test place ≡ true → place ≡ r
-  unfolding first_place
-  place_found l t = sym (ap (first_place test) (here place l) ∙ simp t) ∙ e
-
-  pub place-on : place < length places → test place ≡ false → first_place test (drop (place + 1) places) ≡ r
-  unfolding first_place
-  place-on l t = sym (ap (first_place test) (here place l) ∙ simp t) ∙ e
-
-  pub place_none : length places ≤ place → length places ≡ r
-  unfolding first_place
-  place_none l = sym (ap (first_place test) (drop_of_length-le places l)) ∙ e
+pub first_found : (test : ℕ → Bool) (found : Option ℕ) → option_map (λ place. place) found ≡ find test (range_with_len 0 19) → unwrap_or found 19 ≡ first_place test places
+unfolding places
+first_found test found e = same found ∙ ap (λ (r : Option ℕ). unwrap_or r 19) e ∙ first_of test (range_with_len 0 19)
+  where
+    same : (r : Option ℕ) → unwrap_or r 19 ≡ unwrap_or (option_map (λ place. place) r) 19
+    same None = refl
+    same (Some place) = refl

@@ -1,7 +1,7 @@
 -- The refusals of a record's fields, which reader and writer share, and a form's rules as sets of fields.
-use Rattle.std.specs.Prelude.{if◌then◌else◌, ℕ, ◌/◌, ◌^◌, ◌<◌, Bool, true, false, not, ◌&&◌, List, [], ◌∷◌, ◌≡◌, length, get_or}
+use Rattle.std.specs.Prelude.{if◌then◌else◌, ℕ, ◌/◌, ◌^◌, ◌<◌, Bool, true, false, not, ◌&&◌, List, [], ◌∷◌, ◌≡◌, length, get_or, map}
 use Rattle.std.specs.Int.Bits.{bit_and}
-use Rattle.plain.specs.Lists.{◌is◌, ◌is_not◌, ◌below◌, within, first}
+use Rattle.plain.specs.Lists.{◌is◌, ◌is_not◌, within, first}
 use Rattle.rulebook.specs.Field as Field
 use Rattle.rulebook.specs.Field.{places}
 use Rattle.rulebook.specs.Forms as Forms
@@ -20,6 +20,11 @@ pub record Ruled (form : ℕ) (rule : Rule) : Type 0 where
   pub used : (place : ℕ) → place < length places → has rule.used place ≡ Forms.used form place
   pub optional : (place : ℕ) → place < length places → least_in rule.optional place ≡ Forms.least form place
 
+-- a record's fields with the sets and the mosts of their form
+pub record RuledBy (rule : Rule) (mosts fields : List ℕ) : Type 0 where
+  pub sets : Ruled (get_or fields Field.form 0) rule
+  pub most : mosts ≡ map (Forms.most (get_or fields Field.form 0)) places
+
 -- and no field is used where there is no row
 pub record RuleOf (form : ℕ) (rule : Rule) : Type 0 where
   pub none : rule.used ≡ 0 → within 1 (length Forms.forms) form ≡ false
@@ -29,10 +34,6 @@ pub record RuleOf (form : ℕ) (rule : Rule) : Type 0 where
 abbrev pub last_are_zero : List ℕ → Bool
 last_are_zero fields =
     ((get_or fields Field.operation 0 is 0 && get_or fields Field.original 0 is 0) && get_or fields Field.edition 0 is 0) && get_or fields Field.spare 0 is 0
-
--- the first of two in checking order, each of which may be 0 for none
-unfoldable pub earlier_of : ℕ → ℕ → ℕ
-earlier_of one other = if one is 0 then other else if other is 0 then one else if one below other then one else other
 
 -- the first of 3, 4, 5 that applies, or 0
 unfoldable pub fields_refusal : List ℕ → ℕ

@@ -1,15 +1,17 @@
 // Refusals 3, 4 and 5, which reader and writer share.
 #![tactic(auto)]
 
-ghost use Rattle.std.specs.Prelude.{◌≡◌, true, not, ◌&&◌, ◌||◌, [], ◌∷◌, map, ◌<◌, get_or};
+ghost use Rattle.std.specs.Prelude.{◌≡◌, true, false, not, ◌&&◌, ◌||◌, [], ◌∷◌, map, ◌<◌, get_or, MatchOption};
 ghost use Rattle.std.specs.Int.Bits.{bit_or};
-ghost use Rattle.plain.specs.Lists.{◌is◌, ◌is_not◌, within, first};
+ghost use Rattle.plain.specs.Lists.{◌is◌, ◌is_not◌, within, some, first};
+ghost use Rattle.rulebook.specs.Answers.{number_of, number_in, number_found};
 ghost use Rattle.rulebook.specs.Field.{places};
 ghost use Rattle.rulebook.specs.Forms.{most};
-ghost use Rattle.rulebook.specs.Record.{unused_not_zero, used_out_of_range};
-ghost use Rattle.field_rules.specs.Fields.{has, least_in, Ruled, RuleOf, last_are_zero, earlier_of, fields_refusal, field_refusal, first_place, refused_place};
+ghost use Rattle.rulebook.specs.Record.{no_form};
+ghost use Rattle.field_rules.specs.Fields.{has, least_in, RuledBy, RuleOf, fields_refusal, refused_place};
 
 use layout::places;
+use rulebook::Refusal;
 
 // Sets of fields, a bit for each at its place.
 const MINUTE: u64 = 1 << places::MINUTE;
@@ -147,139 +149,136 @@ fn most_of(form: u64) -> [u64; 19]
     most
 }
 
-// The refusal of one field, or 0.
-fn field_refusal(is_used: bool, least: u64, most: u64, value: u64) -> u64
-    ensures { result ≡ first ((4, not is_used && value is_not 0) ∷ (5, is_used && not (within least most value)) ∷ []) }
+// What is wrong with one field.
+fn field_refusal(is_used: bool, least: u64, most: u64, value: u64) -> Option<Refusal>
+    ensures { number_found result ≡ first ((4, not is_used && value is_not 0) ∷ (5, is_used && not (within least most value)) ∷ []) }
 {
     if is_used {
-        if value < least {
-            return 5;
+        if value < least || most < value {
+            return Some(Refusal::FieldRange);
         }
-        if most < value {
-            return 5;
+        return None;
+    }
+    if value == 0 {
+        None
+    } else {
+        Some(Refusal::UnusedField)
+    }
+}
+
+// A record's fields, with what their form says of each of them.
+#[derive(Drop)]
+struct RuledFields<'a> {
+    rule: Rule,
+    most: [u64; 19],
+    fields: &'a [u64; 19],
+    ghost by_form: { RuledBy rule most fields.now },
+}
+
+impl RuledFields<'_> {
+    ghost use Rattle.field_rules.specs.Fields.{field_refusal, last_are_zero, first_place};
+    ghost use Rattle.rulebook.specs.Record.{unused_not_zero, used_out_of_range};
+
+    // What is wrong with the field at a place.
+    fn refusal_at(&self, place: usize) -> Option<Refusal>
+        requires { place < 19 }
+        ensures { number_found result ≡ field_refusal self.now.fields.now place }
+    {
+        field_refusal(
+            is_in(self.rule.used, place),
+            least_of(self.rule.optional, place),
+            self.most[place],
+            self.fields[place],
+        )
+    }
+
+    // Whether the field at a place has this refusal, or none.
+    fn has_at(&self, place: usize, refusal: Option<Refusal>) -> bool
+        requires { place < 19 }
+        ensures { result ≡ (field_refusal self.now.fields.now place is number_found refusal) }
+    {
+        self.refusal_at(place) == refusal
+    }
+
+    // Whether a refusal applies to one of the fields.
+    fn has(&self, refusal: Refusal) -> bool
+        ensures { result ≡ some (λ place. field_refusal self.now.fields.now place is number_of refusal) places }
+    {
+        (0..19).any(|place| self.has_at(place, Some(refusal)))
+    }
+
+    // Whether neither 4 nor 5 applies, or which does first.
+    fn check(&self) -> Result<(), Refusal>
+        ensures { number_in result ≡ first ((4, unused_not_zero self.now.fields.now) ∷ (5, used_out_of_range self.now.fields.now) ∷ []) }
+    {
+        if self.has(Refusal::UnusedField) {
+            return Err(Refusal::UnusedField);
         }
-        return 0;
-    }
-    if value == 0 { 0 } else { 4 }
-}
-
-// The first of two refusals in checking order, each of which may be 0 for none.
-fn earlier(one: u64, other: u64) -> u64
-    ensures { result ≡ earlier_of one other }
-{
-    if one == 0 {
-        return other;
-    }
-    if other == 0 {
-        return one;
-    }
-    if one < other { one } else { other }
-}
-
-// The first of 4 and 5 that applies to the fields of a form, or 0.
-fn fields_refusal(form: u64, rule: Rule, fields: &[u64; 19]) -> u64
-    requires { Ruled form rule × (get_or fields.now 0 0 ≡ form) }
-    ensures { result ≡ first ((4, unused_not_zero fields.now) ∷ (5, used_out_of_range fields.now) ∷ []) }
-{
-    let used = rule.used;
-    let optional = rule.optional;
-    let most = most_of(form);
-    let mut number = 0;
-    for place in 0..19 {
-        number = earlier(
-            number,
-            field_refusal(
-                is_in(used, place),
-                least_of(optional, place),
-                most[place],
-                fields[place],
-            ),
-        );
-    }
-    number
-}
-
-// Whether the fields behind the reference are 0, as they are in most records.
-fn last_are_zero(fields: &[u64; 19]) -> bool
-    ensures { result ≡ last_are_zero fields.now }
-{
-    (fields[places::OPERATION] == 0)
-        & (fields[places::ORIGINAL] == 0)
-        & (fields[places::EDITION] == 0)
-        & (fields[places::SPARE] == 0)
-}
-
-// Whether neither 4 nor 5 applies to the fields of a form: the short way for a record that is read. In every form 0 is right behind
-// the reference.
-fn are_right(form: u64, rule: Rule, fields: &[u64; 19]) -> bool
-    requires { Ruled form rule × (get_or fields.now 0 0 ≡ form) }
-    ensures { result ≡ true → 0 ≡ first ((4, unused_not_zero fields.now) ∷ (5, used_out_of_range fields.now) ∷ []) }
-{
-    if !last_are_zero(fields) {
-        return false;
-    }
-    let used = rule.used;
-    let optional = rule.optional;
-    let most = most_of(form);
-    for place in 0..15 {
-        let number = field_refusal(
-            is_in(used, place),
-            least_of(optional, place),
-            most[place],
-            fields[place],
-        );
-        if number != 0 {
-            return false;
+        if self.has(Refusal::FieldRange) {
+            return Err(Refusal::FieldRange);
         }
+        Ok(())
     }
-    true
+
+    // Whether the fields behind the reference are 0, as they are in most records.
+    fn last_are_zero(&self) -> bool
+        ensures { result ≡ last_are_zero self.now.fields.now }
+    {
+        (self.fields[places::OPERATION] == 0)
+            & (self.fields[places::ORIGINAL] == 0)
+            & (self.fields[places::EDITION] == 0)
+            & (self.fields[places::SPARE] == 0)
+    }
+
+    // Whether neither 4 nor 5 applies: the short way for a record that is read. In every form 0 is right behind the reference.
+    fn are_right(&self) -> bool
+        ensures { result ≡ true → 0 ≡ first ((4, unused_not_zero self.now.fields.now) ∷ (5, used_out_of_range self.now.fields.now) ∷ []) }
+    {
+        self.last_are_zero() && (0..15).all(|place| self.has_at(place, None))
+    }
+
+    // The first place whose field has this refusal or none, as is asked; 19 where no field is so.
+    fn place_with(&self, refusal: Option<Refusal>) -> usize
+        ensures { result ≡ first_place (λ place. field_refusal self.now.fields.now place is number_found refusal) places }
+    {
+        (0..19)
+            .find(|&place| self.has_at(place, refusal))
+            .unwrap_or(19)
+    }
 }
 
-// The first of 3, 4, 5 that applies, or 0.
-pub fn refusal(fields: &[u64; 19]) -> u64
-    ensures { result ≡ fields_refusal fields.now }
+// The fields by the rules of their form, where there is such a form.
+fn ruled(fields: &[u64; 19]) -> Option<RuledFields<'_>>
+    ensures { MatchOption result (no_form fields.now ≡ true) (λ ruled. (no_form fields.now ≡ false) × (ruled.fields.now ≡ fields.now)) }
 {
     let form = fields[places::FORM];
     let rule = rule_of(form);
     if rule.used == 0 {
-        return 3;
+        return None;
     }
-    if are_right(form, rule, fields) {
-        return 0;
-    }
-    fields_refusal(form, rule, fields)
+    let most = most_of(form);
+    Some(RuledFields { rule, most, fields })
 }
 
-// The first place whose field has this refusal, or 19.
-fn place_with(form: u64, rule: Rule, number: u64, fields: &[u64; 19]) -> usize
-    requires { Ruled form rule × (get_or fields.now 0 0 ≡ form) }
-    ensures { result ≡ first_place (λ place. field_refusal fields.now place is number) places }
+// Whether none of 3, 4, 5 applies, or which does first.
+pub fn check(fields: &[u64; 19]) -> Result<(), Refusal>
+    ensures { number_in result ≡ fields_refusal fields.now }
 {
-    let used = rule.used;
-    let optional = rule.optional;
-    let most = most_of(form);
-    for place in 0..19 {
-        let found = field_refusal(
-            is_in(used, place),
-            least_of(optional, place),
-            most[place],
-            fields[place],
-        );
-        if found == number {
-            return place;
-        }
+    let Some(ruled) = ruled(fields) else {
+        return Err(Refusal::NoForm);
+    };
+    if ruled.are_right() {
+        return Ok(());
     }
-    19
+    ruled.check()
 }
 
 // The first field to which the refusal of some fields applies.
 pub fn refused_place(fields: &[u64; 19]) -> usize
     ensures { result ≡ refused_place fields.now }
 {
-    let form = fields[places::FORM];
-    let rule = rule_of(form);
-    if rule.used == 0 {
-        return places::FORM;
+    match ruled(fields) {
+        None => places::FORM,
+        Some(ruled) => ruled.place_with(ruled.check().err()),
     }
-    place_with(form, rule, fields_refusal(form, rule, fields), fields)
 }

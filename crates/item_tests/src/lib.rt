@@ -3,11 +3,12 @@
 
 ghost use Rattle.std.specs.Prelude.{◌≡◌};
 ghost use Rattle.plain.specs.Lists.{first};
+ghost use Rattle.rulebook.specs.Answers.{number_in};
 ghost use Rattle.rulebook.specs.Refusals.{wrong_reference, wrong_cancel, cancels_sent, item_tests};
 ghost use Rattle.book.specs.Meaning.{ledger_of};
 ghost use Rattle.book.specs.Stored.{Stored, Kept};
 
-use rulebook::Order;
+use rulebook::{Order, Refusal};
 
 // RULES 7.14: a reference that already waits, or one to cancel that does not.
 fn wrong_reference(book: &[u64], order: Order) -> bool
@@ -55,12 +56,13 @@ fn cancels_sent(book: &[u64], order: Order) -> bool
     item.sent
 }
 
-// The first refusal of the items' stage; 0 where none applies.
-pub fn refusal(book: &[u64], order: Order) -> u64
+// The items' stage: whether it lets the order pass, or the first refusal that applies.
+#[tactic(auto, unfolding(rulebook::specs::Refusals::item_tests))]
+pub fn check(book: &[u64], order: Order) -> Result<(), Refusal>
     requires { Kept book.now }
-    ensures { result ≡ first (item_tests (ledger_of book.now).waiting order) }
+    ensures { number_in result ≡ first (item_tests (ledger_of book.now).waiting order) }
 {
-    let later = checking::refuse(24, cancels_sent(book, order), 0);
-    let later = checking::refuse(15, wrong_cancel(book, order), later);
-    checking::refuse(14, wrong_reference(book, order), later)
+    checking::refuse(Refusal::WrongReference, wrong_reference(book, order))?;
+    checking::refuse(Refusal::WrongCancel, wrong_cancel(book, order))?;
+    checking::refuse(Refusal::CancelsSent, cancels_sent(book, order))
 }

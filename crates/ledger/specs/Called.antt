@@ -1,7 +1,8 @@
 -- What one call does: answer with its number, ledger and area are the rulebook's.
-use Rattle.std.specs.Prelude.{ℕ, List, ◌≡◌}
+use Rattle.std.specs.Prelude.{ℕ, List, ◌≡◌, Err}
 use Rattle.rulebook.specs.Call.{call_of, answer_number}
-use Rattle.rulebook.specs.declared.Answer.{Answer}
+use Rattle.rulebook.specs.Answers.{Answer}
+use Rattle.rulebook.specs.declared.Refusal.{Refusal}
 use Rattle.book.specs.Meaning.{ledger_of}
 use Rattle.book.specs.Stored.{Kept}
 
@@ -14,4 +15,4 @@ pub record Called (book octets area : List ℕ) (answer : Answer) (book' area' :
   -- what calls keep true of a book
   pub kept : Kept book'
   -- a refusal changes no word of the book and no byte of the area
-  pub refused : (number : ℕ) → answer ≡ Answer.Refused number → (book' ≡ book) × (area' ≡ area)
+  pub refused : (refusal : Refusal) → answer ≡ Err refusal → (book' ≡ book) × (area' ≡ area)

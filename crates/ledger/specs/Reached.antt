@@ -5,7 +5,7 @@ use Rattle.rulebook.specs.Ledger.{first_rate, asked_of}
 use Rattle.rulebook.specs.Calls.{call, Made, accepted_calls, last_rate, Balanced}
 use Rattle.rulebook.specs.Custody.{HeldCounts}
 use Rattle.rulebook.specs.declared.Account.{Account}
-use Rattle.rulebook.specs.declared.Answer.{Answer}
+use Rattle.rulebook.specs.Answers.{Answer}
 use Rattle.book.specs.Meaning.{ledger_of}
 use Rattle.book.specs.Fresh.{Freshened}
 use Rattle.ledger.specs.Called.{Called}

@@ -3,12 +3,13 @@
 
 ghost use Rattle.std.specs.Prelude.{◌≡◌, ◌<◌, ◌^◌};
 ghost use Rattle.plain.specs.Lists.{first};
+ghost use Rattle.rulebook.specs.Answers.{number_in};
 ghost use Rattle.rulebook.specs.Refusals.{wrong_security, wrong_pair, wrong_parties, wrong_days, order_tests};
 ghost use Rattle.book.specs.Meaning.{ledger_of};
 ghost use Rattle.book.specs.Stored.{Stored};
 ghost use Rattle.checking.specs.Given.{WasRead};
 
-use rulebook::Order;
+use rulebook::{Order, Refusal};
 
 // RULES 7.10: an unknown security, or one that is admitted again.
 fn wrong_security(book: &[u64], order: Order) -> bool
@@ -74,13 +75,14 @@ fn wrong_days(today: u64, order: Order) -> bool
         | ((form == 14) & (traded != today))
 }
 
-// The first refusal of the order's stage; 0 where none applies.
-pub fn refusal(book: &[u64], today: u64, order: Order) -> u64
+// The order's stage: whether it lets the order pass, or the first refusal that applies.
+#[tactic(auto, unfolding(rulebook::specs::Refusals::order_tests))]
+pub fn check(book: &[u64], today: u64, order: Order) -> Result<(), Refusal>
     requires { Stored book.now × WasRead order × (today < 2 ^ 63) }
-    ensures { result ≡ first (order_tests (ledger_of book.now).holdings today order) }
+    ensures { number_in result ≡ first (order_tests (ledger_of book.now).holdings today order) }
 {
-    let later = checking::refuse(13, wrong_days(today, order), 0);
-    let later = checking::refuse(12, wrong_parties(order), later);
-    let later = checking::refuse(11, wrong_pair(order), later);
-    checking::refuse(10, wrong_security(book, order), later)
+    checking::refuse(Refusal::WrongSecurity, wrong_security(book, order))?;
+    checking::refuse(Refusal::WrongTypes, wrong_pair(order))?;
+    checking::refuse(Refusal::WrongParties, wrong_parties(order))?;
+    checking::refuse(Refusal::WrongDays, wrong_days(today, order))
 }

@@ -1,9 +1,10 @@
 -- What reader and writer answer, by the refusal of the fields. Assumes nothing.
-use mathlib.Core.Path.{◌≡◌, refl, sym, ap}
+use Rattle.std.specs.Prelude.{Ok, Err}
+use mathlib.Core.Path.{◌≡◌, refl, sym, ap, ◌∙◌}
 use mathlib.Core.Bool.{Bool, true, false}
 use mathlib.Core.List.{List, [], ◌∷◌, ◌++◌}
 use Prim.Native.Nat.{ℕ, ◌≤◌}
-use borrow.Author.Tests.{eq-eqb, ne_eqb, le-ltb}
+use borrow.Author.Tests.{eq-eqb, le-ltb}
 use lib.ListN.{length, drop}
 use Rattle.bits.specs.Layout.{Fit}
 use Rattle.plain.specs.Lists.{first}
@@ -11,8 +12,9 @@ use Rattle.rulebook.specs.Field.{widths}
 use Rattle.rulebook.specs.Record.{fields_in, fields_of, order_of, record_of, no_form, unused_not_zero, used_out_of_range}
 use Rattle.rulebook.specs.Record.{read_refusal, read_of, read_number, write_refusal, written_of, written_number, area_written}
 use Rattle.rulebook.specs.declared.Order.{Order}
-use Rattle.rulebook.specs.declared.Read.{Read}
-use Rattle.rulebook.specs.declared.Written.{Written}
+use Rattle.rulebook.specs.declared.Refusal.{Refusal}
+use Rattle.rulebook.specs.Answers.{Read, Written, number_of}
+use Rattle.rulebook.proofs.Answers.{refusal-back, refused_by}
 use Rattle.rulebook.proofs.RoundTrips.{fields_fit}
 use Rattle.field_rules.specs.Fields.{fields_refusal}
 use Rattle.record.specs.Answers.{ReadAs, WrittenAs}
@@ -26,38 +28,40 @@ pub as_written :
     → WrittenAs order area answer area'
 as_written e = record { answered = e.0; number = ap written_number e.0; written = e.1 }
 
-module _ (octets : List ℕ) (number : ℕ) (l : length octets ≡ 40) (e : number ≡ fields_refusal (fields_in octets)) where
-  read_number_lem : read_refusal octets ≡ number
+module _ (octets : List ℕ) (l : length octets ≡ 40) where
+  read_number_lem : read_refusal octets ≡ fields_refusal (fields_in octets)
   unfolding read_refusal fields_refusal
-  read_number_lem = simp (eq-eqb _ _ l) (sym e)
+  read_number_lem = simp (eq-eqb _ _ l)
 
-  pub read-refused : (number ≡ 0 → ⊥) → Read.Refused number ≡ read_of octets
+  pub read-refused : (refusal : Refusal) → number_of refusal ≡ fields_refusal (fields_in octets) → ReadAs octets (Err refusal)
   unfolding read_of
-  read-refused n = simp (read_number_lem, ne_eqb _ _ n)
+  read-refused refusal e = as_read (sym (refused_by _ _ refusal (e ∙ sym read_number_lem)))
 
-  pub read_order : number ≡ 0 → Read.Order (order_of (fields_in octets)) ≡ read_of octets
+  pub read_order : 0 ≡ fields_refusal (fields_in octets) → ReadAs octets (Ok (order_of (fields_in octets)))
   unfolding read_of
-  read_order z = simp (read_number_lem, eq-eqb _ _ z)
+  read_order e = as_read (rw (read_number_lem, ← e))
 
-module _ (order : Order) (area : List ℕ) (number : ℕ) (l : 40 ≤ length area) (e : number ≡ fields_refusal (fields_of order)) where
-  write_number : write_refusal order area ≡ number
+module _ (order : Order) (area : List ℕ) (l : 40 ≤ length area) where
+  write_number : write_refusal order area ≡ fields_refusal (fields_of order)
   unfolding write_refusal fields_refusal
-  write_number = simp (le-ltb _ _ l) (sym e)
+  write_number = simp (le-ltb _ _ l)
 
-  pub write_refused : (number ≡ 0 → ⊥) → (Written.Refused number ≡ written_of order area) × (area ≡ area_written order area)
+  pub write_refused : (refusal : Refusal) → number_of refusal ≡ fields_refusal (fields_of order) → WrittenAs order area (Err refusal) area
   unfolding written_of area_written
-  write_refused n = simp (write_number, ne_eqb _ _ n) (refl, refl)
+  write_refused refusal e =
+      let number : write_refusal order area ≡ number_of refusal = write_number ∙ sym e in
+      as_written (sym (refused_by _ _ refusal (sym number)), rw (number, (refusal-back refusal).1))
 
-  pub write_record : number ≡ 0 → (Written.Record ≡ written_of order area) × (record_of order ++ drop 40 area ≡ area_written order area)
+  pub write_record : 0 ≡ fields_refusal (fields_of order) → (area' : List ℕ) → area' ≡ record_of order ++ drop 40 area → WrittenAs order area (Ok tt) area'
   unfolding written_of area_written
-  write_record z = simp (write_number, eq-eqb _ _ z) (refl, refl)
+  write_record e area' is = as_written (rw (write_number, ← e), rw (write_number, ← e) is)
 
 -- fields that are not refused fit their widths
-pub write_fits : (order : Order) → fields_refusal (fields_of order) ≡ 0 → Fit widths (fields_of order)
+pub write_fits : (order : Order) → 0 ≡ fields_refusal (fields_of order) → Fit widths (fields_of order)
 unfolding fields_refusal
 write_fits order e =
     let fields : List ℕ = fields_of order in
-    let none : (unused_not_zero fields ≡ false) × (used_out_of_range fields ≡ false) = neither (no_form fields) (unused_not_zero fields) (used_out_of_range fields) e in
+    let none : (unused_not_zero fields ≡ false) × (used_out_of_range fields ≡ false) = neither (no_form fields) (unused_not_zero fields) (used_out_of_range fields) (sym e) in
     fields_fit order none.0 none.1
   where
     neither : (a b c : Bool) → first ((3, a) ∷ (4, b) ∷ (5, c) ∷ []) ≡ 0 → (b ≡ false) × (c ≡ false)

@@ -2,8 +2,7 @@
 use Rattle.std.specs.Prelude.{ℕ, List, ◌≡◌}
 use Rattle.rulebook.specs.Record.{read_of, read_number, written_of, written_number, area_written}
 use Rattle.rulebook.specs.declared.Order.{Order}
-use Rattle.rulebook.specs.declared.Read.{Read}
-use Rattle.rulebook.specs.declared.Written.{Written}
+use Rattle.rulebook.specs.Answers.{Read, Written}
 
 pub record ReadAs (octets : List ℕ) (answer : Read) : Type 0 where
   pub answered : answer ≡ read_of octets

@@ -3,35 +3,29 @@
 
 ghost use Rattle.record.specs.Answers.{ReadAs, WrittenAs};
 
-use rulebook::{Order, Read, Written};
+use rulebook::{Order, Refusal};
 
 // The order that a record of any bytes holds, or the first refusal that applies.
-pub fn read(record: &[u8]) -> Read
+pub fn read(record: &[u8]) -> Result<Order, Refusal>
     ensures { ReadAs «record».now result }
 {
     if record.len() != 40 {
-        return Read::Refused(2);
+        return Err(Refusal::RecordLength);
     }
     let fields = layout::fields_in(record);
-    let number = field_rules::refusal(&fields);
-    if number != 0 {
-        return Read::Refused(number);
-    }
-    Read::Order(layout::order_of(&fields))
+    field_rules::check(&fields)?;
+    Ok(layout::order_of(&fields))
 }
 
 // Writes the order's 40 bytes at the area's start and keeps the bytes after them. A refusal leaves the area as it was.
-pub fn write(order: Order, area: &mut [u8]) -> Written
+pub fn write(order: Order, area: &mut [u8]) -> Result<(), Refusal>
     ensures { WrittenAs order area.old result area.new }
 {
     if area.len() < 40 {
-        return Written::Refused(1);
+        return Err(Refusal::ShortArea);
     }
     let fields = layout::fields_of(order);
-    let number = field_rules::refusal(&fields);
-    if number == 0 {
-        bits::pack_bits(area, &layout::WIDTHS, &fields);
-        return Written::Record;
-    }
-    Written::Refused(number)
+    field_rules::check(&fields)?;
+    bits::pack_bits(area, &layout::WIDTHS, &fields);
+    Ok(())
 }

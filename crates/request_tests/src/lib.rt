@@ -3,6 +3,7 @@
 
 ghost use Rattle.std.specs.Prelude.{◌≡◌};
 ghost use Rattle.plain.specs.Lists.{first};
+ghost use Rattle.rulebook.specs.Answers.{number_in};
 ghost use Rattle.rulebook.specs.Ledger.{Requests};
 ghost use Rattle.rulebook.specs.Forms.{request_of};
 ghost use Rattle.rulebook.specs.Refusals.{wrong_request, ends_too_soon, too_many_requests, request_tests};
@@ -10,7 +11,7 @@ ghost use Rattle.book.specs.Meaning.{ledger_of};
 ghost use Rattle.book.specs.Stored.{Stored};
 ghost use Rattle.checking.specs.Given.{WasRead};
 
-use rulebook::{Order, Request};
+use rulebook::{Order, Refusal, Request};
 
 // RULES 7.19: a reference that the member has open, or one to end that it has not, or that the credited type does not end.
 fn wrong_request(order: Order, request: Request) -> bool
@@ -36,19 +37,17 @@ fn too_many_requests(book: &[u64], order: Order) -> bool
     (order.form == 19) & (15 < book_requests::requests(book))
 }
 
-// The first refusal of the requests' stage; 0 where none applies.
-pub fn refusal(book: &[u64], today: u64, order: Order) -> u64
+// The requests' stage: whether it lets the order pass, or the first refusal that applies.
+#[tactic(auto, unfolding(rulebook::specs::Refusals::request_tests))]
+pub fn check(book: &[u64], today: u64, order: Order) -> Result<(), Refusal>
     requires { Stored book.now × WasRead order }
-    ensures { result ≡ first (request_tests (ledger_of book.now).requests today order) }
+    ensures { number_in result ≡ first (request_tests (ledger_of book.now).requests today order) }
 {
     if (order.form != 19) & (order.form != 20) {
-        return 0;
+        return Ok(());
     }
     let request = book_requests::request(book, order.debited.member, order.reference);
-    let wrong = wrong_request(order, request);
-    let too_soon = ends_too_soon(today, order, request);
-    let too_many = too_many_requests(book, order);
-    let later = checking::refuse(21, too_many, 0);
-    let later = checking::refuse(20, too_soon, later);
-    checking::refuse(19, wrong, later)
+    checking::refuse(Refusal::WrongRequest, wrong_request(order, request))?;
+    checking::refuse(Refusal::EndsTooSoon, ends_too_soon(today, order, request))?;
+    checking::refuse(Refusal::TooManyRequests, too_many_requests(book, order))
 }

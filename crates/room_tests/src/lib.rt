@@ -5,6 +5,7 @@ mod offers;
 
 ghost use Rattle.std.specs.Prelude.{◌≡◌};
 ghost use Rattle.plain.specs.Lists.{first};
+ghost use Rattle.rulebook.specs.Answers.{number_in};
 ghost use Rattle.rulebook.specs.Ranges.{AccountInRange};
 ghost use Rattle.rulebook.specs.Refusals.{too_little, over_ceiling, no_space, room_tests};
 ghost use Rattle.book.specs.Meaning.{ledger_of};
@@ -12,7 +13,7 @@ ghost use Rattle.book.specs.Stored.{Kept};
 ghost use Rattle.checking.specs.Given.{WasRead};
 ghost use Rattle.room_tests.specs.Room.{is_full, is_list_full, is_matched, no_room_between, OrderPassed, RequestPassed, SidesPassed};
 
-use rulebook::{Account, Order, Shares};
+use rulebook::{Account, Order, Refusal, Shares};
 
 // RULES 7.16: too little where the movement takes from; an account keeps what fixed trades take from it.
 fn too_little(book: &[u64], order: Order) -> bool
@@ -135,14 +136,13 @@ fn no_space(book: &[u64], order: Order) -> bool
     form == 14
 }
 
-// The first refusal of the room's stage, for an order that the order's and the requests' stages let pass; 0 where none applies.
-pub fn refusal(book: &[u64], order: Order) -> u64
+// The room's stage, for an order that the order's and the requests' stages let pass: whether it lets it pass too, or the first refusal that applies.
+#[tactic(auto, unfolding(rulebook::specs::Refusals::room_tests))]
+pub fn check(book: &[u64], order: Order) -> Result<(), Refusal>
     requires { Kept book.now × WasRead order × OrderPassed (ledger_of book.now) order × RequestPassed (ledger_of book.now) order }
-    ensures { result ≡ first (room_tests (ledger_of book.now) order) }
+    ensures { number_in result ≡ first (room_tests (ledger_of book.now) order) }
 {
-    if too_little(book, order) {
-        return 16;
-    }
-    let later = checking::refuse(18, no_space(book, order), 0);
-    checking::refuse(17, over_ceiling(book, order), later)
+    checking::refuse(Refusal::TooLittle, too_little(book, order))?;
+    checking::refuse(Refusal::OverCeiling, over_ceiling(book, order))?;
+    checking::refuse(Refusal::NoSpace, no_space(book, order))
 }

@@ -1,5 +1,5 @@
 -- From the effect of each form to lists of calls: what a claim of demand 3 has to show is its step, one form at a time. Assumes nothing.
-use Rattle.std.specs.Prelude.{if◌then◌else◌}
+use Rattle.std.specs.Prelude.{if◌then◌else◌, Ok, Err}
 use mathlib.Core.Path.{◌≡◌, refl, ap, subst}
 use mathlib.Core.Bool.{Bool, true, false, ◌||◌}
 use mathlib.Core.List.{List, [], ◌∷◌}
@@ -12,7 +12,7 @@ use lib.ListN.{length, get_or}
 use Rattle.plain.proofs.Tests.{neither}
 use Rattle.rulebook.specs.declared.Order.{Order}
 use Rattle.rulebook.specs.declared.Day.{Day}
-use Rattle.rulebook.specs.declared.Read.{Read}
+use Rattle.rulebook.specs.Answers.{Read}
 use Rattle.plain.specs.Lists.{◌is◌, ◌below◌, total, first}
 use Rattle.plain.proofs.Lists.{total-append}
 use Rattle.rulebook.specs.Ledger.{Ledger}
@@ -99,24 +99,24 @@ module _
     (Does : Ledger → List Accepted → Ledger → Type 0)
     (refuses : (b : Ledger) → Does b [] b)
     (accepts :
-    (b : Ledger) (o : Order) (bytes area : List ℕ) → read_of bytes ≡ Read.Order o → first (refusals b o) ≡ 0
+    (b : Ledger) (o : Order) (bytes area : List ℕ) → read_of bytes ≡ Ok o → first (refusals b o) ≡ 0
     → Does b (accepted_call b o area ∷ []) (put_minute o.minute (effect b o).after))
   where
     abbrev Did : Ledger → Read → Result → Type 0
     Did b r x = Does b (accepted_of x.answer r x.area) x.book
 
-    order-does : (b : Ledger) (o : Order) (area bytes : List ℕ) → read_of bytes ≡ Read.Order o → Did b (Read.Order o) (order_call b o area)
+    order-does : (b : Ledger) (o : Order) (area bytes : List ℕ) → read_of bytes ≡ Ok o → Did b (Ok o) (order_call b o area)
     unfolding order_call accepted refused accepted_of
     order-does b o area bytes e = go (first (refusals b o) is 0) refl
       where
-        go : (t : Bool) → (first (refusals b o) is 0) ≡ t → Did b (Read.Order o) (order_call b o area)
+        go : (t : Bool) → (first (refusals b o) is 0) ≡ t → Did b (Ok o) (order_call b o area)
         go true p = simp p (accepts b o bytes area e (eqb-true _ 0 p))
         go false p = simp p (refuses b)
 
     read_does : (b : Ledger) (r : Read) (area bytes : List ℕ) → read_of bytes ≡ r → Did b r (read_call b r area)
     unfolding read_call refused accepted_of
-    read_does b (Read.Order o) area bytes e = order-does b o area bytes e
-    read_does b (Read.Refused n) area bytes e = refuses b
+    read_does b (Ok o) area bytes e = order-does b o area bytes e
+    read_does b (Err n) area bytes e = refuses b
 
     call_does : (b : Ledger) (bytes area : List ℕ) → Did b (read_of bytes) (call_of b bytes area)
     unfolding call_of refused accepted_of
@@ -136,7 +136,7 @@ module _
     (kept : Ledger → ℕ)
     (comes goes : Figure)
     (step :
-    (b : Ledger) (o : Order) (bytes area : List ℕ) → Inv b → read_of bytes ≡ Read.Order o → first (refusals b o) ≡ 0
+    (b : Ledger) (o : Order) (bytes area : List ℕ) → Inv b → read_of bytes ≡ Ok o → first (refusals b o) ≡ 0
     → Inv (put_minute o.minute (effect b o).after)
     × (comes (accepted_call b o area) + kept b ≡ goes (accepted_call b o area) + kept (put_minute o.minute (effect b o).after)))
   where

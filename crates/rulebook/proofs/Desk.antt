@@ -18,6 +18,7 @@ use Rattle.rulebook.specs.Cycle.{legs, settled, not_settled, left_by, fixing, fi
 use Rattle.rulebook.specs.Close.{close_kind, leaves, deleted_at_close, suspended_at_close, close_notice}
 use Rattle.rulebook.specs.Forms.{counts, outcome, moving, silent, open_day, admit, deposit, withdraw, transfer, pay_in, pay_out, instruct, trade, cancel, cycle, confirm, decline, answer_cycle, close, forms, row_of, used, least, most, window_of, effect, set_rate, request_paper, end_request}
 use Rattle.rulebook.specs.Refusals.{wrong_day, wrong_cycle, awaits_answer, nothing_sent, goes_back, outside_window, wrong_security, wrong_pair, wrong_parties, wrong_days, wrong_reference, wrong_cancel, cancels_sent, wrong_request, ends_too_soon, too_many_requests, too_little, over_ceiling, no_space, day_tests, order_tests, item_tests, request_tests, room_tests, refusals}
+use Rattle.rulebook.specs.Answers.{refusal_of, all_refusals}
 use Rattle.rulebook.specs.Call.{answer_number, refused, put_minute, accepted, order_call, read_call, call_of}
 use Rattle.rulebook.specs.Calls.{result_of, record_in, calls_on, book_after, accepted_of, accepted_calls, sum, shares_of, last_asked, left_with, left_on_paper, withdrawals}
 use Rattle.rulebook.specs.Desk.{Desk, party, nobody, order, opens, admits, deposits, withdraws, pledges, pays_in, delivers, receives, delivers_pounds, receives_pounds, sets_rate, runs, sells, many_delivers, closes, answers, cancels, cycles, day_end, asks_paper, ends_paper, send, calls, result, started, full, asked, next_day, in_custody, withdrawn, day_after, custody, waits, cycled, four_sold, awaiting, meanwhile}
@@ -40,7 +41,7 @@ unfolding
     pay_in pay_out instruct trade cancel cycle confirm decline answer_cycle close set_rate request_paper end_request forms row_of window_of effect wrong_day
     wrong_cycle awaits_answer nothing_sent goes_back outside_window wrong_security wrong_pair wrong_parties wrong_days wrong_reference wrong_cancel cancels_sent
     wrong_request ends_too_soon too_many_requests too_little over_ceiling no_space day_tests order_tests item_tests request_tests room_tests refusals answer_number
-    refused put_minute accepted order_call read_call call_of result_of record_in calls_on book_after accepted_of accepted_calls sum shares_of last_asked left_with
+    refusal_of all_refusals refused put_minute accepted order_call read_call call_of result_of record_in calls_on book_after accepted_of accepted_calls sum shares_of last_asked left_with
     left_on_paper withdrawals
 desk = record {
   p1 = refl;

@@ -11,6 +11,7 @@ pub mod Keeping
 pub mod Rated
 pub mod Requested
 pub mod Fixed
+use Rattle.std.specs.Prelude.{Ok}
 use mathlib.Core.Path.{◌≡◌, refl, subst}
 use mathlib.Core.Bool.{Bool, true, false}
 use mathlib.Core.List.{List, [], ◌∷◌}
@@ -18,7 +19,6 @@ use Prim.Native.Nat.{ℕ, ◌+◌, ◌≤◌}
 use native.Mathlib.Omega.{arith}
 use borrow.Author.Tests.{eqb-true, ltb-false}
 use Rattle.rulebook.specs.declared.Order.{Order}
-use Rattle.rulebook.specs.declared.Read.{Read}
 use Rattle.plain.specs.Lists.{◌is◌, first}
 use Rattle.rulebook.specs.Record.{read_of}
 use Rattle.rulebook.specs.Ledger.{Ledger, fresh, put_day, cash_total, issued_of, outside_of, held_of, held}
@@ -124,7 +124,7 @@ minute-sizes minute b s = record { securities = s.securities; items = s.items; a
 
 -- an accepted order keeps it
 pub order-premise :
-    (b : Ledger) (o : Order) (bytes : List ℕ) → Premise b → read_of bytes ≡ Read.Order o → first (refusals b o) ≡ 0
+    (b : Ledger) (o : Order) (bytes : List ℕ) → Premise b → read_of bytes ≡ Ok o → first (refusals b o) ≡ 0
     → Premise (put_minute o.minute (effect b o).after)
 unfolding put_minute put_day
 order-premise b o bytes p e z =

@@ -62,6 +62,7 @@ pub mod Reading
 pub mod Sums
 -- checking orders: the test of a number (`none_applies`), one order behind another (`first-append`)
 pub mod Checking
+pub mod Answers
 -- an order that was read, and one that no test refuses
 pub mod Orders
 -- from forms to calls and lists of calls, and the step that each form makes

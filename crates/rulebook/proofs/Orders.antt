@@ -1,5 +1,5 @@
 -- What is known of an order that was read, and of one that no test refuses. Assumes nothing.
-use Rattle.std.specs.Prelude.{if◌then◌else◌}
+use Rattle.std.specs.Prelude.{if◌then◌else◌, Ok, Err}
 use mathlib.Core.Path.{◌≡◌, refl, sym, ap, subst}
 use mathlib.Core.Bool.{Bool, true, false, not, ◌&&◌, ◌||◌, false≢true}
 use mathlib.Core.List.{List, [], ◌∷◌, ◌++◌}
@@ -11,8 +11,9 @@ use lib.Dec.{leb}
 use lib.ListN.{length, get_or}
 use borrow.Author.Tests.{eqb-true, eqb-false, leb-true, leb-false, ltb-false, not-false}
 use Rattle.bits.specs.Bits.{leading, field}
+use Rattle.rulebook.specs.Answers.{refusal_of}
 use Rattle.rulebook.specs.declared.Order.{Order}
-use Rattle.rulebook.specs.declared.Read.{Read}
+use Rattle.rulebook.specs.declared.Refusal.{Refusal}
 use Rattle.plain.specs.Lists.{◌is◌, ◌is_not◌, ◌below◌, ◌at_most◌, ◌one_of◌, within, some, first}
 use Rattle.rulebook.specs.AccountTypes.{ends, wrong_types}
 use Rattle.rulebook.specs.Field as Field
@@ -59,16 +60,16 @@ fields_fit octets = record {
   reference = field_fits octets _ 32;
 }
 
-pub read_is : (bytes : List ℕ) (o : Order) → read_of bytes ≡ Read.Order o → order_of (fields_in bytes) ≡ o
+pub read_is : (bytes : List ℕ) (o : Order) → read_of bytes ≡ Ok o → order_of (fields_in bytes) ≡ o
 unfolding read_of
-read_is bytes o e = go (read_refusal bytes is 0) (read_refusal bytes) e
+read_is bytes o e = go (read_refusal bytes is 0) (refusal_of (read_refusal bytes)) e
   where
-    go : (t : Bool) (r : ℕ) → (if t then Read.Order (order_of (fields_in bytes)) else Read.Refused r) ≡ Read.Order o → order_of (fields_in bytes) ≡ o
+    go : (t : Bool) (r : Refusal) → (if t then Ok (order_of (fields_in bytes)) else Err r) ≡ Ok o → order_of (fields_in bytes) ≡ o
     go true r p = cc
     go false r p = cc
 
 -- the fields of an order that was read fit their widths
-pub read_fits : (bytes : List ℕ) (o : Order) → read_of bytes ≡ Read.Order o → OrderFits o
+pub read_fits : (bytes : List ℕ) (o : Order) → read_of bytes ≡ Ok o → OrderFits o
 read_fits bytes o e = subst OrderFits (read_is bytes o e) (fields_fit bytes)
 
 -- the members of an order that was read are 1 to 64 where its form uses them, and a type is 0 where its form does not use it
@@ -169,16 +170,16 @@ fields_range fields nf u r = record {
         × (get_or fields (get_or places i 0) 0 ≤ most f (get_or places i 0))
     field i l t = let p = get_or places i 0 in from_1 (used f p) (least f p) (most f p) (get_or fields p 0) (none_at wide places i l r) t
 
-read_passes : (bytes : List ℕ) (o : Order) → read_of bytes ≡ Read.Order o → read_refusal bytes ≡ 0
+read_passes : (bytes : List ℕ) (o : Order) → read_of bytes ≡ Ok o → read_refusal bytes ≡ 0
 unfolding read_of
 read_passes bytes o e = go (read_refusal bytes is 0) refl e
   where
     go :
         (t : Bool) → (read_refusal bytes is 0) ≡ t
-        → (if read_refusal bytes is 0 then Read.Order (order_of (fields_in bytes)) else Read.Refused (read_refusal bytes)) ≡ Read.Order o
+        → (if read_refusal bytes is 0 then Ok (order_of (fields_in bytes)) else Err (refusal_of (read_refusal bytes))) ≡ Ok o
         → read_refusal bytes ≡ 0
     go true p q = eqb-true _ 0 p
-    go false p q = let z : Read.Refused (read_refusal bytes) ≡ Read.Order o = simp p at q in cc
+    go false p q = let z : Err (refusal_of (read_refusal bytes)) ≡ Ok o = simp p at q in cc
 
 -- where no test refuses a record's fields
 pub record Passed (fields : List ℕ) : Type 0 where
@@ -186,14 +187,14 @@ pub record Passed (fields : List ℕ) : Type 0 where
   pub unused : unused_not_zero fields ≡ false
   pub ranges : used_out_of_range fields ≡ false
 
-pub read_tests_lem : (bytes : List ℕ) (o : Order) → read_of bytes ≡ Read.Order o → (length bytes ≡ 40) × Passed (fields_in bytes)
+pub read_tests_lem : (bytes : List ℕ) (o : Order) → read_of bytes ≡ Ok o → (length bytes ≡ 40) × Passed (fields_in bytes)
 unfolding read_refusal
 read_tests_lem bytes o e =
     let fields = fields_in bytes in
     let n = none_applies ((2, length bytes is_not 40) ∷ field_tests fields) (omega arith) (read_passes bytes o e) in
     (eqb-true (length bytes) 40 (not-false _ (n 2)), record { form = n 3; unused = n 4; ranges = n 5 })
 
-pub read_ranges : (bytes : List ℕ) (o : Order) → read_of bytes ≡ Read.Order o → Ranges o
+pub read_ranges : (bytes : List ℕ) (o : Order) → read_of bytes ≡ Ok o → Ranges o
 read_ranges bytes o e = let p = (read_tests_lem bytes o e).1 in subst Ranges (read_is bytes o e) (fields_range (fields_in bytes) p.form p.unused p.ranges)
 
 -- ---- an order that no test refuses
@@ -222,7 +223,7 @@ pub record Accepted (b : Ledger) (o : Order) : Type 0 where
   pub ceiling : over_ceiling b.holdings o ≡ false
   pub space : no_space b o ≡ false
 
-pub accepted : (b : Ledger) (o : Order) (bytes : List ℕ) → read_of bytes ≡ Read.Order o → first (refusals b o) ≡ 0 → Accepted b o
+pub accepted : (b : Ledger) (o : Order) (bytes : List ℕ) → read_of bytes ≡ Ok o → first (refusals b o) ≡ 0 → Accepted b o
 unfolding refusals day_tests order_tests item_tests request_tests room_tests
 accepted b o bytes e z =
     let passed = none_applies (refusals b o) (omega arith) z in

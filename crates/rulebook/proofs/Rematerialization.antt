@@ -1,5 +1,5 @@
 -- What is proved of requests for paper. Assumes nothing.
-use Rattle.std.specs.Prelude.{if◌then◌else◌}
+use Rattle.std.specs.Prelude.{if◌then◌else◌, Ok}
 use mathlib.Core.Path.{◌≡◌, refl, sym, ap, subst, ◌∙◌}
 use mathlib.Core.Bool.{Bool, true, false, not, ◌&&◌, false≢true, or-true}
 use mathlib.Core.List.{List, [], ◌∷◌}
@@ -23,7 +23,6 @@ use Rattle.rulebook.specs.Field.{places, widths, ceiling}
 use Rattle.rulebook.specs.Windows.{by_kind}
 use Rattle.rulebook.specs.Premise.{Premise}
 use Rattle.rulebook.specs.declared.Order.{Order}
-use Rattle.rulebook.specs.declared.Read.{Read}
 use Rattle.rulebook.specs.declared.Request.{Request}
 use Rattle.rulebook.proofs.ByCall.{accepted_call, by_answer}
 use Rattle.rulebook.proofs.Orders.{accepted, not_open}
@@ -57,7 +56,7 @@ module _ (m n : ℕ) where
       1 ≤ (b.requests.asked m n).quantity.0 → some (ends_request m n) calls ≡ false → after.requests.asked m n ≡ b.requests.asked m n
 
   order-keeps :
-      (b : Ledger) (o : Order) (bytes area : List ℕ) → read_of bytes ≡ Read.Order o → first (refusals b o) ≡ 0
+      (b : Ledger) (o : Order) (bytes area : List ℕ) → read_of bytes ≡ Ok o → first (refusals b o) ≡ 0
       → Keeps b (accepted_call b o area ∷ []) (put_minute o.minute (effect b o).after)
   unfolding put_minute put_day put_request
   order-keeps b o bytes area e z l w =

@@ -1,4 +1,5 @@
 -- Both round trips of a record: what is written reads back as itself, and what is read is what the writer makes. Assumes nothing.
+use Rattle.std.specs.Prelude.{Ok}
 use mathlib.Core.Path.{◌≡◌, refl, sym, ap, subst, ◌∙◌}
 use mathlib.Core.Bool.{Bool, true, false, not, ◌&&◌}
 use mathlib.Core.List.{List, [], ◌∷◌, ◌++◌, append-nil}
@@ -13,7 +14,6 @@ use Rattle.bits.specs.Layout.{pack, Fit}
 use Rattle.bits.proofs.Numbers.{length_bytes}
 use Rattle.bits.proofs.Packing.{values_back, bytes_back, take-bytes, pack-high}
 use Rattle.rulebook.specs.declared.Order.{Order}
-use Rattle.rulebook.specs.declared.Read.{Read}
 use Rattle.plain.specs.Lists.{◌is◌, ◌is_not◌, ◌below◌, within, some}
 use Rattle.plain.proofs.Lists.{◌and◌}
 use Rattle.rulebook.specs.Field as Field
@@ -84,7 +84,7 @@ unfolding fields_in record_of widths
 fields_back o t = rw (append-nil (record_of o)) at (values_back 40 widths (fields_of o) [] (λ i. lit< tt) refl (fields_fit o t.unused t.ranges))
 
 -- A WRITTEN ORDER READS BACK AS ITSELF
-pub write_read : (o : Order) (area : List ℕ) → write_refusal o area ≡ 0 → read_of (record_of o) ≡ Read.Order o
+pub write_read : (o : Order) (area : List ℕ) → write_refusal o area ≡ 0 → read_of (record_of o) ≡ Ok o
 unfolding read_of read_refusal
 write_read o area e =
     let t = write_tests o area e in
@@ -110,7 +110,7 @@ fields_again octets p =
     rw z
 
 -- A RECORD THAT IS READ IS THE ONE THAT THE WRITER MAKES
-pub read-write : (octets : List ℕ) (o : Order) → Octets octets → read_of octets ≡ Read.Order o → record_of o ≡ octets
+pub read-write : (octets : List ℕ) (o : Order) → Octets octets → read_of octets ≡ Ok o → record_of o ≡ octets
 unfolding record_of fields_in widths
 read-write octets o h e =
     let t = read_tests_lem octets o e in
@@ -120,7 +120,7 @@ read-write octets o h e =
     ∙ take_all 40 octets (omega arith)
 
 -- which the writer takes, where 40 bytes are lent
-pub read_writable : (octets : List ℕ) (o : Order) (area : List ℕ) → read_of octets ≡ Read.Order o → 40 ≤ length area → write_refusal o area ≡ 0
+pub read_writable : (octets : List ℕ) (o : Order) (area : List ℕ) → read_of octets ≡ Ok o → 40 ≤ length area → write_refusal o area ≡ 0
 unfolding write_refusal
 read_writable octets o area e l =
     let t = (read_tests_lem octets o e).1 in

@@ -4,6 +4,7 @@ pub mod OneCall
 pub mod Moving
 pub mod Settling
 pub mod Requesting
+use Rattle.std.specs.Prelude.{Ok}
 use mathlib.Core.Path.{◌≡◌, refl, ap, sym}
 use mathlib.Core.Bool.{Bool, true, false, false≢true}
 use mathlib.Core.List.{List, [], ◌∷◌}
@@ -11,7 +12,6 @@ use Prim.Native.Nat.{ℕ, ◌+◌}
 use native.Mathlib.Omega.{arith}
 use lib.ListN.{length}
 use Rattle.rulebook.specs.declared.Order.{Order}
-use Rattle.rulebook.specs.declared.Read.{Read}
 use Rattle.plain.specs.Lists.{◌is◌, ◌one_of◌, first, Each}
 use Rattle.plain.proofs.Lists.{◌and◌}
 use Rattle.rulebook.specs.Record.{read_of}
@@ -101,7 +101,7 @@ all-steps =
     and (λ b o e p a. either_answer (Step 21 b o) b o (confirm-step b o p) (still 21 b o (decline b) p refl refl (λ _. refl) refl)) and tt
 
 -- an order that was read and that no test refuses makes a step; no order that was read has another form
-pub order-step : (b : Ledger) (o : Order) (bytes : List ℕ) → Premise b → read_of bytes ≡ Read.Order o → first (refusals b o) ≡ 0 → Step o.form b o (effect b o)
+pub order-step : (b : Ledger) (o : Order) (bytes : List ℕ) → Premise b → read_of bytes ≡ Ok o → first (refusals b o) ≡ 0 → Step o.form b o (effect b o)
 unfolding effect
 order-step b o bytes p e z =
     let a = accepted b o bytes e z in

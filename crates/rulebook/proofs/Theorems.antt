@@ -1,5 +1,5 @@
 -- What is proved of the definitions, whole. Assumes nothing.
-use Rattle.std.specs.Prelude.{if◌then◌else◌}
+use Rattle.std.specs.Prelude.{if◌then◌else◌, Ok, Err}
 use Prim.Native.Nat.{ℕ, ◌≤◌}
 use mathlib.Core.Bool.{Bool, true, false}
 use mathlib.Core.List.{List, [], ◌∷◌}
@@ -15,8 +15,8 @@ use Rattle.bits.specs.Layout.{pack}
 use Rattle.rulebook.specs.Field.{widths}
 use Rattle.rulebook.specs.Record.{fields_of, read_of, record_of, write_refusal, written_of, area_written}
 use Rattle.rulebook.specs.Theorems.{Theorems}
+use Rattle.rulebook.specs.Answers.{Written, refusal_of}
 use Rattle.rulebook.specs.declared.Order.{Order}
-use Rattle.rulebook.specs.declared.Written.{Written}
 use Rattle.rulebook.proofs.RoundTrips.{write_read, read-write, read_writable, first-bytes}
 use Rattle.rulebook.proofs.Selection.Missing.{none_short, short_none}
 use Rattle.rulebook.proofs.Selection.Selected.{selected, nothing_fits_lem, enough_turns, selection-selected, passes-end}
@@ -38,18 +38,18 @@ use Rattle.rulebook.proofs.SentCycles.Finishing.{day_finishes_lem}
 use Rattle.rulebook.proofs.Desk.{desk}
 
 -- the writer writes where nothing refuses
-wrote : (o : Order) (area : List ℕ) → written_of o area ≡ Written.Record → write_refusal o area ≡ 0
+wrote : (o : Order) (area : List ℕ) → written_of o area ≡ Ok tt → write_refusal o area ≡ 0
 unfolding written_of
 wrote o area e = go (write_refusal o area is 0) refl e
   where
     go :
-        (t : Bool) → (write_refusal o area is 0) ≡ t → (if t then Written.Record else Written.Refused (write_refusal o area)) ≡ Written.Record
+        (t : Bool) → (write_refusal o area is 0) ≡ t → ◌≡◌ {A = Written} (if t then Ok tt else Err (refusal_of (write_refusal o area))) (Ok tt)
         → write_refusal o area ≡ 0
     go true p q = eqb-true _ 0 p
     go false p q = cc
 
 module _ (o : Order) (area : List ℕ) (e : write_refusal o area ≡ 0) where
-  writes : written_of o area ≡ Written.Record
+  writes : written_of o area ≡ Ok tt
   unfolding written_of
   writes = rw e
 
@@ -58,7 +58,7 @@ module _ (o : Order) (area : List ℕ) (e : write_refusal o area ≡ 0) where
   bytes-there = rw e (take_at (record_of o) (drop 40 area) 40 (length_bytes 40 _))
 
 -- form 3 at minute 540
-first-bytes_of : (o : Order) (area : List ℕ) → o.form ≡ 3 → o.minute ≡ 540 → written_of o area ≡ Written.Record → take 2 (area_written o area) ≡ 0x1A ∷ 0x1C ∷ []
+first-bytes_of : (o : Order) (area : List ℕ) → o.form ≡ 3 → o.minute ≡ 540 → written_of o area ≡ Ok tt → take 2 (area_written o area) ≡ 0x1A ∷ 0x1C ∷ []
 unfolding area_written record_of bytes
 first-bytes_of o area f m w =
     let e = wrote o area w in

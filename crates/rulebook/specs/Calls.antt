@@ -1,5 +1,5 @@
 -- Lists of calls, and what holds after every such list (RULES 12).
-use Rattle.std.specs.Prelude.{if◌then◌else◌, ℕ, zero, suc, ◌+◌, Bool, false, not, ◌&&◌, List, [], ◌∷◌, ◌++◌, ◌≡◌, take, drop, T}
+use Rattle.std.specs.Prelude.{if◌then◌else◌, ℕ, zero, suc, ◌+◌, Bool, false, not, ◌&&◌, List, [], ◌∷◌, ◌++◌, ◌≡◌, take, drop, T, Ok, Err}
 use Rattle.plain.specs.Lists.{◌is◌, ◌is_not◌, ◌one_of◌, total}
 use Rattle.rulebook.specs.AccountTypes.{pledged_or_blocked, is_outside}
 use Rattle.rulebook.specs.Record.{read_of}
@@ -12,9 +12,8 @@ use Rattle.rulebook.specs.Waiting.{sides}
 use Rattle.rulebook.specs.Forms.{writes, takes_in}
 use Rattle.rulebook.specs.Call.{Result, call_of}
 use Rattle.rulebook.specs.declared.Order.{Order}
-use Rattle.rulebook.specs.declared.Read.{Read}
+use Rattle.rulebook.specs.Answers.{Read, Answer}
 use Rattle.rulebook.specs.declared.Counts.{Counts}
-use Rattle.rulebook.specs.declared.Answer.{Answer}
 
 pub data Call : Type 0 where
   -- RULES 1.3: a record and an area, of any bytes and length
@@ -52,9 +51,9 @@ pub record Accepted : Type 0 where
 
 -- a call in the list of the accepted ones: not there where it was refused
 unfoldable pub accepted_of : Answer → Read → (area : List ℕ) → List Accepted
-accepted_of (Answer.Accepted counts) (Read.Order order) area = record { order = order; counts = counts; area = area } ∷ []
-accepted_of (Answer.Accepted counts) (Read.Refused number) area = []
-accepted_of (Answer.Refused refusal) read area = []
+accepted_of (Ok counts) (Ok order) area = record { order = order; counts = counts; area = area } ∷ []
+accepted_of (Ok counts) (Err refusal) area = []
+accepted_of (Err refusal) read area = []
 
 unfoldable pub accepted_calls : List Made → List Accepted
 accepted_calls [] = []

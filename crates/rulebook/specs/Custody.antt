@@ -1,5 +1,5 @@
 -- The held counts that a book keeps with its securities, beside what its accounts hold (RULES 3.19, 12.24 to 12.26).
-use Rattle.std.specs.Prelude.{if◌then◌else◌, ℕ, ◌+◌, ◌&&◌, List, ◌≡◌}
+use Rattle.std.specs.Prelude.{if◌then◌else◌, ℕ, ◌+◌, ◌&&◌, List, ◌≡◌, Ok}
 use Rattle.plain.specs.Lists.{◌is◌, first, Each}
 use Rattle.rulebook.specs.AccountTypes.{is_outside}
 use Rattle.rulebook.specs.Record.{read_of}
@@ -9,7 +9,6 @@ use Rattle.rulebook.specs.Refusals.{refusals}
 use Rattle.rulebook.specs.Calls.{Call, Made, calls_on, book_after, deposits, withdrawals}
 use Rattle.rulebook.specs.Premise.{Premise}
 use Rattle.rulebook.specs.declared.Order.{Order}
-use Rattle.rulebook.specs.declared.Read.{Read}
 
 -- the shares of a security that an order brings into custody: a deposit's
 unfoldable pub comes_in : (security : ℕ) → Order → ℕ
@@ -24,7 +23,7 @@ goes_out security book order =
 -- RULES 12.24: forms 3, 4 and 20 change the held count by just these, and every other leaves it
 unfoldable pub HeldByForm : Type 0
 HeldByForm =
-    (book : Ledger) (o : Order) (bytes : List ℕ) → Premise book → read_of bytes ≡ Read.Order o → first (refusals book o) ≡ 0 → (security : ℕ)
+    (book : Ledger) (o : Order) (bytes : List ℕ) → Premise book → read_of bytes ≡ Ok o → first (refusals book o) ≡ 0 → (security : ℕ)
     → held_of security (effect book o).after.holdings + goes_out security book o ≡ held_of security book.holdings + comes_in security o
 
 pub record HeldCounts (history : List Made) (last : Ledger) : Type 0 where

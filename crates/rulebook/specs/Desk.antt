@@ -1,13 +1,14 @@
 -- The desk checks (RULES, appendix A): from records to answers, books and rows, on books made by calls from the fresh one. They are proved
 -- together, by computation.
-use Rattle.std.specs.Prelude.{ℕ, zero, suc, ◌≡◌, true, false, List, [], ◌∷◌, ◌++◌, map, take, drop, replicate}
+use Rattle.std.specs.Prelude.{ℕ, zero, suc, ◌≡◌, true, false, List, [], ◌∷◌, ◌++◌, map, take, drop, replicate, Ok, Err}
 use Rattle.rulebook.specs.Ledger.{Ledger, fresh, outside_of, held_of}
 use Rattle.rulebook.specs.Record.{record_of}
 use Rattle.rulebook.specs.Forms.{counts}
 use Rattle.rulebook.specs.Call.{Result, answer_number}
 use Rattle.rulebook.specs.Calls.{result_of, calls_on, book_after, Call, call, withdrawals}
 use Rattle.rulebook.specs.declared.Order.{Order}
-use Rattle.rulebook.specs.declared.Answer.{Answer}
+use Rattle.rulebook.specs.Answers.{Answer}
+use Rattle.rulebook.specs.declared.Refusal.{Refusal}
 use Rattle.rulebook.specs.declared.Party.{Party}
 use Rattle.rulebook.specs.declared.State.{State}
 use Rattle.rulebook.specs.declared.State.TheVariants.{Single, Pair}
@@ -193,25 +194,25 @@ pub record Desk : Type 0 where
       waits (calls started (delivers 500 7 8 100 100_000 31 ∷ receives 501 7 8 100 99_999 32 ∷ []))
       ≡ (Single true 31, 100_000) ∷ (Single false 32, 99_999) ∷ []
   -- A.6, A.7: the last minute of the short window, and the one behind it
-  pub p6 : (result started (delivers 825 7 8 100 100_000 31)).answer ≡ Answer.Accepted (counts 0 0 0 0 0 0)
-  pub p7 : (result started (delivers 826 7 8 100 100_000 31)).answer ≡ Answer.Refused 9
+  pub p6 : (result started (delivers 825 7 8 100 100_000 31)).answer ≡ Ok (counts 0 0 0 0 0 0)
+  pub p7 : (result started (delivers 826 7 8 100 100_000 31)).answer ≡ Err Refusal.OutsideWindow
   -- A.8, A.9: a full list, with a match and without
-  pub p8 : (result full (receives 501 7 8 100 102_000 1)).answer ≡ Answer.Accepted (counts 0 0 0 0 0 0)
-  pub p9 : (result full (receives 501 7 8 100 102_001 1)).answer ≡ Answer.Refused 18
+  pub p8 : (result full (receives 501 7 8 100 102_000 1)).answer ≡ Ok (counts 0 0 0 0 0 0)
+  pub p9 : (result full (receives 501 7 8 100 102_001 1)).answer ≡ Err Refusal.NoSpace
   -- A.10: the last trades are dropped first, and what fits is put back
   pub p10 :
       cycled (deposits 540 7 100 ∷ pays_in 550 8 1_000 ∷ sells 7 8 60 100 1 ++ sells 7 8 50 100 3 ++ sells 7 8 30 100 5)
-      ≡ (Answer.Accepted (counts 0 0 0 0 0 1), Answer.Accepted (counts 8 4 0 0 0 0), 50 ∷ [])
+      ≡ (Ok (counts 0 0 0 0 0 1), Ok (counts 8 4 0 0 0 0), 50 ∷ [])
   -- A.11: positions are net
   pub p11 :
       cycled (deposits 540 7 100 ∷ pays_in 550 9 50 ∷ sells 7 8 100 50 1 ++ sells 8 9 100 50 3)
-      ≡ (Answer.Accepted (counts 0 0 0 0 0 0), Answer.Accepted (counts 8 4 0 0 0 0), [])
+      ≡ (Ok (counts 0 0 0 0 0 0), Ok (counts 8 4 0 0 0 0), [])
   -- A.12: and without cash neither settles
   pub p12 :
       cycled (deposits 540 7 100 ∷ sells 7 8 100 50 1 ++ sells 8 9 100 50 3)
-      ≡ (Answer.Accepted (counts 0 0 0 0 0 2), Answer.Accepted (counts 0 0 0 0 0 0), 100 ∷ 100 ∷ [])
+      ≡ (Ok (counts 0 0 0 0 0 2), Ok (counts 0 0 0 0 0 0), 100 ∷ 100 ∷ [])
   -- A.13: there is no such pair
-  pub p13 : (result started (pledges 540 7 110 121 10)).answer ≡ Answer.Refused 11
+  pub p13 : (result started (pledges 540 7 110 121 10)).answer ≡ Err Refusal.WrongTypes
   -- A.14: before any rate was set an LBP difference of 3,015,000 pairs
   pub p14 : waits (calls started (delivers_pounds 500 100_000 1 ∷ receives_pounds 501 3_115_000 2 ∷ [])) ≡ (Pair 1 2 false false, 3_115_000) ∷ []
   -- A.15: at 150,749 it does not, and a rate that comes later pairs neither
@@ -225,7 +226,7 @@ pub record Desk : Type 0 where
       ∷ 0x80 ∷ 0x65 ∷ 0x01 ∷ 0xCC ∷ 0x80 ∷ 0x00 ∷ 0x00 ∷ 0x05 ∷ 0x00 ∷ 0x00 ∷ 0x00 ∷ 0x00 ∷ 0x00 ∷ 0x00 ∷ 0x00 ∷ 0x64 ∷ []
   -- A.17: it does not end on its own day, nor in the paper of another type
   pub p17 :
-      ((result asked (ends_paper 521 120 9)).answer ≡ Answer.Refused 20) × ((result next_day (ends_paper 510 110 9)).answer ≡ Answer.Refused 19)
+      ((result asked (ends_paper 521 120 9)).answer ≡ Err Refusal.EndsTooSoon) × ((result next_day (ends_paper 510 110 9)).answer ≡ Err Refusal.WrongRequest)
   -- A.18: on the next day it does, and to 91 the credit row has neither member nor shareholder
   pub p18 :
       take 32 (result next_day (ends_paper 510 91 9)).area
@@ -249,16 +250,16 @@ pub record Desk : Type 0 where
   -- A.23: declined, all is as before, and there is nothing to answer any more
   pub p23 :
       (map (λ item. item.quantity.0) (calls awaiting (answers 586 2 ∷ [])).waiting ≡ 100 ∷ 100 ∷ [])
-      × ((result (calls awaiting (answers 586 2 ∷ [])) (answers 586 1)).answer ≡ Answer.Refused 23)
+      × ((result (calls awaiting (answers 586 2 ∷ [])) (answers 586 1)).answer ≡ Err Refusal.NothingSent)
   -- A.24: what is put back lets another trade fit, which the next pass puts back
-  pub p24 : cycled (four_sold []) ≡ (Answer.Accepted (counts 0 0 0 0 0 1), Answer.Accepted (counts 12 6 0 0 0 0), 50 ∷ [])
+  pub p24 : cycled (four_sold []) ≡ (Ok (counts 0 0 0 0 0 1), Ok (counts 12 6 0 0 0 0), 50 ∷ [])
   -- A.25: it is not the largest set: of 60, 50 and 50 the first is sent, though without it both others would be
   pub p25 :
       (cycled (deposits 540 7 100 ∷ pays_in 550 8 1_000 ∷ sells 7 8 60 100 1 ++ sells 7 8 50 100 3 ++ sells 7 8 50 100 5)
-      ≡ (Answer.Accepted (counts 0 0 0 0 0 2), Answer.Accepted (counts 4 2 0 0 0 0), 50 ∷ 50 ∷ []))
+      ≡ (Ok (counts 0 0 0 0 0 2), Ok (counts 4 2 0 0 0 0), 50 ∷ 50 ∷ []))
       × (cycled (deposits 540 7 100 ∷ pays_in 550 8 1_000 ∷ sells 7 8 50 100 3 ++ sells 7 8 50 100 5)
-      ≡ (Answer.Accepted (counts 0 0 0 0 0 0), Answer.Accepted (counts 8 4 0 0 0 0), []))
+      ≡ (Ok (counts 0 0 0 0 0 0), Ok (counts 8 4 0 0 0 0), []))
   -- A.26: A.24 with one more that the first pass puts back, so that the second has nothing for the first trade
   pub p26 :
       cycled (four_sold (pays_in 560 12 10 ∷ sells 8 12 30 10 9))
-      ≡ (Answer.Accepted (counts 0 0 0 0 0 2), Answer.Accepted (counts 12 6 0 0 0 0), 30 ∷ 50 ∷ [])
+      ≡ (Ok (counts 0 0 0 0 0 2), Ok (counts 12 6 0 0 0 0), 30 ∷ 50 ∷ [])

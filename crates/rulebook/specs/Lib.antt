@@ -14,6 +14,7 @@ pub mod Cycle
 pub mod Close
 pub mod Forms
 pub mod Names
+pub mod Answers
 pub mod Record
 pub mod Refusals
 pub mod Call

@@ -1,5 +1,5 @@
 -- What is proved of the rate (RULES 3.14, 6.18, 8.4, 8.9, 12.18).
-use Rattle.std.specs.Prelude.{if◌then◌else◌, ℕ, ◌+◌, ◌*◌, true, List, [], ◌∷◌, ◌≡◌}
+use Rattle.std.specs.Prelude.{if◌then◌else◌, ℕ, ◌+◌, ◌*◌, true, List, [], ◌∷◌, ◌≡◌, Ok}
 use Rattle.plain.specs.Lists.{◌is◌, ◌one_of◌, first}
 use Rattle.rulebook.specs.Ledger.{Ledger, first_rate, fresh, put_rate}
 use Rattle.rulebook.specs.Waiting.{single_of, is_deliver, is_receive}
@@ -9,7 +9,6 @@ use Rattle.rulebook.specs.Refusals.{wrong_day, goes_back, outside_window, refusa
 use Rattle.rulebook.specs.Call.{put_minute, order_call}
 use Rattle.rulebook.specs.Calls.{Call, calls_on, book_after, accepted_calls, last_rate}
 use Rattle.rulebook.specs.Premise.{Premise}
-use Rattle.rulebook.specs.declared.Answer.{Answer}
 use Rattle.rulebook.specs.declared.Item.{Item}
 use Rattle.rulebook.specs.declared.Order.{Order}
 
@@ -52,7 +51,7 @@ unfoldable pub RateAlone : Type 0
 RateAlone =
     (book : Ledger) (order : Order) (area : List ℕ) → order.form ≡ 18 → first (refusals book order) ≡ 0
     → order_call book order area
-    ≡ record { answer = Answer.Accepted (counts 0 0 0 0 0 0); book = put_minute order.minute (put_rate order.quantity.0 book); area = area }
+    ≡ record { answer = Ok (counts 0 0 0 0 0 0); book = put_minute order.minute (put_rate order.quantity.0 book); area = area }
 
 -- RULES 7.6, 7.8, 7.9: of the refusals behind the record's own it meets three
 unfoldable pub RateRefusals : Type 0

@@ -1,5 +1,5 @@
 -- The record of 40 bytes: what reading one gives, and what writing one gives (RULES 2).
-use Rattle.std.specs.Prelude.{if◌then◌else◌, ℕ, Bool, not, ◌&&◌, List, [], ◌∷◌, ◌++◌, length, get_or, drop}
+use Rattle.std.specs.Prelude.{if◌then◌else◌, ℕ, Bool, not, ◌&&◌, List, [], ◌∷◌, ◌++◌, length, get_or, drop, Ok, Err}
 use Rattle.plain.specs.Lists.{◌is◌, ◌is_not◌, ◌below◌, within, some, first}
 use Rattle.rulebook.specs.Field as Field
 use Rattle.rulebook.specs.Field.{places, widths}
@@ -7,8 +7,7 @@ use Rattle.rulebook.specs.Forms.{forms, used, least, most}
 use Rattle.bits.specs.Bits.{bytes}
 use Rattle.bits.specs.Layout.{pack, cut}
 use Rattle.rulebook.specs.declared.Order.{Order}
-use Rattle.rulebook.specs.declared.Read.{Read}
-use Rattle.rulebook.specs.declared.Written.{Written}
+use Rattle.rulebook.specs.Answers.{Read, Written, refusal_of, number_in}
 
 -- an order's fields, by place
 unfoldable pub fields_of : Order → List ℕ
@@ -71,12 +70,11 @@ read_refusal octets = first (read_tests octets)
 
 -- what the reader answers
 unfoldable pub read_of : List ℕ → Read
-read_of octets = if read_refusal octets is 0 then Read.Order (order_of (fields_in octets)) else Read.Refused (read_refusal octets)
+read_of octets = if read_refusal octets is 0 then Ok (order_of (fields_in octets)) else Err (refusal_of (read_refusal octets))
 
 -- the reader's answer as a number: 0 for an order, else the refusal's
 unfoldable pub read_number : Read → ℕ
-read_number (Read.Order order) = 0
-read_number (Read.Refused number) = number
+read_number answer = number_in answer
 
 -- the 40 bytes of an order
 unfoldable pub record_of : Order → List ℕ
@@ -88,12 +86,11 @@ write_refusal o area = first ((1, length area below 40) ∷ field_tests (fields_
 
 -- what the writer answers
 unfoldable pub written_of : Order → List ℕ → Written
-written_of o area = if write_refusal o area is 0 then Written.Record else Written.Refused (write_refusal o area)
+written_of o area = if write_refusal o area is 0 then Ok tt else Err (refusal_of (write_refusal o area))
 
 -- the writer's answer as a number: 0 for a record, else the refusal's
 unfoldable pub written_number : Written → ℕ
-written_number Written.Record = 0
-written_number (Written.Refused number) = number
+written_number answer = number_in answer
 
 -- RULES 2.9: the area after it
 unfoldable pub area_written : Order → List ℕ → List ℕ

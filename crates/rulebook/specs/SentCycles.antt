@@ -1,5 +1,5 @@
 -- What is proved of cycles that are sent and answered (RULES 6.21, 12.27 to 12.31, 12.33).
-use Rattle.std.specs.Prelude.{if◌then◌else◌, ℕ, zero, suc, ◌+◌, ◌-◌, ◌≤◌, Bool, true, false, not, ◌&&◌, List, [], ◌∷◌, ◌++◌, map, ◌≡◌, length}
+use Rattle.std.specs.Prelude.{if◌then◌else◌, ℕ, zero, suc, ◌+◌, ◌-◌, ◌≤◌, Bool, true, false, not, ◌&&◌, List, [], ◌∷◌, ◌++◌, map, ◌≡◌, length, Ok, Err}
 use Rattle.plain.specs.Lists.{◌is◌, ◌below◌, some, first, keep, Each}
 use Rattle.rulebook.specs.Ledger.{Ledger, Holdings, put_day, put_waiting, cycle_answered}
 use Rattle.rulebook.specs.Movements.{account, type91, move, booked}
@@ -18,11 +18,10 @@ use Rattle.rulebook.specs.Calls.{Call, result_of, calls_on, book_after, Accepted
 use Rattle.rulebook.specs.Premise.{Premise}
 use Rattle.rulebook.specs.Desk.{runs, answers, closes, send}
 use Rattle.rulebook.specs.declared.Account.{Account}
-use Rattle.rulebook.specs.declared.Answer.{Answer}
+use Rattle.rulebook.specs.Answers.{Answer}
 use Rattle.rulebook.specs.declared.Day.{Day}
 use Rattle.rulebook.specs.declared.Item.{Item}
 use Rattle.rulebook.specs.declared.Order.{Order}
-use Rattle.rulebook.specs.declared.Read.{Read}
 
 -- an accepted call that answers a cycle
 abbrev pub answers_cycle : Accepted → Bool
@@ -61,7 +60,7 @@ pub record AsSent (book later : Ledger) : Type 0 where
 -- a form 16 is accepted on a book, then come calls of which none answers it
 unfoldable pub ConfirmedAsSent : Type 0
 ConfirmedAsSent =
-    (book : Ledger) (o : Order) (bytes : List ℕ) (calls : List Call) → Premise book → read_of bytes ≡ Read.Order o → o.form ≡ 16
+    (book : Ledger) (o : Order) (bytes : List ℕ) (calls : List Call) → Premise book → read_of bytes ≡ Ok o → o.form ≡ 16
     → first (refusals book o) ≡ 0
     → some answers_cycle (accepted_calls (calls_on (put_minute o.minute (effect book o).after) calls)) ≡ false
     → AsSent book (book_after (put_minute o.minute (effect book o).after) calls)
@@ -79,8 +78,8 @@ unsent book = put_day (cycle_answered book.day) (put_waiting (declined book.wait
 
 -- the calls of a list that are accepted, in order
 unfoldable pub is_accepted : Answer → Bool
-is_accepted (Answer.Accepted counts) = true
-is_accepted (Answer.Refused number) = false
+is_accepted (Ok counts) = true
+is_accepted (Err refusal) = false
 
 unfoldable pub only_accepted : Ledger → List Call → List Call
 only_accepted book [] = []
@@ -104,7 +103,7 @@ pub record DeclinedAsUnsent : Type 0 where
       → unsent (effect book o).after ≡ put_day (one_more_run book.day) book
   -- and what others did in between they would have done the same without it
   pub between :
-      (book : Ledger) (o : Order) (bytes : List ℕ) → Premise book → book.day.sent ≡ true → read_of bytes ≡ Read.Order o
+      (book : Ledger) (o : Order) (bytes : List ℕ) → Premise book → book.day.sent ≡ true → read_of bytes ≡ Ok o
       → (o.form is 21) ≡ false → first (refusals book o) ≡ 0
       → ((effect (unsent book) o).after ≡ unsent (effect book o).after) × ((effect (unsent book) o).rows ≡ (effect book o).rows)
       × ((effect (unsent book) o).counts ≡ (effect book o).counts) × (first (refusals (unsent book) o) ≡ 0)

@@ -1,5 +1,5 @@
 -- What is proved of these definitions, whole: a record whose fields are the theorems. `proofs/Theorems` has its one element.
-use Rattle.std.specs.Prelude.{ℕ, ◌≤◌, false, List, [], ◌∷◌, ◌≡◌, length, take}
+use Rattle.std.specs.Prelude.{ℕ, ◌≤◌, false, List, [], ◌∷◌, ◌≡◌, length, take, Ok}
 use Rattle.bits.specs.Bits.{Octets}
 use Rattle.rulebook.specs.Ledger.{Holdings, Ledger, fresh}
 use Rattle.rulebook.specs.Record.{read_of, written_of, area_written}
@@ -18,18 +18,16 @@ use Rattle.rulebook.specs.Custody.{HeldByForm, HeldOfCalls}
 use Rattle.rulebook.specs.SentCycles.{AnswerRefusals, LeftUnfit, FixedStays, ConfirmedAsSent, DeclinedAsUnsent, OfferExact, DayFinishes}
 use Rattle.rulebook.specs.Desk.{Desk}
 use Rattle.rulebook.specs.declared.Order.{Order}
-use Rattle.rulebook.specs.declared.Read.{Read}
-use Rattle.rulebook.specs.declared.Written.{Written}
 
 pub record Theorems : Type 0 where
   -- RULES 2.11: the reader gives back what the writer wrote, and from what was read the writer makes the same bytes
-  pub write_read : (o : Order) (area : List ℕ) → written_of o area ≡ Written.Record → read_of (take 40 (area_written o area)) ≡ Read.Order o
+  pub write_read : (o : Order) (area : List ℕ) → written_of o area ≡ Ok tt → read_of (take 40 (area_written o area)) ≡ Ok o
   pub read_write :
-      (octets : List ℕ) (o : Order) (area : List ℕ) → Octets octets → read_of octets ≡ Read.Order o → 40 ≤ length area
-      → (written_of o area ≡ Written.Record) × (take 40 (area_written o area) ≡ octets)
+      (octets : List ℕ) (o : Order) (area : List ℕ) → Octets octets → read_of octets ≡ Ok o → 40 ≤ length area
+      → (written_of o area ≡ Ok tt) × (take 40 (area_written o area) ≡ octets)
   -- RULES A.1, of every such order
   pub first_bytes :
-      (o : Order) (area : List ℕ) → o.form ≡ 3 → o.minute ≡ 540 → written_of o area ≡ Written.Record → take 2 (area_written o area) ≡ 0x1A ∷ 0x1C ∷ []
+      (o : Order) (area : List ℕ) → o.form ≡ 3 → o.minute ≡ 540 → written_of o area ≡ Ok tt → take 2 (area_written o area) ≡ 0x1A ∷ 0x1C ∷ []
   -- RULES 7.0: a call answers with the first of its checks that applies
   pub checking_order : CheckingOrder
   -- RULES 9.4: the test on the trades finds whatever is short

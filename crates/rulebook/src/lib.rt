@@ -1,6 +1,9 @@
 // The types of the depository ledger. The definitions in specs/ speak of these under specs.declared.
 #![tactic(auto)]
 
+ghost use Rattle.std.specs.Prelude.{◌≡◌};
+ghost use Rattle.rulebook.specs.Answers.{number_of};
+
 // A count of shares.
 #[derive(Clone, Copy, PartialEq, Eq, PartialOrd, Ord)]
 pub struct Shares(pub u64);
@@ -51,18 +54,41 @@ pub struct Order {
     pub edition: u64,
 }
 
-// What the record reader answers.
-#[derive(Clone, Copy)]
-pub enum Read {
-    Order(Order),
-    Refused(u64),
+// Why a record or a call is refused, by the numbers of RULES 7.
+#[derive(Clone, Copy, PartialEq, Eq)]
+pub enum Refusal {
+    ShortArea = 1,
+    RecordLength,
+    NoForm,
+    UnusedField,
+    FieldRange,
+    WrongDay,
+    WrongCycle,
+    MinuteGoesBack,
+    OutsideWindow,
+    WrongSecurity,
+    WrongTypes,
+    WrongParties,
+    WrongDays,
+    WrongReference,
+    WrongCancel,
+    TooLittle,
+    OverCeiling,
+    NoSpace,
+    WrongRequest,
+    EndsTooSoon,
+    TooManyRequests,
+    AwaitsAnswer,
+    NothingSent,
+    CancelsSent,
 }
 
-// What the record writer answers.
-#[derive(Clone, Copy)]
-pub enum Written {
-    Record,
-    Refused(u64),
+impl From<Refusal> for u64 {
+    ghost from_gives = { λ refusal number. number ≡ number_of refusal };
+
+    fn from(refusal: Refusal) -> u64 {
+        refusal as u64
+    }
 }
 
 // What an accepted call answers with (RULES 1.8): rows, four counts of sides, and trades that a cycle leaves.
@@ -74,13 +100,6 @@ pub struct Counts {
     pub deleted: u64,
     pub suspended: u64,
     pub left: u64,
-}
-
-// What a call answers.
-#[derive(Clone, Copy)]
-pub enum Answer {
-    Accepted(Counts),
-    Refused(u64),
 }
 
 // The day (RULES 4): its number, whether it is open, its kind, how many cycles have run, the last minute, and whether a cycle is sent that nobody has

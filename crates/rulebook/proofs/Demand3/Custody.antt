@@ -1,6 +1,6 @@
 -- Held is deposits less withdrawals, those on paper among them, over any list of calls: an open request is the one that was asked for last under its
 -- member's reference. Assumes nothing.
-use Rattle.std.specs.Prelude.{if◌then◌else◌}
+use Rattle.std.specs.Prelude.{if◌then◌else◌, Ok}
 use mathlib.Core.Path.{◌≡◌, refl, sym, subst}
 use mathlib.Core.Bool.{Bool, true, false, ◌&&◌}
 use mathlib.Core.List.{List, [], ◌∷◌, ◌++◌}
@@ -18,7 +18,6 @@ use Rattle.rulebook.specs.AccountTypes.{is_outside}
 use Rattle.rulebook.specs.Calls.{Call, result_of, record_in, calls_on, book_after, Accepted, accepted_of, accepted_calls, sum, shares_of, deposits, last_asked, left_with, left_on_paper, withdrawals}
 use Rattle.rulebook.specs.Premise.{Premise}
 use Rattle.rulebook.specs.declared.Order.{Order}
-use Rattle.rulebook.specs.declared.Read.{Read}
 use Rattle.rulebook.specs.declared.Request.{Request}
 use Rattle.rulebook.proofs.ByCall.{accepted_call, by_answer}
 use Rattle.rulebook.proofs.Orders as Orders
@@ -108,7 +107,7 @@ module _ (s : ℕ) where
       × (held s after.holdings + (total (shares_of 4 s) calls + left_on_paper s earlier calls) ≡ held s b.holdings + total (shares_of 3 s) calls)
 
   order-keeps :
-      (b : Ledger) (o : Order) (bytes area : List ℕ) → read_of bytes ≡ Read.Order o → first (refusals b o) ≡ 0
+      (b : Ledger) (o : Order) (bytes area : List ℕ) → read_of bytes ≡ Ok o → first (refusals b o) ≡ 0
       → Keeps b (accepted_call b o area ∷ []) (put_minute o.minute (effect b o).after)
   unfolding onto left_on_paper put_minute put_day
   order-keeps b o bytes area e z earlier p t =

@@ -1,4 +1,5 @@
 -- Issued counts, cash and pledged accounts: what is kept is what came less what went, over any list of calls. Assumes nothing.
+use Rattle.std.specs.Prelude.{Ok}
 use mathlib.Core.Path.{◌≡◌, refl}
 use mathlib.Core.Bool.{Bool, true, false}
 use mathlib.Core.List.{List}
@@ -6,7 +7,6 @@ use Prim.Native.Nat.{ℕ, ◌+◌}
 use native.Mathlib.Omega.{arith}
 use lib.Dec.{T}
 use Rattle.rulebook.specs.declared.Order.{Order}
-use Rattle.rulebook.specs.declared.Read.{Read}
 use Rattle.plain.specs.Lists.{first}
 use Rattle.rulebook.specs.AccountTypes.{pledged_or_blocked}
 use Rattle.rulebook.specs.Record.{read_of}
@@ -33,7 +33,7 @@ module _
     → comes (accepted_call b o area) + keeps b.holdings ≡ goes (accepted_call b o area) + keeps (effect b o).after.holdings)
   where
     list_step :
-        (b : Ledger) (o : Order) (bytes area : List ℕ) → Premise b → read_of bytes ≡ Read.Order o → first (refusals b o) ≡ 0
+        (b : Ledger) (o : Order) (bytes area : List ℕ) → Premise b → read_of bytes ≡ Ok o → first (refusals b o) ≡ 0
         → Premise (put_minute o.minute (effect b o).after)
         × (comes (accepted_call b o area) + keeps b.holdings ≡ goes (accepted_call b o area) + keeps (put_minute o.minute (effect b o).after).holdings)
     unfolding put_minute put_day

@@ -1,5 +1,5 @@
 -- A declined cycle leaves everything as if it had not been sent, but that it has run. Assumes nothing.
-use Rattle.std.specs.Prelude.{if◌then◌else◌}
+use Rattle.std.specs.Prelude.{if◌then◌else◌, Ok, Err}
 use mathlib.Core.Path.{◌≡◌, refl, sym, ap, ◌∙◌}
 use mathlib.Core.Bool.{Bool, true, false, ◌&&◌, and-false}
 use mathlib.Core.List.{List, [], ◌∷◌, map}
@@ -23,7 +23,7 @@ use Rattle.rulebook.specs.Record.{read_of}
 use Rattle.rulebook.specs.Call.{Result, refused, put_minute, accepted as accepted_result, order_call, read_call, short_area, call_of}
 use Rattle.rulebook.specs.Calls.{Call, call, result_of, record_in, calls_on, book_after, accepted_of, accepted_calls}
 use Rattle.rulebook.specs.declared.Account.{Account}
-use Rattle.rulebook.specs.declared.Read.{Read}
+use Rattle.rulebook.specs.Answers.{Read}
 use Rattle.rulebook.specs.declared.Day.{Day}
 use Rattle.rulebook.specs.declared.Item.{Item}
 use Rattle.rulebook.specs.declared.Order.{Order}
@@ -174,11 +174,11 @@ Led b r x without = some answers_cycle (accepted_of x.answer r x.area) ≡ false
 
 module _ (b : Ledger) (p : Premise b) (s : b.day.sent ≡ true) where
   order-leads :
-      (o : Order) (area bytes : List ℕ) → read_of bytes ≡ Read.Order o → Led b (Read.Order o) (order_call b o area) (order_call (unsent b) o area)
+      (o : Order) (area bytes : List ℕ) → read_of bytes ≡ Ok o → Led b (Ok o) (order_call b o area) (order_call (unsent b) o area)
   unfolding order_call accepted_result refused accepted_of is_accepted put_minute put_day put_waiting
   order-leads o area bytes e = go (first (refusals b o) is 0) refl
     where
-      go : (t : Bool) → (first (refusals b o) is 0) ≡ t → Led b (Read.Order o) (order_call b o area) (order_call (unsent b) o area)
+      go : (t : Bool) → (first (refusals b o) is 0) ≡ t → Led b (Ok o) (order_call b o area) (order_call (unsent b) o area)
       go true q =
           let a = accepted b o bytes e (eqb-true _ 0 q) in
           simp q λ w.
@@ -188,8 +188,8 @@ module _ (b : Ledger) (p : Premise b) (s : b.day.sent ≡ true) where
 
   read_leads : (r : Read) (area bytes : List ℕ) → read_of bytes ≡ r → Led b r (read_call b r area) (read_call (unsent b) r area)
   unfolding read_call refused accepted_of is_accepted
-  read_leads (Read.Order o) area bytes e = order-leads o area bytes e
-  read_leads (Read.Refused n) area bytes e = λ w. refl
+  read_leads (Ok o) area bytes e = order-leads o area bytes e
+  read_leads (Err n) area bytes e = λ w. refl
 
   call_leads : (c : Call) → Led b (record_in c) (result_of b c) (result_of (unsent b) c)
   unfolding result_of record_in call_of refused accepted_of is_accepted

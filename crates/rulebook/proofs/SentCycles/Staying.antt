@@ -1,4 +1,5 @@
 -- What a sent cycle has fixed stays, over every list of calls in which none answers it. Assumes nothing.
+use Rattle.std.specs.Prelude.{Ok}
 use mathlib.Core.Path.{◌≡◌, refl, sym, ◌∙◌}
 use mathlib.Core.Bool.{true, false, false≢true}
 use mathlib.Core.List.{List, [], ◌∷◌}
@@ -16,7 +17,6 @@ use Rattle.rulebook.specs.Calls.{Call, result_of, record_in, calls_on, book_afte
 use Rattle.rulebook.specs.Premise.{Premise}
 use Rattle.rulebook.specs.SentCycles.{answers_cycle, FixedStays}
 use Rattle.rulebook.specs.declared.Order.{Order}
-use Rattle.rulebook.specs.declared.Read.{Read}
 use Rattle.rulebook.proofs.ByCall.{Effect, AllForms, accepted_call, not_read, by_form, by_answer}
 use Rattle.rulebook.proofs.Orders.{Accepted, accepted, opens-next, none_sent}
 use Rattle.rulebook.proofs.EveryCall.{call_premise}
@@ -57,7 +57,7 @@ abbrev CallKeeps : Ledger → List Made → Ledger → Type 0
 CallKeeps b calls after = Premise b → b.day.sent ≡ true → some answers_cycle calls ≡ false → Stays b after
 
 order-keeps :
-    (b : Ledger) (o : Order) (bytes area : List ℕ) → read_of bytes ≡ Read.Order o → first (refusals b o) ≡ 0
+    (b : Ledger) (o : Order) (bytes area : List ℕ) → read_of bytes ≡ Ok o → first (refusals b o) ≡ 0
     → CallKeeps b (accepted_call b o area ∷ []) (put_minute o.minute (effect b o).after)
 unfolding put_minute put_day effect
 order-keeps b o bytes area e z p s w =
