@@ -3,7 +3,7 @@ use Rattle.std.specs.Prelude.{if◌then◌else◌, ℕ, ◌+◌, ◌-◌, ◌*�
 use Rattle.rulebook.specs.declared.Order.{Order}
 use Rattle.cells.specs.declared.kind.Kind.TheVariants.{EmptyLine}
 use Rattle.cells.specs.Cells.{is_empty, tail_of}
-use Rattle.table.specs.Header.{no_place}
+use Rattle.table.specs.Header.{no_place, wrong}
 use Rattle.table.specs.Lines.{row_of, row_written, Imported, in_line}
 use Rattle.table.specs.Lines.Imported.{refused_as, orders}
 use Rattle.table.specs.declared.Checked.{Checked}
@@ -33,7 +33,7 @@ first_empty (Some empty) line = Some empty
 
 -- why an empty line is refused
 abbrev pub empty_line_at : ℕ → Refused
-empty_line_at line = in_line line (record { kind = EmptyLine; column = 0; place = no_place })
+empty_line_at line = in_line line (wrong EmptyLine 0 no_place)
 
 -- a line that is not empty: there must be no empty line just before it
 abbrev pub unless_empty : Option ℕ → Walked → Walked

@@ -15,8 +15,11 @@ abbrev pub Parsed : Type 0
 Parsed = Result (List ℕ) Wrong
 
 -- a kind of refusal; the column, counted from 1, or 0 where no single column is meant; the field's place, or `no_place` where no field is meant
+abbrev pub wrong : (kind : Kind) (column place : ℕ) → Wrong
+wrong kind column place = record { kind = kind; column = column; place = place }
+
 abbrev pub refused : {A : Type 0} → (kind : Kind) (column place : ℕ) → Result A Wrong
-refused kind column place = Err (record { kind = kind; column = column; place = place })
+refused kind column place = Err (wrong kind column place)
 
 -- why a column's name names no field
 unfoldable pub name_kind : List ℕ → Kind

@@ -9,7 +9,7 @@ use Rattle.field_rules.specs.Fields.{refused_place}
 use Rattle.cells.specs.declared.kind.Kind.TheVariants.{TooFewCells, TooManyCells, EmptyCell, UnknownForm, EmptyLine, Record}
 use Rattle.cells.specs.Cells.{cells, trim, is_empty, strange, number_in}
 use Rattle.cells.specs.declared.kind.Kind.{Kind}
-use Rattle.table.specs.Header.{no_place, Parsed, refused}
+use Rattle.table.specs.Header.{no_place, Parsed, wrong, refused}
 use Rattle.table.specs.declared.Wrong.{Wrong}
 use Rattle.table.specs.declared.Refused.{Refused}
 
@@ -89,7 +89,7 @@ abbrev pub in_line : ℕ → Wrong → Refused
 in_line line wrong = record { line = line; wrong = wrong }
 
 abbrev pub refused_at : (kind : Kind) (line column place : ℕ) → Imported
-refused_at kind line column place = refused_as (in_line line (record { kind = kind; column = column; place = place }))
+refused_at kind line column place = refused_as (in_line line (wrong kind column place))
 
 -- an order before the others; where a later line is refused, nothing
 unfoldable pub more : Order → Imported → Imported
