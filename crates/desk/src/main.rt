@@ -7,7 +7,7 @@ ghost use Rattle.book.specs.Meaning.{ledger_of};
 ghost use Rattle.book.specs.Stored.{Kept};
 ghost use Rattle.desk.specs.Printed.{BLOCK, OUT, BlockPrinted, CustodyPrinted, ReadAndCalled, FileRead};
 
-use streams::Streams;
+use streams::{Follows, Streams, Told};
 
 // Bytes of a block of 1,024 records, whose lines fit the output buffer.
 const BLOCK: usize = 40960;
@@ -18,7 +18,12 @@ const OUT: usize = 65536;
 // More records than any input has.
 const LAST: u64 = 1 << 63;
 
-// Prints the answer lines of a block, in one piece; false where the output takes no more.
+// Prints lines to standard output.
+fn print(streams: Streams, lines: &[u8]) -> Result<(), Told> {
+    streams::print(streams, lines, b"desk: standard output cannot be written")
+}
+
+// Prints the answer lines of a block, in one piece.
 fn print_answers(
     streams: Streams,
     out: &mut [u8],
@@ -26,34 +31,26 @@ fn print_answers(
     book: &mut [u64],
     block: &[u8],
     area: &mut [u8],
-) -> bool
+) -> Result<(), Told>
     requires { Kept book.old × (length out.old ≡ OUT) × (length block.now ≤ BLOCK) × (number.old + 1024 < 2 ^ 64) }
     ensures { BlockPrinted block.now number.old book.old area.old out.old number.new
         book.new area.new out.new }
 {
     let end = printing::put_block(out, number, book, block, area);
-    streams::print(
-        streams,
-        &out[..end],
-        b"desk: standard output cannot be written",
-    )
+    print(streams, &out[..end])
 }
 
 // Prints the custody lines of a book.
-fn print_custody(streams: Streams, out: &mut [u8], book: &[u64])
+fn print_custody(streams: Streams, out: &mut [u8], book: &[u64]) -> Result<(), Told>
     requires { Kept book.now × (length out.old ≡ OUT) }
     ensures { CustodyPrinted (ledger_of book.now) out.old out.new }
 {
     let end = printing::put_custody(out, 0, book);
-    streams::print(
-        streams,
-        &out[..end],
-        b"desk: standard output cannot be written",
-    );
+    print(streams, &out[..end])
 }
 
-// Reads a block, calls its records and prints what they answer; true where more may follow. Where the input ends, the custody lines follow; after a
-// read that failed only the whole records before it are called.
+// Reads a block, calls its records and prints what they answer; tells what follows it. Where the input ends, the custody lines follow; after a read
+// that failed only the whole records before it are called.
 fn print_block(
     streams: Streams,
     book: &mut [u64],
@@ -61,20 +58,17 @@ fn print_block(
     input: &mut [u8],
     out: &mut [u8],
     number: &mut u64,
-) -> bool
+) -> Result<Follows, Told>
     requires { Kept book.old × (length input.old ≡ BLOCK) × (length out.old ≡ OUT) × (number.old + 1024 < 2 ^ 64) }
     ensures { ReadAndCalled input.new result number.old book.old area.old number.new book.new
         area.new }
 {
     let filled = streams::fill_records(streams, input, b"desk: standard input cannot be read");
-    let size = filled.size;
-    if !print_answers(streams, out, number, book, &input[..size], area) {
-        return false;
+    print_answers(streams, out, number, book, &input[..filled.size], area)?;
+    if filled.follows == Follows::Ended {
+        print_custody(streams, out, book)?;
     }
-    if filled.ended {
-        print_custody(streams, out, book);
-    }
-    filled.more
+    Ok(filled.follows)
 }
 
 // Block after block, from the record of that number on.
@@ -90,31 +84,14 @@ fn run(
     ensures { FileRead number.old book.old area.old number.new book.new area.new }
 {
     while *number < LAST {
-        if !print_block(streams, book, area, input, out, number) {
+        let Ok(Follows::More) = print_block(streams, book, area, input, out, number) else {
             return;
-        }
+        };
     }
 }
 
-// Zeros for a block, and for its lines. The contracts give only the lengths.
-fn input_buffer() -> [u8; BLOCK]
-    ensures { length result ≡ BLOCK }
-{
-    [0; BLOCK]
-}
-
-fn output_buffer() -> [u8; OUT]
-    ensures { length result ≡ OUT }
-{
-    [0; OUT]
-}
-
 fn main(rt: HostRuntime) {
-    let streams = Streams {
-        input: rt.stdin(),
-        output: rt.stdout(),
-        error: rt.stderr(),
-    };
+    let streams = Streams::new(&rt);
     if streams::has_word(&rt, 1) {
         streams::tell(
             streams.error,
@@ -124,8 +101,8 @@ fn main(rt: HostRuntime) {
     }
     let mut book = [0u64; ledger::BOOK_WORDS];
     let mut area = [0u8; 4096];
-    let mut input = input_buffer();
-    let mut out = output_buffer();
+    let mut input = streams::zeros::<BLOCK>();
+    let mut out = streams::zeros::<OUT>();
     let mut number: u64 = 1;
     if ledger::fresh(&mut book) {
         run(

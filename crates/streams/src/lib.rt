@@ -1,7 +1,7 @@
 // Standard input, output and error, as the programs use them. A complaint is what a program says, before the system's reason, of what it could not do.
 #![tactic(auto)]
 
-ghost use Rattle.std.specs.Prelude.{length};
+ghost use Rattle.std.specs.Prelude.{◌≡◌, length, replicate};
 ghost use Rattle.streams.specs.Input.{Within, RecordsWithin};
 
 use std::env::FillError;
@@ -16,44 +16,68 @@ pub struct Streams {
     pub error: Stderr,
 }
 
-// What a filling of a buffer brought: how many bytes; whether the buffer is full, so that more may follow; whether the input ended. Where neither, a
-// read has failed.
+impl Streams {
+    pub fn new(rt: &HostRuntime) -> Streams {
+        Streams {
+            input: rt.stdin(),
+            output: rt.stdout(),
+            error: rt.stderr(),
+        }
+    }
+}
+
+// What follows the bytes of a filling: more may, since the buffer is full; nothing, since the input ended; or what a read that failed kept back.
+#[derive(Clone, Copy, Debug, PartialEq, Eq)]
+pub enum Follows {
+    More,
+    Ended,
+    Failed,
+}
+
+// What a filling of a buffer brought: how many bytes, and what follows them.
 #[derive(Clone, Copy)]
 pub struct Filled {
     pub size: usize,
-    pub more: bool,
-    pub ended: bool,
+    pub follows: Follows,
+}
+
+// Something failed, and was told on standard error.
+#[derive(Clone, Copy, Debug)]
+pub struct Told;
+
+// Zeros, as a buffer.
+pub fn zeros<const N: usize>() -> [u8; N]
+    ensures { result ≡ replicate N 0 }
+{
+    [0; N]
 }
 
 // Fills a buffer from a reader. A read that fails is told.
 pub fn fill<R: Read>(from: &mut R, input: &mut [u8], told: Stderr, complaint: &[u8]) -> Filled
     ensures { Within result (length input.old) }
 {
-    let mut done: usize = 0;
-    while done < input.len() {
-        match from.read(&mut input[done..]) {
+    let mut size: usize = 0;
+    while size < input.len() {
+        match from.read(&mut input[size..]) {
             Ok(0) => {
                 return Filled {
-                    size: done,
-                    more: false,
-                    ended: true,
+                    size: size,
+                    follows: Follows::Ended,
                 };
             }
-            Ok(n) => done += n,
+            Ok(n) => size += n,
             Err(reason) => {
                 fail(told, complaint, reason);
                 return Filled {
-                    size: done,
-                    more: false,
-                    ended: false,
+                    size: size,
+                    follows: Follows::Failed,
                 };
             }
         }
     }
     Filled {
-        size: done,
-        more: true,
-        ended: false,
+        size: size,
+        follows: Follows::More,
     }
 }
 
@@ -63,26 +87,22 @@ pub fn fill_records(streams: Streams, input: &mut [u8], complaint: &[u8]) -> Fil
 {
     let mut from = streams.input;
     let filled = fill(&mut from, input, streams.error, complaint);
-    if filled.more {
-        return filled;
-    }
-    if filled.ended {
-        return filled;
-    }
-    Filled {
-        size: filled.size - filled.size % 40,
-        more: false,
-        ended: false,
+    match filled.follows {
+        Follows::Failed => Filled {
+            size: filled.size - filled.size % 40,
+            follows: Follows::Failed,
+        },
+        _ => filled,
     }
 }
 
-// Writes bytes to standard output; false where it takes no more, which is told.
-pub fn print(streams: Streams, bytes: &[u8], complaint: &[u8]) -> bool {
+// Writes bytes to standard output. Where it takes no more, that is told.
+pub fn print(streams: Streams, bytes: &[u8], complaint: &[u8]) -> Result<(), Told> {
     match streams.output.write_all(bytes) {
-        Ok(()) => true,
+        Ok(()) => Ok(()),
         Err(reason) => {
             fail(streams.error, complaint, reason);
-            false
+            Err(Told)
         }
     }
 }

@@ -1,25 +1,36 @@
 -- Whatever was printed, the bytes that were read are called.
-use Rattle.std.proofs.Common.{◌∙◌, true≢false, sym}
+use Rattle.std.proofs.Common.{◌∙◌}
+use Rattle.std.proofs.lemmas.Bool.{false≢true}
 use Rattle.printing.proofs.Blocks.{block_called}
 use Rattle.desk.proofs.print_block.Goals as goal
 
-pub returns-then-not-print_answers : goal.returns-then-not-print_answers
-returns-then-not-print_answers c = record {
+pub returns-in_err-print_answers : goal.returns-in_err-print_answers
+returns-in_err-print_answers c = record {
   size = c.fill_records-filled.result.size;
   called = block_called c.print_answers.ensures.put;
-  whole = λ e. absurd (true≢false (sym e));
+  whole = λ e. absurd (false≢true (rw e at c.from_residual.ensures.0));
 }
 
-pub returns-then-filled : goal.returns-then-filled
-returns-then-filled c = record {
+pub print_custody-requires : goal.print_custody-requires
+print_custody-requires c = (c.print_answers.ensures.put.answered.kept, c.print_answers.auto.out ∙ c.requires.2)
+
+pub returns-in_err-print_custody : goal.returns-in_err-print_custody
+returns-in_err-print_custody c = record {
   size = c.fill_records-filled.result.size;
   called = block_called c.print_answers.ensures.put;
-  whole = λ e. c.fill_records-filled.ensures.within.full e ∙ c.requires.1;
+  whole = λ e. absurd (false≢true (rw e at c.from_residual-in_err-print_custody.ensures.0));
 }
 
-pub returns-else-filled : goal.returns-else-filled
-returns-else-filled c = record {
+pub returns-in_ok-print_custody : goal.returns-in_ok-print_custody
+returns-in_ok-print_custody c = record {
   size = c.fill_records-filled.result.size;
   called = block_called c.print_answers.ensures.put;
-  whole = λ e. c.fill_records-filled.ensures.within.full e ∙ c.requires.1;
+  whole = λ e. c.fill_records-filled.ensures.within.full (cc) ∙ c.requires.1;
+}
+
+pub returns-else-eq : goal.returns-else-eq
+returns-else-eq c = record {
+  size = c.fill_records-filled.result.size;
+  called = block_called c.print_answers.ensures.put;
+  whole = λ e. c.fill_records-filled.ensures.within.full (cc) ∙ c.requires.1;
 }

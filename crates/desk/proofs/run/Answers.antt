@@ -9,13 +9,16 @@ use Rattle.desk.proofs.run.Goals as goal
 pub loop-number-init : goal.loop-number-init
 loop-number-init c = (whole_none _ _ _ c.requires.0, refl, refl, refl, refl)
 
-pub returns-then-not-print_block : goal.returns-then-not-print_block
-returns-then-not-print_block c = block_more c.loop-number.invariant.0 c.print_block.ensures.called
+pub returns-in_default : goal.returns-in_default
+returns-in_default c = block_more c.loop-number.invariant.0 c.print_block.ensures.called
+
+pub returns-in_default-2 : goal.returns-in_default-2
+returns-in_default-2 c = block_more c.loop-number.invariant.0 c.print_block.ensures.called
 
 pub loop-number-smaller : goal.loop-number-smaller
 loop-number-smaller c =
     let printed = c.print_block in
-    let size = printed.ensures.whole c.if-not-print_block.false in
+    let size = printed.ensures.whole (c.in-Ok-More.is ∙ rw c.in-Ok-More.field-0-is) in
     let full : length (take printed.ensures.size printed.new.input) ≡ BLOCK =
     length-take-le _ _ (omega (arith, size, printed.auto.input, c.loop-number.invariant.3, c.requires.1)) ∙ size in
     omega (
@@ -30,7 +33,7 @@ pub loop-number-preserved : goal.loop-number-preserved
 loop-number-preserved c =
     let printed = c.print_block in
     let before = c.loop-number.invariant in
-    let size = printed.ensures.whole c.if-not-print_block.false in
+    let size = printed.ensures.whole (c.in-Ok-More.is ∙ rw c.in-Ok-More.field-0-is) in
     let full : length (take printed.ensures.size printed.new.input) ≡ BLOCK =
     length-take-le _ _ (omega (arith, size, printed.auto.input, before.3, c.requires.1)) ∙ size in (
       whole_more before.0 printed.ensures.called full,

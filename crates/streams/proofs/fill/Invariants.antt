@@ -2,8 +2,8 @@
 use Rattle.std.proofs.Common.{length, ◌-◌, ◌≡◌, ◌≤◌}
 use Rattle.streams.proofs.fill.Given as goal
 
-abbrev pub invariant-loop-done : goal.invariant-loop-done
-invariant-loop-done g l = (l.done ≤ length l.fn.input) × (length l.input ≡ length l.fn.input)
+abbrev pub invariant-loop-size : goal.invariant-loop-size
+invariant-loop-size g l = (l.size ≤ length l.fn.input) × (length l.input ≡ length l.fn.input)
 
-abbrev pub decreases-loop-done : goal.decreases-loop-done
-decreases-loop-done g l = length l.fn.input - l.done
+abbrev pub decreases-loop-size : goal.decreases-loop-size
+decreases-loop-size g l = length l.fn.input - l.size
