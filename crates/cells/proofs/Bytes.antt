@@ -1,21 +1,23 @@
 -- A walk over the bytes of a cell, one place after the other: over blanks, over digits. Assumes nothing.
-use Rattle.std.specs.Prelude.{if◌then◌else◌}
+use Rattle.std.specs.Prelude.{if◌then◌else◌, nat_eq, Result, Ok, Err}
+use Rattle.std.specs.List.{list_all, list_any, position_or_len}
+use Rattle.std.specs.Option.{unwrap_or}
+use Rattle.std.proofs.Common.{Option, Some, None, reverse, length-append, one-add}
+use Rattle.std.proofs.lemmas.List.{length-reverse, reverse-reverse, take-append-le}
 use Prim.Native.Nat.{ℕ, suc, ◌+◌, ◌-◌, ◌*◌, ◌^◌, ◌≤◌, ◌<◌}
 use native.Mathlib.Omega.{arith}
-use mathlib.Core.Bool.{Bool, true, false, not}
-use mathlib.Core.List.{List, [], ◌∷◌, ◌++◌}
+use mathlib.Core.Bool.{Bool, true, false, cond, not, ◌&&◌}
+use mathlib.Core.List.{List, [], ◌∷◌, ◌++◌, reverse-cons}
 use mathlib.Core.Path.{◌≡◌, refl, sym, ap, ◌∙◌}
-use borrow.Author.Tests.{eq-eqb, ne_eqb, eqb-true, eqb-false, lt-ltb, le-ltb}
-use native.Mathlib.Decide.{ℕ_discrete}
-use lib.Dec.{eqb, ltb, leb-suc-suc}
+use borrow.Author.Tests.{eq-eqb, ne_eqb, eqb-true, eqb-false, lt-ltb, le-ltb, ltb-false}
+use lib.Dec.{eqb, ltb}
 use lib.ListN.{length, get_or, take, drop, length-drop, drop_of_length-le}
-use Rattle.plain.specs.Lists.{◌below◌, ◌one_of◌, within}
-use Rattle.text.specs.Parts.{up_to}
-use lib.Seq.{take-suc, take_all}
-use Rattle.cells.specs.Kinds.{too_large, quoted}
-use Rattle.text.proofs.Cutting.{here, to_mark}
+use Rattle.plain.specs.Lists.{◌one_of◌, within}
+use lib.Seq.{take_all}
+use Rattle.text.proofs.Cutting.{here}
 use Rattle.cells.specs.Cells.{quote, blank, front, before, back, is_empty, strange, read_on}
-use Rattle.cells.specs.declared.Number.TheVariants.{Value, Refused}
+use Rattle.cells.specs.declared.kind.Kind.{Kind}
+use Rattle.cells.specs.declared.kind.Kind.TheVariants.{TooLarge, Quoted}
 
 -- a part that reaches to the end
 pub rest_all : (i : ℕ) (l : List ℕ) → take (length l - i) (drop i l) ≡ drop i l
@@ -23,18 +25,34 @@ rest_all i l = take_all (length l - i) (drop i l) (omega (arith, length-drop i l
 
 -- ---- over blanks
 
-module _ (l : List ℕ) (i : ℕ) (r : List ℕ) (e : front (drop i l) ≡ r) where
-  pub front-stop : i < length l → blank (get_or l i 0) ≡ false → drop i l ≡ r
-  unfolding front
-  front-stop h b = here l i h ∙ sym (ap front (here l i h) ∙ simp b) ∙ e
+-- how many blanks stand before the first byte that is none
+abbrev text_at : List ℕ → ℕ
+text_at l = position_or_len (λ b. not (blank b)) l
 
-  pub front-on : i < length l → blank (get_or l i 0) ≡ true → front (drop (i + 1) l) ≡ r
-  unfolding front
-  front-on h b = sym (ap front (here l i h) ∙ simp b) ∙ e
+front-drop : (l : List ℕ) → (text_at l ≤ length l) × (drop (text_at l) l ≡ front l)
+unfolding front
+front-drop [] = (omega arith, refl)
+front-drop (b ∷ l) = go (blank b) (front-drop l)
+  where
+    go : (t : Bool) → (text_at l ≤ length l) × (drop (text_at l) l ≡ front l)
+        → (cond (not (not t)) (1 + text_at l) 0 ≤ suc (length l))
+        × (drop (cond (not (not t)) (1 + text_at l) 0) (b ∷ l) ≡ (if t then front l else b ∷ l))
+    go true more = (omega (arith, more.0), rw one-add more.1)
+    go false more = (omega arith, refl)
 
-  pub front-end : length l ≤ i → drop i l ≡ r
-  unfolding front
-  front-end h = drop_of_length-le l h ∙ sym (ap front (drop_of_length-le l h)) ∙ e
+-- where `position` answers it
+abbrev pub Found : List ℕ → Option ℕ → Type 0
+Found l r = r ≡ cond (ltb (text_at l) (length l)) (Some (text_at l)) None
+
+found_at : (l : List ℕ) (r : Option ℕ) {n : ℕ} → Found l r → n ≡ unwrap_or r (length l) → n ≡ text_at l
+found_at l r {n} e f = go (ltb (text_at l) (length l)) refl (f ∙ ap (λ (r : Option ℕ). unwrap_or r (length l)) e)
+  where
+    go : (t : Bool) → ltb (text_at l) (length l) ≡ t → n ≡ unwrap_or (cond t (Some (text_at l)) None) (length l) → n ≡ text_at l
+    go true g e = e
+    go false g e = let most : length l ≤ text_at l = ltb-false _ _ g in omega (arith, (front-drop l).0)
+
+pub past_blanks : (l : List ℕ) (r : Option ℕ) {n : ℕ} → Found l r → n ≡ unwrap_or r (length l) → (n ≤ length l) × (drop n l ≡ front l)
+past_blanks l r e f = rw (found_at l r e f) (front-drop l)
 
 back-snoc : (l : List ℕ) (b : ℕ) → back (l ++ (b ∷ [])) ≡ (if blank b then back l else l ++ (b ∷ []))
 unfolding back
@@ -46,60 +64,80 @@ back-snoc (c ∷ l) b = ap (before c) (back-snoc l b) ∙ go (blank b) l
     go false [] = unfold before in refl
     go false (d ∷ l) = unfold before in refl
 
--- a walk from the end
-module _ (l : List ℕ) (n : ℕ) (r : List ℕ) (e : back (take n l) ≡ r) where
-  pub back_end : n ≤ 0 → take n l ≡ r
-  unfolding back
-  back_end h = let z : n ≡ 0 = omega arith in rw z (rw z at e)
+-- the blanks behind are those before it read backwards
+front-snoc : (l : List ℕ) (b : ℕ) → blank b ≡ false → length (front (b ∷ l)) ≡ suc (length l)
+unfolding front
+front-snoc l b e = simp e
 
-  module _ (p : 0 < n) (h : n ≤ length l) where
-    last : take n l ≡ take (n - 1) l ++ (get_or l (n - 1) 0 ∷ [])
-    last = let k : n ≡ suc (n - 1) = omega arith in ap (λ (m : ℕ). take m l) k ∙ take-suc l (n - 1) 0 (omega arith)
+back-reverse : (l : List ℕ) → back (reverse l) ≡ take (length l - text_at l) (reverse l)
+unfolding back
+back-reverse [] = refl
+back-reverse (b ∷ l) = rw (reverse-cons b l) (back-snoc (reverse l) b ∙ go (blank b) (back-reverse l))
+  where
+    go : (t : Bool) → back (reverse l) ≡ take (length l - text_at l) (reverse l)
+        → (if t then back (reverse l) else reverse l ++ (b ∷ []))
+        ≡ take (suc (length l) - cond (not (not t)) (1 + text_at l) 0) (reverse l ++ (b ∷ []))
+    go true more =
+        let n : suc (length l) - (1 + text_at l) ≡ length l - text_at l = omega arith in
+        rw n (more ∙ sym (take-append-le _ (reverse l) (b ∷ []) (omega (arith, length-reverse l))))
+    go false more = sym (take_all _ _ (omega (arith, length-append (reverse l) (b ∷ []), length-reverse l)))
 
-    pub back-stop : blank (get_or l (n - 1) 0) ≡ false → take n l ≡ r
-    back-stop b = last ∙ sym (ap back last ∙ back-snoc (take (n - 1) l) (get_or l (n - 1) 0) ∙ simp b) ∙ e
-
-    pub back_on : blank (get_or l (n - 1) 0) ≡ true → back (take (n - 1) l) ≡ r
-    back_on b = sym (ap back last ∙ back-snoc (take (n - 1) l) (get_or l (n - 1) 0) ∙ simp b) ∙ e
+pub behind_blanks : (l : List ℕ) (r : Option ℕ) {n : ℕ} → Found (reverse l) r → n ≡ unwrap_or r (length l)
+    → (n ≤ length l) × (take (length l - n) l ≡ back l)
+behind_blanks l r {n} e f =
+    let same : n ≡ text_at (reverse l) = found_at (reverse l) r e (rw (length-reverse l) f) in
+    let less : text_at (reverse l) ≤ length l = omega (arith, (front-drop (reverse l)).0, length-reverse l) in
+    rw same (less, sym (rw (reverse-reverse l, length-reverse l) at (back-reverse (reverse l))))
 
 -- ---- over digits
 
--- what is left to read at a byte
-pub next_byte : (kind n : ℕ) (l : List ℕ) (i b : ℕ) → b ≡ get_or l i 0 → i < length l → read_on kind n (drop i l)
-    ≡ (if not (within 48 57 b) then Refused kind
-    else if n * 10 + (b - 48) below 2 ^ 64 then read_on kind (n * 10 + (b - 48)) (drop (i + 1) l)
-    else Refused too_large)
-unfolding read_on
-next_byte kind n l i b e h = rw e (ap (read_on kind n) (here l i h))
+-- the number of a text that is read from one of its bytes on
+module _ (kind : Kind) (n : ℕ) (l : List ℕ) (i : ℕ) {r : Result ℕ Kind} (e : r ≡ read_on kind n (drop i l)) where
+  at_byte : i < length l → r ≡ read_on kind n (get_or l i 0 ∷ drop (i + 1) l)
+  at_byte h = e ∙ ap (read_on kind n) (here l i h)
 
-pub all_read : (kind n : ℕ) (l : List ℕ) (i : ℕ) → length l ≤ i → read_on kind n (drop i l) ≡ Value n
-unfolding read_on
-all_read kind n l i h = ap (read_on kind n) (drop_of_length-le l h)
+  pub no_digit : i < length l → within 48 57 (get_or l i 0) ≡ false → Err kind ≡ r
+  unfolding read_on
+  no_digit h d = sym (at_byte h ∙ simp d)
+
+  module _ (h : i < length l) (d : within 48 57 (get_or l i 0) ≡ true) where
+    pub too_much : 2 ^ 64 ≤ n * 10 + (get_or l i 0 - 48) → Err TooLarge ≡ r
+    unfolding read_on
+    too_much large = sym (at_byte h ∙ simp (d, le-ltb _ _ large))
+
+    pub digit_on : n * 10 + (get_or l i 0 - 48) < 2 ^ 64 → r ≡ read_on kind (n * 10 + (get_or l i 0 - 48)) (drop (i + 1) l)
+    unfolding read_on
+    digit_on small = at_byte h ∙ simp (d, lt-ltb _ _ small)
+
+  pub all_read : length l ≤ i → Ok n ≡ r
+  unfolding read_on
+  all_read h = sym (e ∙ ap (read_on kind n) (drop_of_length-le l h))
 
 -- ---- nothing but blanks, and a quote somewhere
 
-pub all-blank : (line : List ℕ) (n : ℕ) → n ≤ length line → drop n line ≡ front line → eqb n (length line) ≡ is_empty line
-unfolding is_empty
-all-blank line n h e = rw (← e, length-drop n line) (go (ℕ_discrete n (length line)))
+pub all-blank : (line : List ℕ) → list_all blank line ≡ is_empty line
+unfolding is_empty front
+all-blank [] = refl
+all-blank (b ∷ line) = go (blank b) (all-blank line)
   where
-    go : Dec (n ≡ length line) → eqb n (length line) ≡ eqb (length line - n) 0
-    go (yes s) = eq-eqb n (length line) s ∙ sym (eq-eqb (length line - n) 0 (omega arith))
-    go (no d) = ne_eqb n (length line) d ∙ sym (ne_eqb (length line - n) 0 (λ z. d (omega arith)))
+    go : (t : Bool) → list_all blank line ≡ is_empty line → (t && list_all blank line) ≡ eqb (length (if t then front line else b ∷ line)) 0
+    go true more = more
+    go false more = sym (ne_eqb (suc (length line)) 0 (λ z. omega arith))
 
-has-mark : (mark : ℕ) (l : List ℕ) → mark one_of l ≡ ltb (up_to mark l) (length l)
-has-mark mark =
-    to_mark mark (λ l n. mark one_of l ≡ ltb n (length l)) refl
-    (λ b l e. simp (eq-eqb mark b (sym (eqb-true b mark e)), lt-ltb 0 (suc (length l)) (omega arith)))
-    (λ b l e more. simp (ne_eqb mark b (λ s. eqb-false b mark e (sym s))) (more ∙ sym (leb-suc-suc (suc (up_to mark l)) (length l))))
+has-quote : (l : List ℕ) → list_any (λ b. nat_eq b quote) l ≡ (quote one_of l)
+has-quote [] = refl
+has-quote (b ∷ l) = go (eqb quote b) refl (has-quote l)
+  where
+    go : (t : Bool) → eqb quote b ≡ t → list_any (λ b. nat_eq b quote) l ≡ (quote one_of l)
+        → list_any (λ b. nat_eq b quote) (b ∷ l) ≡ (quote one_of (b ∷ l))
+    go true e more = simp (e, eq-eqb b quote (sym (eqb-true quote b e)))
+    go false e more = simp (e, ne_eqb b quote (λ s. eqb-false quote b e (sym s))) more
 
-module _ (kind : ℕ) (l : List ℕ) (end : ℕ) (e : end ≡ 0 + up_to quote (drop 0 l)) where
-  reaches : end ≡ up_to quote l
-  reaches = e ∙ omega arith
-
-  pub with_quote : end < length l → quoted ≡ strange kind l
+module _ (kind : Kind) (l : List ℕ) where
+  pub with_quote : list_any (λ b. nat_eq b quote) l ≡ true → Quoted ≡ strange kind l
   unfolding strange
-  with_quote h = simp (has-mark quote l ∙ lt-ltb (up_to quote l) (length l) (omega (arith, reaches)))
+  with_quote h = simp (sym (has-quote l) ∙ h)
 
-  pub no_quote : length l ≤ end → kind ≡ strange kind l
+  pub no_quote : list_any (λ b. nat_eq b quote) l ≡ false → kind ≡ strange kind l
   unfolding strange
-  no_quote h = simp (has-mark quote l ∙ le-ltb (up_to quote l) (length l) (omega (arith, reaches)))
+  no_quote h = simp (sym (has-quote l) ∙ h)

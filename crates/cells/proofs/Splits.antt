@@ -1,14 +1,18 @@
 -- A block's lines, one after the other. Assumes nothing.
+use Rattle.std.specs.Prelude.{if◌then◌else◌, nat_eq, cond}
+use Rattle.std.specs.List.{slice_split, onto_first}
 use Prim.Native.Nat.{ℕ, suc, ◌+◌, ◌-◌, ◌≤◌, ◌<◌}
 use native.Mathlib.Omega.{arith}
+use mathlib.Core.Bool.{Bool, true, false}
 use mathlib.Core.List.{List, [], ◌∷◌}
 use mathlib.Core.Path.{◌≡◌, refl, ap, ◌∙◌}
 use borrow.Author.Tests.{lt-ltb, le-ltb}
 use lib.ListN.{length, take, drop, length-drop, drop_of_length-le}
 use lib.Seq.{drop-drop}
-use Rattle.text.specs.Parts.{line_feed, up_to}
+use lib.Dec.{eqb}
+use Rattle.text.specs.Parts.{line_feed, up_to, joined, split}
 use Rattle.text.proofs.Cutting.{to_mark}
-use Rattle.cells.specs.Cells.{onto, whole_lines, tail_of}
+use Rattle.cells.specs.Cells.{comma, cells, onto, whole_lines, tail_of}
 
 pub whole-last : (l : List ℕ) → length l ≤ up_to line_feed l → whole_lines l ≡ []
 unfolding whole_lines onto
@@ -68,3 +72,21 @@ module _ (block : List ℕ) (at end : ℕ) (e : end ≡ at + up_to line_feed (dr
 pub lines_none : (block : List ℕ) (at : ℕ) → length block ≤ at → whole_lines (drop at block) ≡ []
 unfolding whole_lines
 lines_none block at h = rw (drop_of_length-le block h)
+
+-- ---- a line's cells
+
+-- as the library cuts them
+pub cells-split : (line : List ℕ) → slice_split (λ b. nat_eq b comma) line ≡ cells line
+unfolding split joined
+cells-split [] = refl
+cells-split (b ∷ line) = go (eqb b comma) (cells-split line)
+  where
+    onto_joined : (parts : List (List ℕ)) → onto_first b parts ≡ joined b parts
+    onto_joined [] = refl
+    onto_joined (part ∷ parts) = refl
+
+    go : (t : Bool) → slice_split (λ b. nat_eq b comma) line ≡ cells line
+        → (cond t ([] ∷ slice_split (λ b. nat_eq b comma) line) (onto_first b (slice_split (λ b. nat_eq b comma) line)))
+        ≡ (if t then [] ∷ cells line else joined b (cells line))
+    go true more = ap (λ (l : List (List ℕ)). [] ∷ l) more
+    go false more = onto_joined _ ∙ ap (joined b) more

@@ -1,10 +1,9 @@
 -- Bytes to lines, a line to cells, a cell to a number.
-use Rattle.std.specs.Prelude.{if◌then◌else◌, ℕ, ◌+◌, ◌-◌, ◌*◌, ◌^◌, Bool, not, ◌||◌, List, [], ◌∷◌, length}
+use Rattle.std.specs.Prelude.{if◌then◌else◌, ℕ, ◌+◌, ◌-◌, ◌*◌, ◌^◌, Bool, not, ◌||◌, List, [], ◌∷◌, length, Result, Ok, Err}
 use Rattle.plain.specs.Lists.{◌is◌, ◌below◌, ◌one_of◌, within}
 use Rattle.text.specs.Parts.{line_feed, up_to, joined, split}
-use Rattle.cells.specs.Kinds.{empty_cell, not_aNumber, too_large, quoted}
-use Rattle.cells.specs.declared.Number.{Number}
-use Rattle.cells.specs.declared.Number.TheVariants.{Value, Refused}
+use Rattle.cells.specs.declared.kind.Kind.{Kind}
+use Rattle.cells.specs.declared.kind.Kind.TheVariants.{EmptyCell, NotANumber, TooLarge, Quoted}
 
 abbrev pub comma : ℕ
 comma = 44
@@ -78,17 +77,17 @@ abbrev pub cells : List ℕ → List (List ℕ)
 cells line = split comma line
 
 -- the kind of a cell that cannot be read: a quote in it is told first
-unfoldable pub strange : (kind : ℕ) → List ℕ → ℕ
-strange kind text = if quote one_of text then quoted else kind
+unfoldable pub strange : (kind : Kind) → List ℕ → Kind
+strange kind text = if quote one_of text then Quoted else kind
 
 -- digits after a number that was read before them; the kind is that of a byte that is no digit
-unfoldable pub read_on : (kind : ℕ) → ℕ → List ℕ → Number
-read_on kind n [] = Value n
+unfoldable pub read_on : (kind : Kind) → ℕ → List ℕ → Result ℕ Kind
+read_on kind n [] = Ok n
 read_on kind n (b ∷ rest) =
     let next = n * 10 + (b - 48) in
     let others = read_on kind next rest in
-    if not (within 48 57 b) then Refused kind else if next below 2 ^ 64 then others else Refused too_large
+    if not (within 48 57 b) then Err kind else if next below 2 ^ 64 then others else Err TooLarge
 
 -- the number in a text: plain decimal digits, at least one
-unfoldable pub number_in : List ℕ → Number
-number_in text = let number = read_on (strange not_aNumber text) 0 text in if length text is 0 then Refused empty_cell else number
+unfoldable pub number_in : List ℕ → Result ℕ Kind
+number_in text = let number = read_on (strange NotANumber text) 0 text in if length text is 0 then Err EmptyCell else number

@@ -1,3 +1,2 @@
 -- A text's lines, a line's cells, a cell's number.
-pub mod Kinds
 pub mod Cells

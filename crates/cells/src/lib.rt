@@ -1,63 +1,36 @@
 // The cells of a line, and the numbers in them.
 #![tactic(auto)]
 
-pub mod kinds;
+mod kind;
 
-ghost use Rattle.std.specs.Prelude.{◌≡◌, ◌+◌, ◌≤◌, length, drop, take};
-ghost use Rattle.plain.specs.Lists.{◌one_of◌};
-ghost use Rattle.cells.specs.Cells.{quote, blank, front, back, trim, is_empty, strange, number_in};
+ghost use Rattle.std.specs.Prelude.{◌≡◌, ◌-◌, ◌≤◌, length, drop, take};
+ghost use Rattle.cells.specs.Cells.{blank, front, back, trim, is_empty, strange, number_in};
 
-// The number in a cell, or the kind of refusal.
-#[derive(Clone, Copy)]
-pub enum Number {
-    Value(u64),
-    Refused(u64),
-}
-
-fn wide(b: u8) -> u64
-    ensures { result ≡ b }
-{
-    b as u64
-}
+pub use kind::Kind;
 
 fn is_blank(b: u8) -> bool
     ensures { result ≡ blank b }
 {
-    if b == 32 {
-        return true;
-    }
-    if b == 13 {
-        return true;
-    }
-    b == 9
+    matches!(b, b' ' | b'\r' | b'\t')
 }
 
 // How many blanks stand before the cell's text.
 fn blanks_before(cell: &[u8]) -> usize
     ensures { (result ≤ length cell.now) × (drop result cell.now ≡ front cell.now) }
 {
-    let mut i: usize = 0;
-    while i < cell.len() {
-        if !is_blank(cell[i]) {
-            return i;
-        }
-        i += 1;
-    }
-    i
+    cell.iter()
+        .position(|b| !is_blank(*b))
+        .unwrap_or(cell.len())
 }
 
-// Where the text ends that blanks may follow.
-fn text_end(text: &[u8]) -> usize
-    ensures { (result ≤ length text.now) × (take result text.now ≡ back text.now) }
+// How many blanks stand behind the text.
+fn blanks_behind(text: &[u8]) -> usize
+    ensures { (result ≤ length text.now) × (take (length text.now - result) text.now ≡ back text.now) }
 {
-    let mut end = text.len();
-    while 0 < end {
-        if !is_blank(text[end - 1]) {
-            return end;
-        }
-        end -= 1;
-    }
-    end
+    text.iter()
+        .rev()
+        .position(|last| !is_blank(*last))
+        .unwrap_or(text.len())
 }
 
 // A cell without the blanks around it.
@@ -66,7 +39,7 @@ pub fn trimmed(cell: &[u8]) -> &[u8]
 {
     let start = blanks_before(cell);
     let text = &cell[start..];
-    let end = text_end(text);
+    let end = text.len() - blanks_behind(text);
     &text[..end]
 }
 
@@ -74,42 +47,37 @@ pub fn trimmed(cell: &[u8]) -> &[u8]
 pub fn is_empty(line: &[u8]) -> bool
     ensures { result ≡ is_empty line.now }
 {
-    blanks_before(line) == line.len()
+    line.iter().all(|b| is_blank(*b))
 }
 
 // The kind of a text that cannot be read: a quote in it is told first.
-pub fn kind_of(kind: u64, text: &[u8]) -> u64
+pub fn kind_of(kind: Kind, text: &[u8]) -> Kind
     ensures { result ≡ strange kind text.now }
 {
-    if text::end_of(text, 0, 34) < text.len() {
-        return kinds::QUOTED;
+    if text.contains(&b'"') {
+        Kind::Quoted
+    } else {
+        kind
     }
-    kind
 }
 
 // The number that digits say, without wrapping.
-pub fn number_in(text: &[u8]) -> Number
+pub fn number_in(text: &[u8]) -> Result<u64, Kind>
     ensures { result ≡ number_in text.now }
 {
-    if text.len() == 0 {
-        return Number::Refused(kinds::EMPTY_CELL);
+    if text.is_empty() {
+        return Err(Kind::EmptyCell);
     }
-    let mut n: u64 = 0;
-    let mut i: usize = 0;
-    while i < text.len() {
-        let b = wide(text[i]);
-        if b < 48 {
-            return Number::Refused(kind_of(kinds::NOT_A_NUMBER, text));
+    let mut number: u64 = 0;
+    for b in text {
+        if !b.is_ascii_digit() {
+            return Err(kind_of(Kind::NotANumber, text));
         }
-        if 57 < b {
-            return Number::Refused(kind_of(kinds::NOT_A_NUMBER, text));
+        let digit = u64::from(*b) - 48;
+        if (u64::MAX - digit) / 10 < number {
+            return Err(Kind::TooLarge);
         }
-        let digit = b - 48;
-        if (18446744073709551615 - digit) / 10 < n {
-            return Number::Refused(kinds::TOO_LARGE);
-        }
-        n = n * 10 + digit;
-        i += 1;
+        number = number * 10 + digit;
     }
-    Number::Value(n)
+    Ok(number)
 }

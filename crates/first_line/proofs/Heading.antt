@@ -1,57 +1,88 @@
 -- The column of a field, a byte-order mark, and the columns of a first line, one after the other. Assumes nothing.
-use Rattle.std.specs.Prelude.{if◌then◌else◌}
-use Prim.Native.Nat.{ℕ, ◌+◌, ◌-◌, ◌≤◌, ◌<◌}
+use Rattle.std.specs.Prelude.{if◌then◌else◌, nat_eq, cond, Option, Some, None, MatchOption, IsSomeAnd}
+use Rattle.std.specs.List.{list_any, position_or_len}
+use Rattle.std.specs.Cmp.Lexicographic.{pointwise}
+use Prim.Native.Nat.{ℕ, suc, ◌+◌, ◌≤◌, ◌<◌}
 use native.Mathlib.Omega.{arith}
-use native.Mathlib.Numerals.{add-one}
-use mathlib.Core.Bool.{true, false, Bool, not, ◌||◌}
+use native.Mathlib.Numerals.{add-one, one-add}
+use mathlib.Core.Bool.{true, false, Bool, not, ◌||◌, ◌&&◌}
 use mathlib.Core.List.{List, [], ◌∷◌}
 use mathlib.Core.Path.{◌≡◌, refl, sym, ap, ◌∙◌}
-use borrow.Author.Tests.{eq-eqb, ne_eqb, lt-leb, le-leb}
+use borrow.Author.Tests.{eq-eqb, ne_eqb, lt-leb, le-leb, lt-ltb}
+use lib.Dec.{eqb, ltb, leb-suc-suc}
 use lib.ListN.{length, get_or, take, drop, set, length-set, drop_of_length-le}
-use lib.Seq.{take-suc-set, length-take-le, get_or-take, get_or-set_same, get_or-set_other, take_all}
+use lib.Seq.{drop-cons, take-suc-set, length-take-le, get_or-take, get_or-set_same, get_or-set_other}
 use native.Mathlib.Decide.{ℕ_discrete}
-use Rattle.plain.specs.Lists.{◌one_of◌, ◌is◌}
-use Rattle.text.specs.Parts.{up_to}
-use Rattle.text.proofs.Cutting.{parts_from, parts_none, one_part, here, other_length}
+use Rattle.plain.specs.Lists.{◌one_of◌}
+use Rattle.text.specs.Parts.{same_text}
 use Rattle.names.specs.Numbers.{field_place}
-use Rattle.cells.specs.Kinds.{too_many_columns, repeated_name}
-use Rattle.cells.specs.Cells.{comma, trim}
-use Rattle.table.specs.Header.{no_place, Parsed, name_kind, header_from, Known}
-use Rattle.table.specs.Header.Parsed.{refused}
+use Rattle.cells.specs.declared.kind.Kind.TheVariants.{TooManyColumns, RepeatedName}
+use Rattle.cells.specs.Cells.{cells, trim}
+use Rattle.table.specs.Header.{no_place, Parsed, refused, name_kind, header_from, Known}
 use Rattle.table.specs.Lines.{column_from}
-use Rattle.table.specs.Import.{mark, unmarked}
 
 -- ---- the column of a field
 
-module _ (places : List ℕ) (i place r : ℕ) (e : column_from (i + 1) (drop i places) place ≡ r) where
-  pub column_found : i < length places → place ≡ get_or places i 0 → i + 1 ≡ r
-  unfolding column_from
-  column_found h n = sym (rw (here places i h) (simp (eq-eqb _ _ n))) ∙ e
+-- how many places stand before that of a field
+abbrev before : (places : List ℕ) (place : ℕ) → ℕ
+before places place = position_or_len (λ p. nat_eq p place) places
 
-  pub column_on : i < length places → (place ≡ get_or places i 0 → ⊥) → column_from (i + 1 + 1) (drop (i + 1) places) place ≡ r
-  unfolding column_from
-  column_on h n = sym (rw (here places i h) (simp (ne_eqb _ _ n))) ∙ e
-
-  pub column_none : length places ≤ i → 0 ≡ r
-  unfolding column_from
-  column_none h = sym (rw (drop_of_length-le places h)) ∙ e
-
--- a field that has a column is one of the places
-pub has-column : (places : List ℕ) (place column : ℕ) → 0 < column → not (column_from column places place is 0) ≡ place one_of places
-unfolding column_from
-has-column [] place column h = refl
-has-column (p ∷ ps) place column h = go (place is p) (has-column ps place (column + 1) (omega arith))
+eqb_sym : (a b : ℕ) → eqb a b ≡ eqb b a
+eqb_sym a b = go (ℕ_discrete a b)
   where
-    go : (t : Bool) → not (column_from (column + 1) ps place is 0) ≡ place one_of ps
-        → not ((if t then column else column_from (column + 1) ps place) is 0) ≡ (t || place one_of ps)
-    go true e = simp (ne_eqb column 0 (λ z. omega arith))
-    go false e = e
+    go : Dec (a ≡ b) → eqb a b ≡ eqb b a
+    go (yes e) = eq-eqb a b e ∙ sym (eq-eqb b a (sym e))
+    go (no d) = ne_eqb a b d ∙ sym (ne_eqb b a (λ e. d (sym e)))
+
+column_before : (places : List ℕ) (place column : ℕ)
+    → column_from column places place ≡ cond (ltb (before places place) (length places)) (column + before places place) 0
+unfolding column_from
+column_before [] place column = refl
+column_before (p ∷ places) place column = rw (eqb_sym place p) (go (eqb p place) (column_before places place (column + 1)))
+  where
+    shift : (t : Bool) → cond t (column + 1 + before places place) 0 ≡ cond t (column + suc (before places place)) 0
+    shift true = omega arith
+    shift false = refl
+
+    go : (t : Bool) → column_from (column + 1) places place ≡ cond (ltb (before places place) (length places)) (column + 1 + before places place) 0
+        → (if t then column else column_from (column + 1) places place)
+        ≡ cond (ltb (cond (not t) (1 + before places place) 0) (suc (length places))) (column + cond (not t) (1 + before places place) 0) 0
+    go true more = simp (lt-ltb 0 (suc (length places)) (omega arith)) (omega arith)
+    go false more =
+        rw (one-add, leb-suc-suc (suc (before places place)) (length places)) (more ∙ shift (ltb (before places place) (length places)))
+
+-- what `position` found, counted from 1
+pub column_found : (places : List ℕ) (place : ℕ) (r r' : Option ℕ)
+    → r ≡ cond (ltb (before places place) (length places)) (Some (before places place)) None
+    → MatchOption r (r' ≡ None) (λ i. r' ≡ Some (i + 1))
+    → MatchOption r' (column_from 1 places place ≡ 0) (λ column. (column ≡ column_from 1 places place) × (0 < column))
+column_found places place r r' e f = go (ltb (before places place) (length places)) (column_before places place 1) e
+  where
+    go : (t : Bool) → column_from 1 places place ≡ cond t (1 + before places place) 0 → r ≡ cond t (Some (before places place)) None
+        → MatchOption r' (column_from 1 places place ≡ 0) (λ column. (column ≡ column_from 1 places place) × (0 < column))
+    go true c e = let g : r' ≡ Some (before places place + 1) = rw e at f in rw g (omega arith, omega arith)
+    go false c e = let g : r' ≡ None = rw e at f in rw g c
+
+-- `map` counts one more
+pub counted_on : (r r' : Option ℕ) {P : ℕ → ℕ → Type 0} → ((i j : ℕ) → P i j → j ≡ i + 1) → MatchOption r (r' ≡ None) (λ i. IsSomeAnd r' (P i))
+    → MatchOption r (r' ≡ None) (λ i. r' ≡ Some (i + 1))
+counted_on None r' f m = m
+counted_on (Some i) (Some j) f m = ap Some (f i j m)
+counted_on (Some i) None f m = absurd m
+
+-- a place among others
+pub contained : (places : List ℕ) (place : ℕ) → list_any (λ p. nat_eq p place) places ≡ place one_of places
+contained [] place = refl
+contained (p ∷ places) place = rw (eqb_sym p place) (ap (λ (t : Bool). eqb place p || t) (contained places place))
 
 -- ---- a byte-order mark
 
-pub too_short : (file : List ℕ) → length file < 3 → file ≡ unmarked file
-unfolding unmarked mark
-too_short file h = simp (sym (other_length (take 3 file) mark (λ e. omega (arith, ap length (take_all 3 file (omega arith))))))
+pub starts_same : (one other : List ℕ) → pointwise nat_eq other one ≡ same_text one other
+unfolding same_text
+starts_same [] [] = refl
+starts_same [] (b ∷ other) = refl
+starts_same (a ∷ one) [] = refl
+starts_same (a ∷ one) (b ∷ other) = rw (eqb_sym b a) (ap (λ (t : Bool). eqb a b && t) (starts_same one other))
 
 -- ---- places
 
@@ -70,36 +101,40 @@ known_more places count place h small k =
 
 -- ---- the walk
 
-module _ (places : List ℕ) (count : ℕ) (line : List ℕ) (at : ℕ) (r : Parsed)
-    (e : header_from (take count places) (parts_from comma line at) ≡ r) (room : count < length places) where
+-- behind so many columns comes a cell, or none
+module _ (places : List ℕ) (count : ℕ) (line : List ℕ) (r : Parsed)
+    (e : header_from (take count places) (drop count (cells line)) ≡ r) (room : count < length places) where
   counted : length (take count places) ≡ count
   counted = length-take-le count places (omega arith)
 
-  pub line-done : length line < at → header_from (take count places) [] ≡ r
-  line-done h = sym (ap (header_from (take count places)) (parts_none comma line at h)) ∙ e
+  pub line-done : length (cells line) ≤ count → header_from (take count places) [] ≡ r
+  line-done h = sym (ap (header_from (take count places)) (drop_of_length-le (cells line) h)) ∙ e
 
-  module _ (h : at ≤ length line) where
-    pub column_many : 18 ≤ count → refused too_many_columns (count + 1) no_place ≡ r
+  module _ (cell : List ℕ) (here : (count < length (cells line)) × (cell ≡ get_or (cells line) count cell)) where
+    step : header_from (take count places) (cell ∷ drop (count + 1) (cells line)) ≡ r
+    step =
+        let same : drop count (cells line) ≡ cell ∷ drop (count + 1) (cells line) =
+        rw add-one (drop-cons (cells line) count cell here.0 ∙ ap (λ (c : List ℕ). c ∷ drop (suc count) (cells line)) (sym here.1))
+        in
+        sym (ap (header_from (take count places)) same) ∙ e
+
+    pub column_many : 18 ≤ count → refused TooManyColumns (count + 1) no_place ≡ r
     unfolding header_from
-    column_many k = sym (rw (one_part comma line at _ refl h) (simp (counted, le-leb 18 count k))) ∙ e
+    column_many k = sym (simp (counted, le-leb 18 count k)) ∙ step
 
-    module _ (end place : ℕ) (ends : end ≡ at + up_to comma (drop at line)) (few : count < 18)
-        (named : place ≡ field_place (trim (take (end - at) (drop at line)))) where
-      step : header_from (take count places) (take (end - at) (drop at line) ∷ parts_from comma line (end + 1)) ≡ r
-      step = sym (ap (header_from (take count places)) (one_part comma line at end ends h)) ∙ e
-
-      pub column_strange : place ≡ 18 → refused (name_kind (trim (take (end - at) (drop at line)))) (count + 1) no_place ≡ r
+    module _ (few : count < 18) where
+      pub column_strange : field_place (trim cell) ≡ 18 → refused (name_kind (trim cell)) (count + 1) no_place ≡ r
       unfolding header_from
-      column_strange u = sym (simp (counted, lt-leb 18 count few, eq-eqb _ 18 (sym named ∙ u))) ∙ step
+      column_strange u = sym (simp (counted, lt-leb 18 count few, eq-eqb _ 18 u)) ∙ step
 
-      module _ (n : place ≡ 18 → ⊥) where
-        pub column_twice : place one_of (take count places) ≡ true → refused repeated_name (count + 1) no_place ≡ r
+      module _ (n : field_place (trim cell) ≡ 18 → ⊥) where
+        pub column_twice : field_place (trim cell) one_of (take count places) ≡ true → refused RepeatedName (count + 1) no_place ≡ r
         unfolding header_from
-        column_twice s = sym (simp (counted, lt-leb 18 count few, ← named, ne_eqb place 18 n, s)) ∙ step
+        column_twice s = sym (simp (counted, lt-leb 18 count few, ne_eqb _ 18 n, s)) ∙ step
 
-        pub column_taken : place one_of (take count places) ≡ false
-            → header_from (take (count + 1) (set places count place)) (parts_from comma line (end + 1)) ≡ r
+        pub column_taken : field_place (trim cell) one_of (take count places) ≡ false
+            → header_from (take (count + 1) (set places count (field_place (trim cell)))) (drop (count + 1) (cells line)) ≡ r
         unfolding header_from
         column_taken s =
-            rw (add-one count, take-suc-set places count place room)
-            (sym (simp (counted, lt-leb 18 count few, ← named, ne_eqb place 18 n, s)) ∙ step)
+            rw (ap (λ (n : ℕ). take n (set places count (field_place (trim cell)))) (add-one count), take-suc-set places count (field_place (trim cell)) room)
+            (sym (simp (counted, lt-leb 18 count few, ne_eqb _ 18 n, s)) ∙ step)

@@ -1,9 +1,9 @@
 -- A line's order, and its record. Assumes nothing.
-use Rattle.std.specs.Prelude.{if◌then◌else◌}
-use Prim.Native.Nat.{ℕ, ◌≤◌}
+use Rattle.std.specs.Prelude.{if◌then◌else◌, Result, Ok, Err, Option, Some, None, MatchOption, unwrap_or}
+use Prim.Native.Nat.{ℕ, ◌≤◌, ◌<◌}
 use mathlib.Core.Bool.{Bool, true, false}
 use mathlib.Core.List.{List, ◌++◌}
-use mathlib.Core.Path.{◌≡◌, refl, sym, ap, ◌∙◌}
+use mathlib.Core.Path.{◌≡◌, refl, sym, ap}
 use borrow.Author.Tests.{le-ltb}
 use lib.ListN.{length, drop}
 use Rattle.plain.specs.Lists.{◌is◌, first}
@@ -11,34 +11,36 @@ use Rattle.rulebook.specs.Record.{order_of, fields_of, field_tests, record_of, w
 use Rattle.rulebook.specs.declared.Order.{Order}
 use Rattle.rulebook.specs.declared.Written.{Written}
 use Rattle.field_rules.specs.Fields.{refused_place}
-use Rattle.table.specs.Header.Parsed.{refused, parsed}
-use Rattle.table.specs.Lines.{column_from, line_fields, fields_read, ordered, row_of, row_written}
-use Rattle.table.specs.declared.Fields.{Fields}
-use Rattle.table.specs.declared.Row.{Row}
+use Rattle.cells.specs.declared.kind.Kind.TheVariants.{Record}
+use Rattle.table.specs.Header.{refused}
+use Rattle.table.specs.Lines.{column_from, line_fields, ordered, row_of, row_written}
+use Rattle.table.specs.declared.Wrong.{Wrong}
+
+-- the column that is told, 0 where there is none
+pub or_none : (r : Option ℕ) {c : ℕ} → MatchOption r (c ≡ 0) (λ column. (column ≡ c) × (0 < column)) → unwrap_or r 0 ≡ c
+or_none None e = sym e
+or_none (Some column) e = e.0
 
 -- the row that the record writer's answer makes of an order
-abbrev pub told : List ℕ → Order → Written → Row
-told places order Written.Record = Row.Order order
-told places order (Written.Refused n) = Row.Refused n (column_from 1 places (refused_place (fields_of order))) (refused_place (fields_of order))
+abbrev pub told : List ℕ → Order → Written → Result Order Wrong
+told places order Written.Record = Ok order
+told places order (Written.Refused n) = refused (Record n) (column_from 1 places (refused_place (fields_of order))) (refused_place (fields_of order))
 
-module _ (f : Fields) (places line : List ℕ) (e : fields_read f ≡ line_fields places line) where
-  pub row-unread : f.good ≡ false → Row.Refused f.kind f.column f.place ≡ row_of places line
+module _ (places line : List ℕ) where
+  pub row-unread : (wrong : Wrong) → Err wrong ≡ line_fields places line → Err wrong ≡ row_of places line
   unfolding row_of ordered
-  row-unread n =
-      let p : fields_read f ≡ refused f.kind f.column f.place = simp n in
-      ap (ordered places) (sym p ∙ e)
+  row-unread wrong e = ap (ordered places) e
 
-  pub row_told : f.good ≡ true → (order : Order) → order ≡ order_of f.values → (area : List ℕ) → 40 ≤ length area
+  pub row_told : (values : List ℕ) → Ok values ≡ line_fields places line → (order : Order) → order ≡ order_of values → (area : List ℕ) → 40 ≤ length area
       → (answer : Written) → answer ≡ written_of order area
       → (told places order answer ≡ row_of places line) × (area_written order area ≡ row_written (told places order answer) area)
   unfolding row_of ordered written_of area_written write_refusal row_written
-  row_told z order o area room answer w =
-      let read : fields_read f ≡ parsed f.values = simp z in
+  row_told values e order o area room answer w =
       let number : ℕ = first (field_tests (fields_of order)) in
-      rw (w, ← e, read, ← o) (simp (le-ltb (length area) 40 room) (go (number is 0) number))
+      rw (w, ← e, ← o) (simp (le-ltb (length area) 40 room) (go (number is 0) number))
     where
       go : (t : Bool) (n : ℕ)
-          → (told places order (if t then Written.Record else Written.Refused n) ≡ (if t then Row.Order order else told places order (Written.Refused n)))
+          → (told places order (if t then Written.Record else Written.Refused n) ≡ (if t then Ok order else told places order (Written.Refused n)))
           × ((if t then record_of order ++ drop 40 area else area) ≡ row_written (told places order (if t then Written.Record else Written.Refused n)) area)
       go true n = (refl, refl)
       go false n = (refl, refl)

@@ -1,150 +1,110 @@
 // The lines of a table: each is one order.
 #![tactic(auto)]
 
-ghost use Rattle.std.specs.Prelude.{false, ◌≡◌, ◌≤◌, ◌<◌, length};
-ghost use Rattle.plain.specs.Lists.{within};
+ghost use Rattle.std.specs.Prelude.{false, ◌≡◌, ◌≤◌, length};
 ghost use Rattle.rulebook.specs.Record.{fields_of};
 ghost use Rattle.field_rules.specs.Fields.{refused_place};
+ghost use Rattle.cells.specs.declared.kind.Kind.TheVariants.{Record};
 ghost use Rattle.cells.specs.Cells.{is_empty};
-ghost use Rattle.table.specs.declared.Row;
-ghost use Rattle.table.specs.Header.{Known};
-ghost use Rattle.table.specs.Lines.{form_in, optional_in, field_number, column_from, line_fields, fields_read, row_of, row_written};
+ghost use Rattle.table.specs.Header.{Known, wrong};
+ghost use Rattle.table.specs.Lines.{form_in, optional_in, field_number, column_from, line_fields, row_of, row_written};
 
-use cells::{Number, kinds};
+use cells::Kind;
 use rulebook::{Order, Written};
-use table::{Fields, Row};
-
-fn is_digit(b: u8) -> bool
-    ensures { result ≡ within 48 57 b }
-{
-    if b < 48 {
-        return false;
-    }
-    b <= 57
-}
+use table::Wrong;
 
 // The form that a text says by its number or its name.
-fn form_in(text: &[u8]) -> Number
+fn form_in(text: &[u8]) -> Result<u64, Kind>
     ensures { result ≡ form_in text.now }
 {
-    if text.len() == 0 {
-        return Number::Refused(kinds::EMPTY_CELL);
+    if text.is_empty() {
+        return Err(Kind::EmptyCell);
     }
-    if is_digit(text[0]) {
+    if text[0].is_ascii_digit() {
         return cells::number_in(text);
     }
     let form = names::form_number(text);
     if form == 0 {
-        return Number::Refused(cells::kind_of(kinds::UNKNOWN_FORM, text));
+        return Err(cells::kind_of(Kind::UnknownForm, text));
     }
-    Number::Value(form)
+    Ok(form)
 }
 
 // The number that a text says, which is 0 where it is empty.
-fn optional_in(text: &[u8]) -> Number
+fn optional_in(text: &[u8]) -> Result<u64, Kind>
     ensures { result ≡ optional_in text.now }
 {
-    if text.len() == 0 {
-        return Number::Value(0);
+    if text.is_empty() {
+        return Ok(0);
     }
     cells::number_in(text)
 }
 
 // The number that a cell says under a field's name.
-fn field_number(place: usize, cell: &[u8]) -> Number
+fn field_number(place: usize, cell: &[u8]) -> Result<u64, Kind>
     ensures { result ≡ field_number place cell.now }
 {
     let text = cells::trimmed(cell);
-    if place == 0 {
-        return form_in(text);
+    match place {
+        0 => form_in(text),
+        1 => cells::number_in(text),
+        _ => optional_in(text),
     }
-    if place == 1 {
-        return cells::number_in(text);
-    }
-    optional_in(text)
 }
 
-fn refused(kind: u64, column: usize, place: usize) -> Fields
-    ensures { (fields_read result ≡ Rattle.table.specs.Header.Parsed.refused kind column place) × (length result.values ≡ 19) }
+fn wrong(kind: Kind, column: usize, place: usize) -> Wrong
+    ensures { result ≡ wrong kind column place }
 {
-    Fields {
-        good: false,
-        kind: kind,
-        column: column,
-        place: place,
-        values: [0; 19],
+    Wrong {
+        kind,
+        column,
+        place,
     }
 }
 
 // The numbers of a line that is not empty, each in the field of its column.
-fn line_fields(line: &[u8], places: &[usize]) -> Fields
+fn line_fields(line: &[u8], places: &[usize]) -> Result<[u64; 19], Wrong>
     requires { Known places.now × (is_empty line.now ≡ false) }
-    ensures { (fields_read result ≡ line_fields places.now line.now) × (length result.values ≡ 19) }
+    ensures { result ≡ line_fields places.now line.now }
 {
-    let mut values: [u64; 19] = [0; 19];
+    let mut values = [0; 19];
     let mut column: usize = 0;
-    let mut at: usize = 0;
-    while column < places.len() {
+    for cell in line.split(|b| *b == b',') {
+        if column == places.len() {
+            return Err(wrong(Kind::TooManyCells, column + 1, 18));
+        }
         let place = places[column];
-        if line.len() < at {
-            return refused(kinds::TOO_FEW_CELLS, column + 1, place);
-        }
-        let end = text::end_of(line, at, 44);
-        let number = field_number(place, &line[at..end]);
-        match number {
-            Number::Refused(kind) => return refused(kind, column + 1, place),
-            Number::Value(n) => {
-                values[place] = n;
-                column += 1;
-                at = end + 1;
-            }
+        column += 1;
+        match field_number(place, cell) {
+            Ok(number) => values[place] = number,
+            Err(kind) => return Err(wrong(kind, column, place)),
         }
     }
-    if at <= line.len() {
-        return refused(kinds::TOO_MANY_CELLS, column + 1, 18);
+    if column < places.len() {
+        return Err(wrong(Kind::TooFewCells, column + 1, places[column]));
     }
-    Fields {
-        good: true,
-        kind: 0,
-        column: 0,
-        place: 18,
-        values: values,
-    }
+    Ok(values)
 }
 
-// The refusal of an order that the record writer does not take, with the first field to which it applies.
-fn refused_row(order: Order, places: &[usize], number: u64) -> Row
-    ensures { result ≡ Rattle.table.specs.declared.Row.Row.Refused number (column_from 1 places.now (refused_place (fields_of order)))
-        (refused_place (fields_of order)) }
+// What is wrong with an order that the record writer does not take: told of the first field to which its refusal applies.
+fn wrong_order(order: Order, places: &[usize], number: u64) -> Wrong
+    ensures { result ≡ wrong (Record number) (column_from 1 places.now (refused_place (fields_of order))) (refused_place (fields_of order)) }
 {
-    let fields = layout::fields_of(order);
-    let place = field_rules::refused_place(&fields);
-    Row::Refused {
-        kind: number,
-        column: first_line::column_of(places, place),
-        place: place,
-    }
+    let place = field_rules::refused_place(&layout::fields_of(order));
+    let column = first_line::column_of(places, place).unwrap_or(0);
+    wrong(Kind::Record(number), column, place)
 }
 
 // The order of a line that is not empty, with its record at the start of a buffer; a refusal leaves the buffer.
-pub fn write_row(line: &[u8], places: &[usize], out: &mut [u8]) -> Row
+pub fn write_row(line: &[u8], places: &[usize], out: &mut [u8]) -> Result<Order, Wrong>
     requires { Known places.now × (is_empty line.now ≡ false) × (40 ≤ length out.old) }
     ensures value { result ≡ row_of places.now line.now }
     ensures out_after { out.new ≡ row_written result out.old }
 {
-    let fields = line_fields(line, places);
-    if !fields.good {
-        return Row::Refused {
-            kind: fields.kind,
-            column: fields.column,
-            place: fields.place,
-        };
-    }
-    let values = fields.values;
+    let values = line_fields(line, places)?;
     let order = layout::order_of(&values);
-    let written = record::write(order, out);
-    match written {
-        Written::Record => Row::Order(order),
-        Written::Refused(number) => refused_row(order, places, number),
+    match record::write(order, out) {
+        Written::Record => Ok(order),
+        Written::Refused(number) => Err(wrong_order(order, places, number)),
     }
 }

@@ -1,5 +1,5 @@
 -- The order of the columns changes nothing: two neighbours change places in the first line and in every other. Assumes nothing.
-use Rattle.std.specs.Prelude.{if◌then◌else◌}
+use Rattle.std.specs.Prelude.{if◌then◌else◌, Ok}
 use Prim.Native.Nat.{ℕ, zero, suc, ◌+◌, ◌≤◌}
 use native.Mathlib.Omega.{arith}
 use mathlib.Core.Bool.{Bool, true, false, ◌&&◌, and-false, true≢false}
@@ -17,7 +17,6 @@ use Rattle.text.specs.Parts.{split, joined}
 use Rattle.names.specs.Numbers.{field_place}
 use Rattle.cells.specs.Cells.{comma, cells, trim, blank, front, is_empty, leading, full_lines}
 use Rattle.table.specs.Header.{header_of}
-use Rattle.table.specs.Header.Parsed.{parsed}
 use Rattle.table.specs.Lines.Imported.{orders}
 use Rattle.table.specs.Import.{import_lines, is_refused}
 use Rattle.table.specs.Theorems.{exchange, Along, Exchanged, Rearranged, AnyOrder, RefusedAnyOrder}
@@ -148,14 +147,14 @@ full-exchange k (one {a = line} {b = other} c x) = go c (empty_exchange k line o
 
 -- ---- the whole table
 
-header_exchange : (k : ℕ) (header other places : List ℕ) → Exchanged k header other → header_of header ≡ parsed places
-    → header_of other ≡ parsed (exchange k places)
+header_exchange : (k : ℕ) (header other places : List ℕ) → Exchanged k header other → header_of header ≡ Ok places
+    → header_of other ≡ Ok (exchange k places)
 unfolding header_of
 header_exchange k header other places c e =
     let columns = header_columned header places e in
     let same : placed (cells other) ≡ exchange k places = ap placed c ∙ placed_exchange k (cells header) ∙ ap (exchange k) (sym columns.1) in
     simp (empty_exchange k header other c ∙ columns.0)
-    (named [] (cells other) (subst Fit (sym same) (fit_exchange k places columns.2)) ∙ ap parsed same)
+    (named [] (cells other) (subst Fit (sym same) (fit_exchange k places columns.2)) ∙ ap Ok same)
 
 line-exchange : (k : ℕ) (places : List ℕ) → Fit places → (line other : List ℕ) (order : Order) → Exchanged k line other → Taken places line order
     → Taken (exchange k places) other order

@@ -1,5 +1,5 @@
 -- The table of some orders imports as these orders. Assumes nothing.
-use Rattle.std.specs.Prelude.{if◌then◌else◌}
+use Rattle.std.specs.Prelude.{if◌then◌else◌, Result, Ok}
 use Prim.Native.Nat.{ℕ, zero, suc, ◌+◌, ◌-◌, ◌*◌, ◌%◌, ◌^◌, ◌≤◌, ◌<◌}
 use native.Mathlib.Omega.{arith}
 use mathlib.Core.Bool.{Bool, true, false}
@@ -27,11 +27,10 @@ use Rattle.text.specs.Text.{text, decimal, digit}
 use Rattle.text.specs.Parts.{line_feed, joined, split, join, same_text, place_in}
 use Rattle.text.proofs.Digits.{of-decimal, read, decimal-read}
 use Rattle.names.specs.Numbers.{field_place, form_number}
-use Rattle.cells.specs.Kinds.{not_aNumber}
+use Rattle.cells.specs.declared.kind.Kind.TheVariants.{NotANumber}
 use Rattle.cells.specs.Cells.{strange, comma, lines_of, cells, blank, front, before, back, trim, is_empty, full_lines, read_on, number_in}
-use Rattle.cells.specs.declared.Number.{Number}
+use Rattle.cells.specs.declared.kind.Kind.{Kind}
 use Rattle.table.specs.Header.{header_from, header_of}
-use Rattle.table.specs.Header.Parsed.{parsed}
 use Rattle.table.specs.Lines.{form_in, optional_in, field_number}
 use Rattle.table.specs.Lines.Imported.{orders}
 use Rattle.table.specs.Import.{mark, unmarked, import_lines, import_of}
@@ -115,7 +114,7 @@ read_grows : (n : ℕ) (l : List ℕ) → n ≤ read n l
 read_grows n [] = omega arith
 read_grows n (b ∷ l) = omega (arith, read_grows (n * 10 + (b - 48)) l)
 
-read_digits : (kind n : ℕ) (l : List ℕ) → Each Digit l → read n l < 2 ^ 64 → read_on kind n l ≡ Number.Value (read n l)
+read_digits : (kind : Kind) (n : ℕ) (l : List ℕ) → Each Digit l → read n l < 2 ^ 64 → read_on kind n l ≡ Ok (read n l)
 unfolding read_on
 read_digits kind n [] e h = refl
 read_digits kind n (b ∷ l) e h =
@@ -123,16 +122,16 @@ read_digits kind n (b ∷ l) e h =
     simp (le-leb 48 b e.0.0, le-leb b 57 e.0.1, lt-ltb _ _ small) (read_digits kind (n * 10 + (b - 48)) l e.1 h)
 
 -- a cell of digits says its number in any column but that of the form
-cell_decimal : (p n : ℕ) → eqb p 0 ≡ false → n < 2 ^ 64 → field_number p (decimal n) ≡ Number.Value n
+cell_decimal : (p n : ℕ) → eqb p 0 ≡ false → n < 2 ^ 64 → field_number p (decimal n) ≡ Ok n
 unfolding field_number optional_in number_in
 cell_decimal p n z h =
     rw (trim_digits (decimal n) (digits-only n))
-    (simp (z, ne_eqb (length (decimal n)) 0 (decimal-some n), value (strange not_aNumber (decimal n))) (go (p is 1)))
+    (simp (z, ne_eqb (length (decimal n)) 0 (decimal-some n), value (strange NotANumber (decimal n))) (go (p is 1)))
   where
-    value : (kind : ℕ) → read_on kind 0 (decimal n) ≡ Number.Value n
-    value kind = read_digits kind 0 (decimal n) (digits-only n) (rw (decimal-read n) h) ∙ ap Number.Value (decimal-read n)
+    value : (kind : Kind) → read_on kind 0 (decimal n) ≡ Ok n
+    value kind = read_digits kind 0 (decimal n) (digits-only n) (rw (decimal-read n) h) ∙ ap Ok (decimal-read n)
 
-    go : (t : Bool) → (if t then Number.Value n else Number.Value n) ≡ Number.Value n
+    go : (t : Bool) → ◌≡◌ {A = Result ℕ Kind} (if t then Ok n else Ok n) (Ok n)
     go true = refl
     go false = refl
 
@@ -206,9 +205,9 @@ module _ (order : Order) (t : first (field_tests (fields_of order)) ≡ 0) where
   pub order-full : is_empty (join comma (order_cells order)) ≡ false
   order-full = empty_alone (join comma (order_cells order)) ∙ rw order-cells (unfold order_cells fields_of in refl)
 
-  form-cell : field_number 0 (text (form_name order.form)) ≡ Number.Value order.form
+  form-cell : field_number 0 (text (form_name order.form)) ≡ Ok order.form
   unfolding field_number form_in trim front back before form_number place_in same_text form_row forms
-  form-cell = by_number (λ f. field_number 0 (text (form_name f))) Number.Value refl
+  form-cell = by_number (λ f. field_number 0 (text (form_name f))) Ok refl
 
   order-read : Fills every (replicate 19 0) (order_cells order) (fields_of order)
   unfolding order_cells fields_of
@@ -232,7 +231,7 @@ pub names-plain : Without line_feed (join comma name_cells)
 unfolding join name_cells field_names
 names-plain = each_none (λ b. b is line_feed) (join comma name_cells) refl
 
-pub header_line : header_of (join comma name_cells) ≡ parsed every
+pub header_line : header_of (join comma name_cells) ≡ Ok every
 unfolding join name_cells field_names header_of header_from is_empty split joined trim front back before field_place place_in same_text
 header_line = refl
 

@@ -1,29 +1,28 @@
 -- The theorems of specs/Theorems on a table in blocks. Assumes nothing.
-use Rattle.std.specs.Prelude.{if◌then◌else◌}
+use Rattle.std.specs.Prelude.{if◌then◌else◌, Option, Some, None, Result, Ok, Err}
 use Prim.Native.Nat.{ℕ, suc, ◌+◌, ◌*◌, ◌≤◌, ◌<◌}
 use native.Mathlib.Omega.{arith}
 use mathlib.Core.Bool.{Bool, true, false}
 use mathlib.Core.List.{List, [], ◌∷◌, ◌++◌}
 use mathlib.Core.Path.{◌≡◌, refl, sym, ap, ◌∙◌}
-use borrow.Author.Tests.{ne_eqb, ltb-true, ltb-false, lt-ltb, le-ltb}
+use borrow.Author.Tests.{ltb-true, ltb-false, lt-ltb, le-ltb}
 use lib.Dec.{eqb, ltb}
 use lib.ListN.{length, length-append}
 use Rattle.plain.specs.Lists.{total}
 use Rattle.rulebook.specs.declared.Order.{Order}
 use Rattle.text.specs.Parts.{line_feed, up_to, joined}
-use Rattle.cells.specs.Kinds.{empty_line}
 use Rattle.cells.specs.Cells.{is_empty, onto, lines_of, leading, full_lines, whole_lines, tail_of}
 use Rattle.text.proofs.Cutting.{to_mark}
 use Rattle.cells.proofs.Splits.{whole-last, whole-more}
-use Rattle.table.specs.Header.{no_place}
 use Rattle.table.specs.Lines.{Imported, more, with_row, rows_from, row_of, line_fields, ordered}
-use Rattle.table.specs.Lines.Imported.{refused_at, orders}
+use Rattle.table.specs.Lines.Imported.{refused_as, orders}
 use Rattle.table.specs.Import.{and_then}
-use Rattle.table.specs.Blocks.{Walked, having, walk_row, walk, onward, outcome, met_in, step_of}
+use Rattle.table.specs.Blocks.{Walked, having, walk_row, empty_line_at, walk, onward, outcome, met_in, step_of}
 use Rattle.table.specs.Blocks.Walked.{stopped, reached}
 use Rattle.table.specs.Theorems.{InBlocks, LastLine, RowsInBlocks, WalkInBlocks, WalkIsImport, AllConverted, RoomEnough}
-use Rattle.table.specs.declared.Row.{Row}
+use Rattle.table.specs.declared.Refused.{Refused}
 use Rattle.table.specs.declared.Step.{Step}
+use Rattle.table.specs.declared.Wrong.{Wrong}
 use Rattle.table.proofs.Theorems.{leading-full}
 use Rattle.table.proofs.Walking.{having-none, having-both, Goes, goes}
 
@@ -71,15 +70,15 @@ last_line tail p h = lines_tail tail p h ∙ sym (whole-tail tail h)
 
 then_none : (later : Imported) → and_then (orders []) later ≡ later
 unfolding and_then
-then_none (refused_at kind line column place) = refl
+then_none (refused_as why) = refl
 then_none (orders all) = refl
 
-with_then : (row : Row) (line : ℕ) (rows later : Imported) → with_row row line (and_then rows later) ≡ and_then (with_row row line rows) later
+with_then : (row : Result Order Wrong) (line : ℕ) (rows later : Imported) → with_row row line (and_then rows later) ≡ and_then (with_row row line rows) later
 unfolding with_row more and_then
-with_then (Row.Refused kind column place) line rows later = refl
-with_then (Row.Order order) line (refused_at kind at column place) later = refl
-with_then (Row.Order order) line (orders all) (refused_at kind at column place) = refl
-with_then (Row.Order order) line (orders all) (orders others) = refl
+with_then (Err wrong) line rows later = refl
+with_then (Ok order) line (refused_as why) later = refl
+with_then (Ok order) line (orders all) (refused_as why) = refl
+with_then (Ok order) line (orders all) (orders others) = refl
 
 pub rows-in_blocks : RowsInBlocks
 unfolding RowsInBlocks rows_from
@@ -92,9 +91,9 @@ rows-in_blocks places line (text ∷ block) next =
 
 -- ---- a walk
 
-having-on : (met : List Order) (w : Walked) (next : (line empty : ℕ) → Walked) → onward (having met w) next ≡ having met (onward w next)
+having-on : (met : List Order) (w : Walked) (next : (line : ℕ) (empty : Option ℕ) → Walked) → onward (having met w) next ≡ having met (onward w next)
 unfolding having onward
-having-on met (stopped kind line column place others) next = refl
+having-on met (stopped why others) next = refl
 having-on met (reached line empty others) next = having-both met others (next line empty)
 
 pub walk-in_blocks : WalkInBlocks
@@ -103,42 +102,41 @@ walk-in_blocks places line empty [] next = unfold walk onward in sym (having-non
 walk-in_blocks places line empty (text ∷ block) next =
     go (step_of places line empty text) (goes places line empty text) (λ empty'. walk-in_blocks places (line + 1) empty' block next)
   where
-    on : (line empty : ℕ) → Walked
+    on : (line : ℕ) (empty : Option ℕ) → Walked
     on number passed = walk places number passed next
 
-    go : (step : Step) → Goes places line empty text step
-        → ((empty' : ℕ) → walk places (line + 1) empty' (block ++ next) ≡ onward (walk places (line + 1) empty' block) on)
+    go : (step : Result Step Refused) → Goes places line empty text step
+        → ((empty' : Option ℕ) → walk places (line + 1) empty' (block ++ next) ≡ onward (walk places (line + 1) empty' block) on)
         → walk places line empty (text ∷ block ++ next) ≡ onward (walk places line empty (text ∷ block)) on
-    go (Step.Refused kind at column place) g more = g.0 (block ++ next) ∙ sym (rw (g.0 block) (unfold onward in refl))
-    go (Step.Passed empty' wrote) g more = rw (g.walked (block ++ next), g.walked block, more empty') (sym (having-on g.new _ on))
+    go (Err why) g more = g.0 (block ++ next) ∙ sym (rw (g.0 block) (unfold onward in refl))
+    go (Ok step) g more = rw (g.walked (block ++ next), g.walked block, more step.empty) (sym (having-on g.new _ on))
 
 -- what is left of lines behind empty ones: nothing, or the first of the empty lines is refused
 abbrev behind : ℕ → List (List ℕ) → Imported
 behind empty [] = orders []
-behind empty (line ∷ lines) = refused_at empty_line empty 0 no_place
+behind empty (line ∷ lines) = refused_as (empty_line_at empty)
 
 behind_leading : (empty : ℕ) (line : List ℕ) (lines : List (List ℕ)) → is_empty line ≡ true → behind empty (leading line lines) ≡ behind empty lines
 unfolding leading
 behind_leading empty line [] e = simp e
 behind_leading empty line (next ∷ lines) e = refl
 
-outcome-row : (row : Row) (line : ℕ) (w : Walked) → outcome (walk_row row line w) ≡ with_row row line (outcome w)
+outcome-row : (row : Result Order Wrong) (line : ℕ) (w : Walked) → outcome (walk_row row line w) ≡ with_row row line (outcome w)
 unfolding walk_row with_row outcome having more
-outcome-row (Row.Order order) line (stopped kind at column place met) = refl
-outcome-row (Row.Order order) line (reached at empty met) = refl
-outcome-row (Row.Refused kind column place) line w = refl
+outcome-row (Ok order) line (stopped why met) = refl
+outcome-row (Ok order) line (reached at empty met) = refl
+outcome-row (Err wrong) line w = refl
 
 -- empty lines stand before these, the first of them with this number
-after_empty : (places : List ℕ) (line empty : ℕ) (lines : List (List ℕ)) → eqb empty 0 ≡ false
-    → outcome (walk places line empty lines) ≡ behind empty (full_lines lines)
+after_empty : (places : List ℕ) (line empty : ℕ) (lines : List (List ℕ)) → outcome (walk places line (Some empty) lines) ≡ behind empty (full_lines lines)
 unfolding walk outcome full_lines
-after_empty places line empty [] z = refl
-after_empty places line empty (text ∷ lines) z = go (is_empty text) refl (after_empty places (line + 1) empty lines z)
+after_empty places line empty [] = refl
+after_empty places line empty (text ∷ lines) = go (is_empty text) refl (after_empty places (line + 1) empty lines)
   where
-    go : (t : Bool) → is_empty text ≡ t → outcome (walk places (line + 1) empty lines) ≡ behind empty (full_lines lines)
-        → outcome (walk places line empty (text ∷ lines)) ≡ behind empty (leading text (full_lines lines))
-    go true e more = simp (e, z) more ∙ sym (behind_leading empty text (full_lines lines) e)
-    go false e more = rw (leading-full text (full_lines lines) e) (simp (e, z))
+    go : (t : Bool) → is_empty text ≡ t → outcome (walk places (line + 1) (Some empty) lines) ≡ behind empty (full_lines lines)
+        → outcome (walk places line (Some empty) (text ∷ lines)) ≡ behind empty (leading text (full_lines lines))
+    go true e more = simp e more ∙ sym (behind_leading empty text (full_lines lines) e)
+    go false e more = rw (leading-full text (full_lines lines) e) (simp e)
 
 empty_row_lem : (places : List ℕ) (line : ℕ) (text : List ℕ) (lines : List (List ℕ)) → is_empty text ≡ true
     → behind line lines ≡ rows_from places line (leading text lines)
@@ -146,16 +144,15 @@ unfolding leading rows_from with_row row_of line_fields ordered
 empty_row_lem places line text [] e = simp e
 empty_row_lem places line text (next ∷ lines) e = sym (simp e)
 
--- lines are numbered from 1 on
-walked_is : (places : List ℕ) (line : ℕ) (lines : List (List ℕ)) → 0 < line → outcome (walk places line 0 lines) ≡ rows_from places line (full_lines lines)
+walked_is : (places : List ℕ) (line : ℕ) (lines : List (List ℕ)) → outcome (walk places line None lines) ≡ rows_from places line (full_lines lines)
 unfolding walk rows_from full_lines
-walked_is places line [] p = unfold outcome in refl
-walked_is places line (text ∷ lines) p = go (is_empty text) refl (walked_is places (line + 1) lines (omega arith))
+walked_is places line [] = unfold outcome in refl
+walked_is places line (text ∷ lines) = go (is_empty text) refl (walked_is places (line + 1) lines)
   where
-    go : (t : Bool) → is_empty text ≡ t → outcome (walk places (line + 1) 0 lines) ≡ rows_from places (line + 1) (full_lines lines)
-        → outcome (walk places line 0 (text ∷ lines)) ≡ rows_from places line (leading text (full_lines lines))
+    go : (t : Bool) → is_empty text ≡ t → outcome (walk places (line + 1) None lines) ≡ rows_from places (line + 1) (full_lines lines)
+        → outcome (walk places line None (text ∷ lines)) ≡ rows_from places line (leading text (full_lines lines))
     go true e more =
-        simp e (after_empty places (line + 1) line lines (ne_eqb line 0 (λ z. omega arith)))
+        simp e (after_empty places (line + 1) line lines)
         ∙ empty_row_lem places line text (full_lines lines) e
     go false e more = rw (leading-full text (full_lines lines) e) (simp e (outcome-row (row_of places text) line _ ∙ ap (with_row (row_of places text) line) more))
 
@@ -165,10 +162,10 @@ walk-is_import = walked_is
 
 pub all-converted : AllConverted
 unfolding AllConverted outcome met_in
-all-converted places line lines all p e = go (walk places line 0 lines) (walked_is places line lines p ∙ e)
+all-converted places line lines all e = go (walk places line None lines) (walked_is places line lines ∙ e)
   where
     go : (w : Walked) → outcome w ≡ orders all → met_in w ≡ all
-    go (stopped kind at column place met) f = cc
+    go (stopped why met) f = cc
     go (reached at empty met) f = cc
 
 -- ---- room
@@ -188,21 +185,21 @@ whole_long (b ∷ l) = go (eqb b line_feed) (whole_lines l) (whole_long l)
 
 met_having : (met : List Order) (w : Walked) → met_in (having met w) ≡ met ++ met_in w
 unfolding met_in having
-met_having met (stopped kind line column place others) = refl
+met_having met (stopped why others) = refl
 met_having met (reached line empty others) = refl
 
-met_short : (places : List ℕ) (line empty : ℕ) (lines : List (List ℕ)) → 2 * length (met_in (walk places line empty lines)) ≤ lines_long lines
+met_short : (places : List ℕ) (line : ℕ) (empty : Option ℕ) (lines : List (List ℕ)) → 2 * length (met_in (walk places line empty lines)) ≤ lines_long lines
 met_short places line empty [] = unfold walk met_in in omega arith
 met_short places line empty (text ∷ lines) = go (step_of places line empty text) (goes places line empty text) (λ empty'. met_short places
     (line + 1) empty' lines)
   where
-    go : (step : Step) → Goes places line empty text step
-        → ((empty' : ℕ) → 2 * length (met_in (walk places (line + 1) empty' lines)) ≤ lines_long lines)
+    go : (step : Result Step Refused) → Goes places line empty text step
+        → ((empty' : Option ℕ) → 2 * length (met_in (walk places (line + 1) empty' lines)) ≤ lines_long lines)
         → 2 * length (met_in (walk places line empty (text ∷ lines))) ≤ lines_long (text ∷ lines)
-    go (Step.Refused kind at column place) g more = rw (g.0 lines) (unfold met_in in omega arith)
-    go (Step.Passed empty' wrote) g more =
-        rw (g.walked lines, met_having g.new (walk places (line + 1) empty' lines), length-append g.new (met_in (walk places (line + 1) empty' lines)))
-        (omega (arith, more empty', g.short))
+    go (Err why) g more = rw (g.0 lines) (unfold met_in in omega arith)
+    go (Ok step) g more =
+        rw (g.walked lines, met_having g.new (walk places (line + 1) step.empty lines), length-append g.new (met_in (walk places (line + 1) step.empty lines)))
+        (omega (arith, more step.empty, g.short))
 
 pub room_enough : RoomEnough
 unfolding RoomEnough

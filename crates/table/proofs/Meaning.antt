@@ -1,5 +1,5 @@
 -- What the columns of an accepted first line are, and what an accepted line puts into the fields. Assumes nothing.
-use Rattle.std.specs.Prelude.{if◌then◌else◌}
+use Rattle.std.specs.Prelude.{if◌then◌else◌, Result, Ok, Err}
 use Prim.Native.Nat.{ℕ, zero, suc, ◌+◌, ◌≤◌, ◌<◌}
 use native.Mathlib.Omega.{arith}
 use mathlib.Core.Bool.{Bool, true, false, not}
@@ -20,35 +20,34 @@ use Rattle.text.specs.Text.{text}
 use Rattle.text.specs.Parts.{same_text, place_in}
 use Rattle.names.specs.Numbers.{field_place}
 use Rattle.cells.specs.Cells.{cells, trim, is_empty, full_lines}
-use Rattle.cells.specs.declared.Number.{Number}
+use Rattle.cells.specs.declared.kind.Kind.{Kind}
 use Rattle.table.specs.Header.{Parsed, header_from, header_of}
-use Rattle.table.specs.Header.Parsed.{refused, parsed}
 use Rattle.table.specs.Lines.{field_number, with_number, fields_from, line_fields, ordered, row_of, Imported, more, with_row, rows_from}
-use Rattle.table.specs.Lines.Imported.{refused_at, orders}
+use Rattle.table.specs.Lines.Imported.{refused_as, orders}
 use Rattle.table.specs.Import.{with_columns, import_lines, is_refused}
 use Rattle.table.specs.Theorems.{Along}
 use Rattle.table.specs.Theorems.Along.{none, one}
-use Rattle.table.specs.declared.Row.{Row}
+use Rattle.table.specs.declared.Wrong.{Wrong}
+use Rattle.table.specs.declared.Refused.{Refused}
 use Rattle.table.proofs.Places.{times, one_of_times, apart, first_more}
 
 -- ---- refused and accepted are two things
 
-pub never : {kind column place : ℕ} {out : List ℕ} → refused kind column place ≡ parsed out → ⊥
-never e = let z : ◌≡◌ {A = ℕ} 0 1 = cc in omega arith
+pub never : {wrong : Wrong} {out : List ℕ} → ◌≡◌ {A = Parsed} (Err wrong) (Ok out) → ⊥
+never e = cc
 
-pub none_such : {kind line column place : ℕ} {all : List Order} → refused_at kind line column place ≡ orders all → ⊥
-none_such e = let z : ◌≡◌ {A = ℕ} 0 1 = cc in omega arith
+pub none_such : {why : Refused} {all : List Order} → refused_as why ≡ orders all → ⊥
+none_such e = cc
 
 -- a test before all others
-pub past : {out : List ℕ} (t : Bool) (kind column place : ℕ) (r : Parsed) → (if t then refused kind column place else r) ≡ parsed out
-    → (t ≡ false) × (r ≡ parsed out)
-past true kind column place r e = absurd (never e)
-past false kind column place r e = (refl, e)
+pub past : {out : List ℕ} (t : Bool) (wrong : Wrong) (r : Parsed) → (if t then Err wrong else r) ≡ Ok out → (t ≡ false) × (r ≡ Ok out)
+past true wrong r e = absurd (never e)
+past false wrong r e = (refl, e)
 
 -- what is no list of orders is a refusal
 pub refused-unless : (i : Imported) → ((all : List Order) → i ≡ orders all → ⊥) → is_refused i ≡ true
 unfolding is_refused
-refused-unless (refused_at kind line column place) n = refl
+refused-unless (refused_as why) n = refl
 refused-unless (orders all) n = absurd (n all refl)
 
 -- ---- two lists, place by place
@@ -105,12 +104,12 @@ once_more n p ps a e = rw (total-append (λ q. if n is q then 1 else 0) ps (p �
     go false f = omega (arith, a.once n)
 
 -- they are those of the columns before and of the names, and so they fit
-pub columned : (before : List ℕ) (names : List (List ℕ)) (out : List ℕ) → header_from before names ≡ parsed out → Apart before
+pub columned : (before : List ℕ) (names : List (List ℕ)) (out : List ℕ) → header_from before names ≡ Ok out → Apart before
     → (out ≡ before ++ placed names) × Fit out
 unfolding header_from placed
 columned before [] out e a =
-    let f = past (not (form one_of before)) _ _ _ _ e in
-    let m = past (not (minute one_of before)) _ _ _ _ f.1 in
+    let f = past (not (form one_of before)) _ _ e in
+    let m = past (not (minute one_of before)) _ _ f.1 in
     let same : before ≡ out = cc in
     let fit : Fit before = record {
       apart = a;
@@ -120,9 +119,9 @@ columned before [] out e a =
     (sym same ∙ sym (append-nil before), subst Fit same fit)
 columned before (name ∷ names) out e a =
     let place : ℕ = field_place (trim name) in
-    let s = past (18 at_most length before) _ _ _ _ e in
-    let t = past (place is 18) _ _ _ _ s.1 in
-    let u = past (place one_of before) _ _ _ _ t.1 in
+    let s = past (18 at_most length before) _ _ e in
+    let t = past (place is 18) _ _ s.1 in
+    let u = past (place one_of before) _ _ t.1 in
     let new : times place before ≤ 0 = ltb-false 0 _ (sym (one_of_times place before) ∙ u.0) in
     let other : eqb 18 place ≡ false = ne_eqb 18 place (λ q. eqb-false place 18 t.0 (sym q)) in
     let wider : Apart (before ++ (place ∷ [])) = record {
@@ -134,7 +133,7 @@ columned before (name ∷ names) out e a =
     (rest.0 ∙ append_assoc before (place ∷ []) (placed names), rest.1)
 
 -- and names whose places fit are accepted
-pub named : (before : List ℕ) (names : List (List ℕ)) → Fit (before ++ placed names) → header_from before names ≡ parsed (before ++ placed names)
+pub named : (before : List ℕ) (names : List (List ℕ)) → Fit (before ++ placed names) → header_from before names ≡ Ok (before ++ placed names)
 unfolding header_from placed
 named before [] f =
     let e : before ++ [] ≡ before = append-nil before in
@@ -149,13 +148,13 @@ named before (name ∷ names) f =
     let known : place ≡ 18 → ⊥ = λ q. apart 18 place (placed names) (omega (arith, both 18, f.apart.known)) (sym q) in
     let new : times place before ≤ 0 = omega (arith, both place, f.apart.once place, first_more place (placed names)) in
     simp (lt-leb 18 (length before) few, ne_eqb place 18 known, one_of_times place before ∙ le-ltb 0 _ new)
-    (named (before ++ (place ∷ [])) names (subst Fit (sym e) f) ∙ ap parsed e)
+    (named (before ++ (place ∷ [])) names (subst Fit (sym e) f) ∙ ap Ok e)
 
 -- of the whole line
-pub header_columned : (header places : List ℕ) → header_of header ≡ parsed places → (is_empty header ≡ false) × (places ≡ placed (cells header)) × Fit places
+pub header_columned : (header places : List ℕ) → header_of header ≡ Ok places → (is_empty header ≡ false) × (places ≡ placed (cells header)) × Fit places
 unfolding header_of
 header_columned header places e =
-    let p = past (is_empty header) _ _ _ _ e in
+    let p = past (is_empty header) _ _ e in
     let c = columned [] (cells header) places p.1 (record { few = omega arith; known = refl; once = λ n. omega arith }) in
     (p.0, c.0, c.1)
 
@@ -164,10 +163,10 @@ header_columned header places e =
 -- cell by cell, each number goes into the field of its column
 pub data Fills : (places values : List ℕ) → List (List ℕ) → List ℕ → Type 0 where
   no_more : {values : List ℕ} → Fills [] values [] values
-  one_more : {p n : ℕ} {ps values out c : List ℕ} {cs : List (List ℕ)} → field_number p c ≡ Number.Value n → Fills ps (set values p n) cs out
+  one_more : {p n : ℕ} {ps values out c : List ℕ} {cs : List (List ℕ)} → field_number p c ≡ Ok n → Fills ps (set values p n) cs out
       → Fills (p ∷ ps) values (c ∷ cs) out
 
-pub fills : (ps : List ℕ) (column : ℕ) (values : List ℕ) (cs : List (List ℕ)) (out : List ℕ) → fields_from ps column values cs ≡ parsed out
+pub fills : (ps : List ℕ) (column : ℕ) (values : List ℕ) (cs : List (List ℕ)) (out : List ℕ) → fields_from ps column values cs ≡ Ok out
     → Fills ps values cs out
 unfolding fields_from with_number
 fills [] column values [] out e = let same : values ≡ out = cc in subst (Fills [] values []) same no_more
@@ -175,12 +174,12 @@ fills [] column values (c ∷ cs) out e = absurd (never e)
 fills (p ∷ ps) column values [] out e = absurd (never e)
 fills (p ∷ ps) column values (c ∷ cs) out e = go (field_number p c) refl e (λ n. fills ps (column + 1) (set values p n) cs out)
   where
-    go : (v : Number) → field_number p c ≡ v → with_number v column p (λ n. fields_from ps (column + 1) (set values p n) cs) ≡ parsed out
-        → ((n : ℕ) → fields_from ps (column + 1) (set values p n) cs ≡ parsed out → Fills ps (set values p n) cs out) → Fills (p ∷ ps) values (c ∷ cs) out
-    go (Number.Value n) f e more = one_more f (more n e)
-    go (Number.Refused kind) f e more = absurd (never e)
+    go : (v : Result ℕ Kind) → field_number p c ≡ v → with_number v column p (λ n. fields_from ps (column + 1) (set values p n) cs) ≡ Ok out
+        → ((n : ℕ) → fields_from ps (column + 1) (set values p n) cs ≡ Ok out → Fills ps (set values p n) cs out) → Fills (p ∷ ps) values (c ∷ cs) out
+    go (Ok n) f e more = one_more f (more n e)
+    go (Err kind) f e more = absurd (never e)
 
-pub fills_so : {ps values : List ℕ} {cs : List (List ℕ)} {out : List ℕ} → Fills ps values cs out → (column : ℕ) → fields_from ps column values cs ≡ parsed out
+pub fills_so : {ps values : List ℕ} {cs : List (List ℕ)} {out : List ℕ} → Fills ps values cs out → (column : ℕ) → fields_from ps column values cs ≡ Ok out
 unfolding fields_from with_number
 fills_so no_more column = refl
 fills_so (one_more f r) column = rw f (fills_so r (column + 1))
@@ -198,7 +197,7 @@ kept (one_more {p} {n} {ps} {values} f r) place h = kept r place (omega arith) �
 
 -- a column's place gets the number in its cell
 pub numbers : {ps values : List ℕ} {cs : List (List ℕ)} {out : List ℕ} → Fills ps values cs out → ((n : ℕ) → times n ps ≤ 1)
-    → Each (λ p. p < length values) ps → (i : ℕ) → i < length ps → field_number (get_or ps i 0) (get_or cs i []) ≡ Number.Value (get_or out (get_or ps i 0) 0)
+    → Each (λ p. p < length values) ps → (i : ℕ) → i < length ps → field_number (get_or ps i 0) (get_or cs i []) ≡ Ok (get_or out (get_or ps i 0) 0)
 numbers no_more once inside i h = absurd (omega arith)
 numbers (one_more {p} {n} {ps} {values} f r) once inside zero h =
     rw (kept r p (omega (arith, once p, first_more p ps)), get_or-set_same values p n 0 inside.0) f
@@ -218,23 +217,23 @@ pub record Taken (places line : List ℕ) (order : Order) : Type 0 where
   pub same : order_of values ≡ order
   pub tests : first (field_tests (fields_of order)) ≡ 0
 
-pub taken : (places line : List ℕ) (order : Order) → row_of places line ≡ Row.Order order → Taken places line order
+pub taken : (places line : List ℕ) (order : Order) → row_of places line ≡ Ok order → Taken places line order
 unfolding row_of line_fields ordered
 taken places line order e = go (line_fields places line) refl e
   where
-    tested : (values : List ℕ) (n column place : ℕ) (t : Bool) → eqb n 0 ≡ t
-        → (if t then Row.Order (order_of values) else Row.Refused n column place) ≡ Row.Order order → (order_of values ≡ order) × (n ≡ 0)
-    tested values n column place true f e = (cc, eqb-true n 0 f)
-    tested values n column place false f e = (cc, cc)
+    tested : (values : List ℕ) (n : ℕ) (wrong : Wrong) (t : Bool) → eqb n 0 ≡ t
+        → (if t then Ok (order_of values) else Err wrong) ≡ Ok order → (order_of values ≡ order) × (n ≡ 0)
+    tested values n wrong true f e = (cc, eqb-true n 0 f)
+    tested values n wrong false f e = (cc, cc)
 
-    go : (r : Parsed) → line_fields places line ≡ r → ordered places r ≡ Row.Order order → Taken places line order
-    go (refused kind column place) f e = absurd (let z : ◌≡◌ {A = ℕ} 0 1 = cc in omega arith)
-    go (parsed values) f e =
-        let p = past (is_empty line) _ _ _ _ f in
-        let both = tested values (first (field_tests (fields_of (order_of values)))) _ _ _ refl e in
+    go : (r : Parsed) → line_fields places line ≡ r → ordered places r ≡ Ok order → Taken places line order
+    go (Err wrong) f e = cc
+    go (Ok values) f e =
+        let p = past (is_empty line) _ _ f in
+        let both = tested values (first (field_tests (fields_of (order_of values)))) _ _ refl e in
         record { full = p.0; values = values; read = fills places 1 _ _ values p.1; same = both.0; tests = rw both.0 at both.1 }
 
-pub taken_so : {places line : List ℕ} {order : Order} → Taken places line order → row_of places line ≡ Row.Order order
+pub taken_so : {places line : List ℕ} {order : Order} → Taken places line order → row_of places line ≡ Ok order
 unfolding row_of line_fields ordered
 taken_so t = simp (t.full, fills_so t.read 1, t.same, t.tests)
 
@@ -245,13 +244,13 @@ unfolding rows_from with_row more
 rows places n [] all e = let same : [] ≡ all = cc in subst (Along (Taken places) []) same none
 rows places n (line ∷ lines) all e = go (row_of places line) refl (rows_from places (n + 1) lines) refl e (rows places (n + 1) lines)
   where
-    go : (r : Row) → row_of places line ≡ r → (later : Imported) → rows_from places (n + 1) lines ≡ later → with_row r n later ≡ orders all
+    go : (r : Result Order Wrong) → row_of places line ≡ r → (later : Imported) → rows_from places (n + 1) lines ≡ later → with_row r n later ≡ orders all
         → ((rest : List Order) → rows_from places (n + 1) lines ≡ orders rest → Along (Taken places) lines rest) → Along (Taken places) (line ∷ lines) all
-    go (Row.Order order) f (orders rest) g e later =
+    go (Ok order) f (orders rest) g e later =
         let same : order ∷ rest ≡ all = cc in
         subst (Along (Taken places) (line ∷ lines)) same (one (taken places line order f) (later rest g))
-    go (Row.Order order) f (refused_at kind at column place) g e later = absurd (none_such e)
-    go (Row.Refused kind column place) f i g e later = absurd (none_such e)
+    go (Ok order) f (refused_as why) g e later = absurd (none_such e)
+    go (Err wrong) f i g e later = absurd (none_such e)
 
 pub rows-so : {places : List ℕ} {lines : List (List ℕ)} {all : List Order} → Along (Taken places) lines all → (n : ℕ) → rows_from places n lines ≡ orders all
 unfolding rows_from with_row more
@@ -260,7 +259,7 @@ rows-so (one t r) n = rw (taken_so t, rows-so r (n + 1))
 
 pub record Table (header : List ℕ) (lines : List (List ℕ)) (all : List Order) : Type 0 where
   pub places : List ℕ
-  pub columns : header_of header ≡ parsed places
+  pub columns : header_of header ≡ Ok places
   pub taken_in : Along (Taken places) (full_lines lines) all
 
 pub imported : (header : List ℕ) (lines : List (List ℕ)) (all : List Order) → import_lines (header ∷ lines) ≡ orders all → Table header lines all
@@ -268,8 +267,8 @@ unfolding import_lines with_columns
 imported header lines all e = go (header_of header) refl e
   where
     go : (r : Parsed) → header_of header ≡ r → with_columns r (λ places. rows_from places 2 (full_lines lines)) ≡ orders all → Table header lines all
-    go (refused kind column place) f e = absurd (none_such e)
-    go (parsed places) f e = record { places = places; columns = f; taken_in = rows places 2 (full_lines lines) all e }
+    go (Err wrong) f e = absurd (none_such e)
+    go (Ok places) f e = record { places = places; columns = f; taken_in = rows places 2 (full_lines lines) all e }
 
 pub imported_so : {header : List ℕ} {lines : List (List ℕ)} {all : List Order} → Table header lines all → import_lines (header ∷ lines) ≡ orders all
 unfolding import_lines with_columns

@@ -1,4 +1,5 @@
 -- The theorems of specs/Theorems on names, on what is written, and on empty lines. Assumes nothing.
+use Rattle.std.specs.Prelude.{Ok}
 use Prim.Native.Nat.{ℕ, zero, suc, ◌<◌}
 use native.Mathlib.Omega.{arith}
 use mathlib.Core.Bool.{true, false, true≢false}
@@ -13,9 +14,8 @@ use Rattle.rulebook.proofs.RoundTrips.{write_read}
 use Rattle.names.specs.Numbers.{field_place}
 use Rattle.cells.specs.Cells.{cells, trim, is_empty, leading, full_lines}
 use Rattle.table.specs.Header.{header_of}
-use Rattle.table.specs.Header.Parsed.{parsed}
 use Rattle.table.specs.Lines.{Imported}
-use Rattle.table.specs.Lines.Imported.{refused_at, orders}
+use Rattle.table.specs.Lines.Imported.{refused_as, orders}
 use Rattle.table.specs.Import.{import_lines, import_of, written, is_refused}
 use Rattle.table.specs.Theorems.{field_at, Says, Along, NamedFields, UnknownRefused, NothingWritten, EmptyEnd, EmptyRefused}
 use Rattle.table.specs.Theorems.Along.{one}
@@ -38,7 +38,7 @@ placed_none place [] h = refl
 placed_none place (name ∷ names) h =
     rw (ne_eqb place (field_place (trim name)) (λ e. h 0 (omega arith) (sym e))) (omega (arith, placed_none place names (λ i l. h (suc i) (omega arith))))
 
-module _ (header places : List ℕ) (h : header_of header ≡ parsed places) where
+module _ (header places : List ℕ) (h : header_of header ≡ Ok places) where
   many : length places ≡ length (cells header)
   unfolding placed
   many = ap length (header_columned header places h).1 ∙ length-map (cells header) (λ name. field_place (trim name))
@@ -90,7 +90,7 @@ unfolding NothingWritten is_refused written
 nothing_written file e = go (import_of file) e
   where
     go : (i : Imported) → is_refused i ≡ true → written i ≡ []
-    go (refused_at kind line column place) e = refl
+    go (refused_as why) e = refl
     go (orders all) e = cc
 
 -- ---- (f), (g)

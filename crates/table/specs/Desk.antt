@@ -6,11 +6,11 @@ use Rattle.rulebook.specs.Field.{minute, security, quantity, amount}
 use Rattle.rulebook.specs.Record.{order_of}
 use Rattle.rulebook.specs.declared.Order.{Order}
 use Rattle.text.specs.Text.{text}
-use Rattle.cells.specs.Kinds.{no_header, unknown_name, repeated_name, minute_missing, too_few_cells, too_many_cells}
-use Rattle.cells.specs.Kinds.{empty_cell, not_aNumber, too_large, quoted, unknown_form, empty_line}
+use Rattle.cells.specs.declared.kind.Kind.TheVariants.{NoHeader, UnknownName, RepeatedName, MinuteMissing, TooFewCells, TooManyCells}
+use Rattle.cells.specs.declared.kind.Kind.TheVariants.{EmptyCell, NotANumber, TooLarge, Quoted, UnknownForm, EmptyLine, Record}
 use Rattle.table.specs.Header.{no_place}
-use Rattle.table.specs.Lines.{Imported}
-use Rattle.table.specs.Lines.Imported.{refused_at, orders}
+use Rattle.table.specs.Lines.{Imported, refused_at}
+use Rattle.table.specs.Lines.Imported.{orders}
 use Rattle.table.specs.Import.{mark, import_of}
 
 -- open the day, kind 1, at 470; admit 101, 1,000 at 500; confirm a cycle at 590
@@ -38,31 +38,31 @@ tables =
     ∷ shown "byte order mark" (mark ++ text "form,minute,quantity\n1,470,1\n") (orders (opening ∷ []))
     ∷ shown "names alone" (text "form,minute\n") (orders [])
     ∷ shown "empty lines last" (text "form,minute,quantity\n1,470,1\n\r\n \n\n") (orders (opening ∷ []))
-    ∷ shown "nothing" (text "") (refused_at no_header 1 0 no_place)
-    ∷ shown "no names" (text "\nform,minute\n") (refused_at empty_line 1 0 no_place)
-    ∷ shown "one column more" (text "form,minute,quantity,certificate\n1,470,1,77\n") (refused_at unknown_name 1 4 no_place)
-    ∷ shown "another case" (text "Form,minute\n1,470\n") (refused_at unknown_name 1 1 no_place)
-    ∷ shown "no name" (text "form,minute,\n1,470,\n") (refused_at empty_cell 1 3 no_place)
-    ∷ shown "name twice" (text "form,minute,form\n1,470,1\n") (refused_at repeated_name 1 3 no_place)
-    ∷ shown "no minute" (text "form,quantity\n1,1\n") (refused_at minute_missing 1 0 no_place)
-    ∷ shown "quoted name" (text "\"form\",\"minute\"\n1,470\n") (refused_at quoted 1 1 no_place)
-    ∷ shown "one cell more" (text "form,minute,quantity\n1,470,1\n1,470,1,9\n") (refused_at too_many_cells 3 4 no_place)
-    ∷ shown "one cell less" (text "form,minute,quantity\n1,470\n") (refused_at too_few_cells 2 3 quantity)
-    ∷ shown "empty line" (text "form,minute,quantity\n1,470,1\n\n\n1,470,1\n") (refused_at empty_line 3 0 no_place)
-    ∷ shown "a remark" (text "form,minute,quantity\n# opening\n1,470,1\n") (refused_at unknown_form 2 1 0)
-    ∷ shown "nothing there" (text "form,minute,quantity\n1,470,\n") (refused_at 5 2 3 quantity)
+    ∷ shown "nothing" (text "") (refused_at NoHeader 1 0 no_place)
+    ∷ shown "no names" (text "\nform,minute\n") (refused_at EmptyLine 1 0 no_place)
+    ∷ shown "one column more" (text "form,minute,quantity,certificate\n1,470,1,77\n") (refused_at UnknownName 1 4 no_place)
+    ∷ shown "another case" (text "Form,minute\n1,470\n") (refused_at UnknownName 1 1 no_place)
+    ∷ shown "no name" (text "form,minute,\n1,470,\n") (refused_at EmptyCell 1 3 no_place)
+    ∷ shown "name twice" (text "form,minute,form\n1,470,1\n") (refused_at RepeatedName 1 3 no_place)
+    ∷ shown "no minute" (text "form,quantity\n1,1\n") (refused_at MinuteMissing 1 0 no_place)
+    ∷ shown "quoted name" (text "\"form\",\"minute\"\n1,470\n") (refused_at Quoted 1 1 no_place)
+    ∷ shown "one cell more" (text "form,minute,quantity\n1,470,1\n1,470,1,9\n") (refused_at TooManyCells 3 4 no_place)
+    ∷ shown "one cell less" (text "form,minute,quantity\n1,470\n") (refused_at TooFewCells 2 3 quantity)
+    ∷ shown "empty line" (text "form,minute,quantity\n1,470,1\n\n\n1,470,1\n") (refused_at EmptyLine 3 0 no_place)
+    ∷ shown "a remark" (text "form,minute,quantity\n# opening\n1,470,1\n") (refused_at UnknownForm 2 1 0)
+    ∷ shown "nothing there" (text "form,minute,quantity\n1,470,\n") (refused_at (Record 5) 2 3 quantity)
     ∷ shown "nothing unused" (text "form,minute,quantity,amount\n1,470,1,\n") (orders (opening ∷ []))
-    ∷ shown "no minute there" (text "form,minute\nclose, \n") (refused_at empty_cell 2 2 minute)
-    ∷ shown "a sign" (text "form,minute,quantity\n1,470,-1\n") (refused_at not_aNumber 2 3 quantity)
-    ∷ shown "a quote" (text "form,minute,quantity\n1,470,\"1\"\n") (refused_at quoted 2 3 quantity)
-    ∷ shown "a quoted form" (text "form,minute\n\"close\",470\n") (refused_at quoted 2 1 0)
-    ∷ shown "no such name" (text "form,minute\nopen,470\n") (refused_at unknown_form 2 1 0)
-    ∷ shown "below the limit" (text "form,minute,quantity\n1,470,18446744073709551615\n") (refused_at 5 2 3 quantity)
-    ∷ shown "at the limit" (text "form,minute,quantity\n1,470,18446744073709551616\n") (refused_at too_large 2 3 quantity)
-    ∷ shown "no such form" (text "form,minute,quantity\n22,470,1\n") (refused_at 3 2 1 0)
-    ∷ shown "a third answer" (text "form,minute,quantity\nanswer cycle,590,3\n") (refused_at 5 2 3 quantity)
-    ∷ shown "unused field" (text "form,minute,quantity,amount\n1,470,1,5\n") (refused_at 4 2 4 amount)
-    ∷ shown "used field missing" (text "form,minute\nadmit,500\n") (refused_at 5 2 0 security)
+    ∷ shown "no minute there" (text "form,minute\nclose, \n") (refused_at EmptyCell 2 2 minute)
+    ∷ shown "a sign" (text "form,minute,quantity\n1,470,-1\n") (refused_at NotANumber 2 3 quantity)
+    ∷ shown "a quote" (text "form,minute,quantity\n1,470,\"1\"\n") (refused_at Quoted 2 3 quantity)
+    ∷ shown "a quoted form" (text "form,minute\n\"close\",470\n") (refused_at Quoted 2 1 0)
+    ∷ shown "no such name" (text "form,minute\nopen,470\n") (refused_at UnknownForm 2 1 0)
+    ∷ shown "below the limit" (text "form,minute,quantity\n1,470,18446744073709551615\n") (refused_at (Record 5) 2 3 quantity)
+    ∷ shown "at the limit" (text "form,minute,quantity\n1,470,18446744073709551616\n") (refused_at TooLarge 2 3 quantity)
+    ∷ shown "no such form" (text "form,minute,quantity\n22,470,1\n") (refused_at (Record 3) 2 1 0)
+    ∷ shown "a third answer" (text "form,minute,quantity\nanswer cycle,590,3\n") (refused_at (Record 5) 2 3 quantity)
+    ∷ shown "unused field" (text "form,minute,quantity,amount\n1,470,1,5\n") (refused_at (Record 4) 2 4 amount)
+    ∷ shown "used field missing" (text "form,minute\nadmit,500\n") (refused_at (Record 5) 2 0 security)
     ∷ []
 
 unfoldable pub Tables : Type 0

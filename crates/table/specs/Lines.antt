@@ -1,51 +1,50 @@
 -- The lines of a table: the orders that they say.
-use Rattle.std.specs.Prelude.{if◌then◌else◌, ℕ, ◌+◌, ◌*◌, List, [], ◌∷◌, ◌++◌, length, get_or, set, replicate, drop}
+use Rattle.std.specs.Prelude.{if◌then◌else◌, ℕ, ◌+◌, ◌*◌, List, [], ◌∷◌, ◌++◌, length, get_or, set, replicate, drop, Result, Ok, Err}
 use Rattle.plain.specs.Lists.{◌is◌, within, first}
 use Rattle.rulebook.specs.Field.{form, minute}
 use Rattle.rulebook.specs.Record.{fields_of, order_of, field_tests, record_of}
 use Rattle.rulebook.specs.declared.Order.{Order}
 use Rattle.names.specs.Numbers.{form_number}
 use Rattle.field_rules.specs.Fields.{refused_place}
-use Rattle.cells.specs.Kinds.{too_few_cells, too_many_cells, empty_cell, unknown_form, empty_line}
+use Rattle.cells.specs.declared.kind.Kind.TheVariants.{TooFewCells, TooManyCells, EmptyCell, UnknownForm, EmptyLine, Record}
 use Rattle.cells.specs.Cells.{cells, trim, is_empty, strange, number_in}
-use Rattle.cells.specs.declared.Number.{Number}
-use Rattle.table.specs.Header.{no_place, Parsed}
-use Rattle.table.specs.Header.Parsed.{refused, parsed}
-use Rattle.table.specs.declared.Fields.{Fields}
-use Rattle.table.specs.declared.Row.{Row}
+use Rattle.cells.specs.declared.kind.Kind.{Kind}
+use Rattle.table.specs.Header.{no_place, Parsed, wrong, refused}
+use Rattle.table.specs.declared.Wrong.{Wrong}
+use Rattle.table.specs.declared.Refused.{Refused}
 
 -- ---- a cell under its column
 
 -- a form: what starts with a digit is its number, all else its name
-unfoldable pub form_in : List ℕ → Number
+unfoldable pub form_in : List ℕ → Result ℕ Kind
 form_in text =
     let number = form_number text in
-    if length text is 0 then Number.Refused empty_cell
+    if length text is 0 then Err EmptyCell
     else if within 48 57 (get_or text 0 0) then number_in text
-    else if number is 0 then Number.Refused (strange unknown_form text)
-    else Number.Value number
+    else if number is 0 then Err (strange UnknownForm text)
+    else Ok number
 
 -- an empty cell says 0
-unfoldable pub optional_in : List ℕ → Number
-optional_in text = let number = number_in text in if length text is 0 then Number.Value 0 else number
+unfoldable pub optional_in : List ℕ → Result ℕ Kind
+optional_in text = let number = number_in text in if length text is 0 then Ok 0 else number
 
 -- the number that a cell says under a field's name; under form and minute it may not be empty
-unfoldable pub field_number : (place : ℕ) → List ℕ → Number
+unfoldable pub field_number : (place : ℕ) → List ℕ → Result ℕ Kind
 field_number place cell =
     if place is form then form_in (trim cell) else if place is minute then number_in (trim cell) else optional_in (trim cell)
 
 -- ---- a line
 
 -- go on with the number in a cell, or refuse the cell
-unfoldable pub with_number : Number → (column place : ℕ) → (ℕ → Parsed) → Parsed
-with_number (Number.Value n) column place next = next n
-with_number (Number.Refused kind) column place next = refused kind column place
+unfoldable pub with_number : Result ℕ Kind → (column place : ℕ) → (ℕ → Parsed) → Parsed
+with_number (Ok n) column place next = next n
+with_number (Err kind) column place next = refused kind column place
 
 -- each cell's number goes into the field of its column
 unfoldable pub fields_from : List ℕ → (column : ℕ) → List ℕ → List (List ℕ) → Parsed
-fields_from [] column values [] = parsed values
-fields_from [] column values (cell ∷ others) = refused too_many_cells column no_place
-fields_from (place ∷ places) column values [] = refused too_few_cells column place
+fields_from [] column values [] = Ok values
+fields_from [] column values (cell ∷ others) = refused TooManyCells column no_place
+fields_from (place ∷ places) column values [] = refused TooFewCells column place
 fields_from (place ∷ places) column values (cell ∷ others) =
     with_number (field_number place cell) column place (λ n. fields_from places (column + 1) (set values place n) others)
 
@@ -53,7 +52,7 @@ fields_from (place ∷ places) column values (cell ∷ others) =
 unfoldable pub line_fields : List ℕ → List ℕ → Parsed
 line_fields places line =
     let fields = fields_from places 1 (replicate 19 0) (cells line) in
-    if is_empty line then refused empty_line 0 no_place else fields
+    if is_empty line then refused EmptyLine 0 no_place else fields
 
 -- the column of a field among columns that are counted on from a column; 0 where it has none
 unfoldable pub column_from : (column : ℕ) → List ℕ → (place : ℕ) → ℕ
@@ -61,42 +60,45 @@ column_from column [] place = 0
 column_from column (other ∷ others) place = let later = column_from (column + 1) others place in if place is other then column else later
 
 -- the order of such fields goes through the record writer's tests, 3 to 5; what is told is the first field to which the test applies
-unfoldable pub ordered : List ℕ → Parsed → Row
-ordered places (refused kind column place) = Row.Refused kind column place
-ordered places (parsed values) =
+unfoldable pub ordered : List ℕ → Parsed → Result Order Wrong
+ordered places (Err wrong) = Err wrong
+ordered places (Ok values) =
     let order = order_of values in
     let number = first (field_tests (fields_of order)) in
     let place = refused_place (fields_of order) in
-    if number is 0 then Row.Order order else Row.Refused number (column_from 1 places place) place
+    if number is 0 then Ok order else refused (Record number) (column_from 1 places place) place
 
 -- a line of a table with these columns
-unfoldable pub row_of : List ℕ → List ℕ → Row
+unfoldable pub row_of : List ℕ → List ℕ → Result Order Wrong
 row_of places line = ordered places (line_fields places line)
 
--- what the code's answer means
-abbrev pub fields_read : Fields → Parsed
-fields_read fields = if fields.good then parsed fields.values else refused fields.kind fields.column fields.place
-
 -- a buffer after a row: its record at the start, the rest as it was
-unfoldable pub row_written : Row → List ℕ → List ℕ
-row_written (Row.Order order) out = record_of order ++ drop 40 out
-row_written (Row.Refused kind column place) out = out
+unfoldable pub row_written : Result Order Wrong → List ℕ → List ℕ
+row_written (Ok order) out = record_of order ++ drop 40 out
+row_written (Err wrong) out = out
 
 -- ---- lines, one after the other
 
 -- what lines say: the orders, or the first refusal, with its line, column and field
 pub data Imported : Type 0 where
-  refused_at : (kind line column place : ℕ) → Imported
+  refused_as : Refused → Imported
   orders : List Order → Imported
+
+-- what is wrong in the line with a number
+abbrev pub in_line : ℕ → Wrong → Refused
+in_line line wrong = record { line = line; wrong = wrong }
+
+abbrev pub refused_at : (kind : Kind) (line column place : ℕ) → Imported
+refused_at kind line column place = refused_as (in_line line (wrong kind column place))
 
 -- an order before the others; where a later line is refused, nothing
 unfoldable pub more : Order → Imported → Imported
-more order (refused_at kind line column place) = refused_at kind line column place
+more order (refused_as why) = refused_as why
 more order (orders others) = orders (order ∷ others)
 
-unfoldable pub with_row : Row → ℕ → Imported → Imported
-with_row (Row.Order order) line later = more order later
-with_row (Row.Refused kind column place) line later = refused_at kind line column place
+unfoldable pub with_row : Result Order Wrong → ℕ → Imported → Imported
+with_row (Ok order) line later = more order later
+with_row (Err wrong) line later = refused_as (in_line line wrong)
 
 -- the rows of lines, the first of which has this number
 unfoldable pub rows_from : List ℕ → ℕ → List (List ℕ) → Imported

@@ -1,12 +1,11 @@
 -- What is proved of a table's import.
-use Rattle.std.specs.Prelude.{ℕ, zero, suc, ◌+◌, ◌*◌, ◌<◌, ◌≤◌, true, false, List, [], ◌∷◌, ◌++◌, map, ◌≡◌, length, get_or}
+use Rattle.std.specs.Prelude.{ℕ, zero, suc, ◌+◌, ◌*◌, ◌<◌, ◌≤◌, true, false, List, [], ◌∷◌, ◌++◌, map, ◌≡◌, length, get_or, Option, None, Ok}
 use Rattle.rulebook.specs.Record.{fields_of, record_of, read_of}
 use Rattle.rulebook.specs.declared.Order.{Order}
 use Rattle.rulebook.specs.declared.Read.{Read}
 use Rattle.text.specs.Parts.{line_feed, up_to}
 use Rattle.names.specs.Numbers.{field_place}
 use Rattle.cells.specs.Cells.{cells, trim, is_empty, lines_of, full_lines, whole_lines, tail_of}
-use Rattle.cells.specs.declared.Number.{Number}
 use Rattle.table.specs.Header.{no_place}
 use Rattle.table.specs.Lines.{field_number, rows_from}
 use Rattle.table.specs.Lines.Imported.{orders}
@@ -26,7 +25,7 @@ pub record Says (header line : List ℕ) (order : Order) : Type 0 where
   pub as_many : length (cells line) ≡ length (cells header)
   -- the field that a column names is the number in that column's cell
   pub named : (column : ℕ) → column < length (cells header)
-      → field_number (field_at header column) (get_or (cells line) column []) ≡ Number.Value (get_or (fields_of order) (field_at header column) 0)
+      → field_number (field_at header column) (get_or (cells line) column []) ≡ Ok (get_or (fields_of order) (field_at header column) 0)
   -- a field that no column names is 0
   pub other : (place : ℕ) → place < no_place → ((column : ℕ) → column < length (cells header) → field_at header column ≡ place → ⊥)
       → get_or (fields_of order) place 0 ≡ 0
@@ -135,22 +134,21 @@ RowsInBlocks = (places : List ℕ) (line : ℕ) (block next : List (List ℕ))
 
 -- a walk over lines in blocks
 unfoldable pub WalkInBlocks : Type 0
-WalkInBlocks = (places : List ℕ) (line empty : ℕ) (block next : List (List ℕ))
+WalkInBlocks = (places : List ℕ) (line : ℕ) (empty : Option ℕ) (block next : List (List ℕ))
     → walk places line empty (block ++ next) ≡ onward (walk places line empty block) (λ reached passed. walk places reached passed next)
 
--- and at the end of the lines, which are numbered from 1 on, it has come to what the table says
+-- and at the end of the lines it has come to what the table says
 unfoldable pub WalkIsImport : Type 0
-WalkIsImport = (places : List ℕ) (line : ℕ) (lines : List (List ℕ)) → 0 < line
-    → outcome (walk places line 0 lines) ≡ rows_from places line (full_lines lines)
+WalkIsImport = (places : List ℕ) (line : ℕ) (lines : List (List ℕ)) → outcome (walk places line None lines) ≡ rows_from places line (full_lines lines)
 
 -- the lines that a check passes are all converted
 unfoldable pub AllConverted : Type 0
-AllConverted = (places : List ℕ) (line : ℕ) (lines : List (List ℕ)) (all : List Order) → 0 < line → rows_from places line (full_lines lines) ≡ orders all
-    → met_in (walk places line 0 lines) ≡ all
+AllConverted = (places : List ℕ) (line : ℕ) (lines : List (List ℕ)) (all : List Order) → rows_from places line (full_lines lines) ≡ orders all
+    → met_in (walk places line None lines) ≡ all
 
 -- and 20 bytes for each byte of a block are room enough for its records
 unfoldable pub RoomEnough : Type 0
-RoomEnough = (places : List ℕ) (line empty : ℕ) (block : List ℕ) → 2 * length (met_in (walk places line empty (whole_lines block))) ≤ length block
+RoomEnough = (places : List ℕ) (line : ℕ) (empty : Option ℕ) (block : List ℕ) → 2 * length (met_in (walk places line empty (whole_lines block))) ≤ length block
 
 -- ---- there and back
 

@@ -1,69 +1,49 @@
 // The types that the definitions of a table are written with. Nothing here runs.
 #![tactic(auto)]
 
-use rulebook::Order;
+ghost use Rattle.std.specs.Prelude.{◌≤◌, take};
+ghost use Rattle.table.specs.Places.{no_place, Known};
 
-// The columns of a table: where they are good, the field's place for each of them; else a kind of refusal and its column.
+use cells::Kind;
+
+// The columns of a table: how many there are, and the place of the field that each of them holds.
 #[derive(Clone, Copy)]
 pub struct Columns {
-    pub good: bool,
-    pub kind: u64,
-    pub column: usize,
     pub count: usize,
     pub places: [usize; 19],
+    ghost few: { count ≤ no_place },
+    ghost known: { Known (take count places) },
 }
 
-// The fields of a line: where they are good, the values; else a kind of refusal, its column and its field's place.
-#[derive(Clone, Copy)]
-pub struct Fields {
-    pub good: bool,
-    pub kind: u64,
+// What is wrong in a line, and where: the column, counted from 1, or 0 where no single column is meant; the field's place, or 18 where no field is
+// meant.
+#[derive(Clone, Copy, Debug, PartialEq, Eq)]
+pub struct Wrong {
+    pub kind: Kind,
     pub column: usize,
     pub place: usize,
-    pub values: [u64; 19],
 }
 
-// A line's order, or why there is none.
-#[derive(Clone, Copy)]
-pub enum Row {
-    Order(Order),
-    Refused {
-        kind: u64,
-        column: usize,
-        place: usize,
-    },
+// Why a table is refused: the line, counted from 1, and what is wrong in it.
+#[derive(Clone, Copy, Debug, PartialEq, Eq)]
+pub struct Refused {
+    pub line: u64,
+    pub wrong: Wrong,
 }
 
-// What a line does to a walk over lines: it is refused, or the first of the empty lines just before the next one, 0 for none, and how many
-// bytes were written.
+// What a line does to a walk over lines: the first of the empty lines just before the next one, and how many bytes were written.
 #[derive(Clone, Copy)]
-pub enum Step {
-    Refused {
-        kind: u64,
-        line: u64,
-        column: usize,
-        place: usize,
-    },
-    Passed {
-        empty: u64,
-        wrote: usize,
-    },
+pub struct Step {
+    pub empty: Option<u64>,
+    pub wrote: usize,
 }
 
-// What a block's lines answer: the first refusal; or how many bytes they take, the number of the next line, the first of the empty lines just
-// before it, 0 for none, and how many bytes were written.
+// What a block's lines came to: how many bytes they take, the number of the next line, the first of the empty lines just before it, and how many bytes
+// were written.
 #[derive(Clone, Copy)]
-pub enum Checked {
-    Refused {
-        kind: u64,
-        line: u64,
-        column: usize,
-        place: usize,
-    },
-    Passed {
-        used: usize,
-        line: u64,
-        empty: u64,
-        wrote: usize,
-    },
+pub struct Checked {
+    pub used: usize,
+    pub line: u64,
+    pub empty: Option<u64>,
+    pub wrote: usize,
 }

@@ -1,8 +1,8 @@
 -- The first line of a table of which the first bytes are known. Assumes nothing.
-use Rattle.std.specs.Prelude.{if◌then◌else◌}
+use Rattle.std.specs.Prelude.{if◌then◌else◌, None, Result, Ok, Err}
 use Prim.Native.Nat.{ℕ, suc, ◌+◌, ◌-◌, ◌≤◌, ◌<◌}
 use native.Mathlib.Omega.{arith}
-use mathlib.Core.Bool.{Bool, true, false, false≢true}
+use mathlib.Core.Bool.{Bool, true, false}
 use mathlib.Core.List.{List, [], ◌∷◌, ◌++◌, append-nil}
 use mathlib.Core.Path.{◌≡◌, refl, sym, ap, ◌∙◌}
 use borrow.Author.Tests.{ltb-true, ltb-false}
@@ -10,11 +10,15 @@ use lib.Dec.{eqb, ltb}
 use lib.ListN.{length, take, drop, length-drop, drop_of_length-le}
 use lib.Seq.{take-append-le, drop-append-le, drop-drop, take_all}
 use Rattle.text.specs.Parts.{line_feed, up_to, joined, same_text}
-use Rattle.cells.specs.Kinds.{no_header, long_line}
+use Rattle.cells.specs.declared.kind.Kind.TheVariants.{NoHeader, LongLine}
 use Rattle.cells.specs.Cells.{lines_of}
-use Rattle.table.specs.Header.{no_place, header_of, columns_of}
-use Rattle.table.specs.Header.Parsed.{refused, parsed}
-use Rattle.table.specs.Lines.Imported.{refused_at}
+use Rattle.cells.specs.declared.kind.Kind.{Kind}
+use Rattle.table.specs.Header.{no_place, wrong, header_of, columns_of}
+use Rattle.table.specs.Lines.{in_line, refused_at}
+use Rattle.table.specs.Lines.Imported.{refused_as}
+use Rattle.table.specs.declared.Wrong.{Wrong}
+use Rattle.table_buffer.specs.declared.Rest.{Rest}
+use Rattle.table_buffer.specs.declared.Rest.TheVariants.{More, Ended}
 use Rattle.table.specs.Import.{mark, unmarked, with_columns, import_lines, import_of}
 use Rattle.table.specs.Blocks.{walk, outcome}
 use Rattle.table.specs.Theorems.{WalkIsImport}
@@ -57,27 +61,25 @@ unmarked-more block later h = rw (take-append-le 3 block later h, drop-append-le
     go false = refl
 
 module _ (file header rest : List ℕ) (e : lines_of (unmarked file) ≡ header ∷ lines_of rest) where
-  import_header : (places : List ℕ) → header_of header ≡ parsed places → import_of file ≡ outcome (walk places 2 0 (lines_of rest))
+  import_header : (places : List ℕ) → header_of header ≡ Ok places → import_of file ≡ outcome (walk places 2 None (lines_of rest))
   unfolding import_of import_lines with_columns WalkIsImport
-  import_header places p = ap import_lines e ∙ rw p (sym (walk-is_import places 2 (lines_of rest) (omega arith)))
+  import_header places p = ap import_lines e ∙ rw p (sym (walk-is_import places 2 (lines_of rest)))
 
-  import_refused : (kind column place : ℕ) → header_of header ≡ refused kind column place → import_of file ≡ refused_at kind 1 column place
+  import_refused : (why : Wrong) → header_of header ≡ Err why → import_of file ≡ refused_as (in_line 1 why)
   unfolding import_of import_lines with_columns
-  import_refused kind column place p = ap import_lines e ∙ rw p
+  import_refused why p = ap import_lines e ∙ rw p
 
-import_nothing : (file : List ℕ) → unmarked file ≡ [] → import_of file ≡ refused_at no_header 1 0 no_place
+import_nothing : (file : List ℕ) → unmarked file ≡ [] → import_of file ≡ refused_at NoHeader 1 0 no_place
 unfolding import_of import_lines lines_of
 import_nothing file e = rw e
 
 -- the columns of that line
-module _ (columns : Columns) (line : List ℕ) (e : columns_of columns ≡ header_of line) where
-  columns_refused : columns.good ≡ false → header_of line ≡ refused columns.kind columns.column no_place
-  unfolding columns_of
-  columns_refused g = sym e ∙ simp g
+module _ (answer : Result Columns Wrong) (line : List ℕ) (e : columns_of answer ≡ header_of line) where
+  columns_wrong : (why : Wrong) → answer ≡ Err why → header_of line ≡ Err why
+  columns_wrong why g = sym e ∙ ap columns_of g
 
-  columns_good : columns.good ≡ true → header_of line ≡ parsed (take columns.count columns.places)
-  unfolding columns_of
-  columns_good g = sym e ∙ simp g
+  columns_good : (columns : Columns) → answer ≡ Ok columns → header_of line ≡ Ok (take columns.count columns.places)
+  columns_good columns g = sym e ∙ ap columns_of g
 
 -- ---- where it starts and ends
 
@@ -117,56 +119,54 @@ module _ (block : List ℕ) (start end : ℕ) (s : start ≤ length block) (u : 
 
 -- ---- what the code answers
 
-module _ (block : List ℕ) (ended : Bool) (start end : ℕ) (first : First) (s : start ≤ end) (l : end ≤ length block) (h : Headed block start end first)
-    (e : (later : List ℕ) → (ended ≡ true → later ≡ [])
+module _ (block : List ℕ) (rest : Rest) (start end : ℕ) (first : First) (s : start ≤ end) (l : end ≤ length block) (h : Headed block start end first)
+    (e : (later : List ℕ) → (rest ≡ Ended → later ≡ [])
     → lines_of (unmarked (block ++ later)) ≡ take (end - start) (drop start block) ∷ lines_of (drop (end + 1) block ++ later)) where
-  first_read : FirstRead block ended first
+  first_read : FirstRead block rest first
   first_read = record {
     starts = omega (arith, h.at_start, h.at_end);
     ends = omega (arith, h.at_end);
     behind = h.behind;
-    usable = λ g. h.usable;
-    refused = λ g n later o. import_refused (block ++ later) _ _ (e later o) _ _ _ (columns_refused first.columns _ h.columns g);
-    named = λ g later o.
-        import_header (block ++ later) _ _ (e later o) _ (columns_good first.columns _ h.columns g)
-        ∙ ap (λ (r : List ℕ). outcome (walk (take first.columns.count first.columns.places) 2 0 (lines_of (r ++ later)))) (sym h.rest);
+    is_wrong = λ why g n later o. import_refused (block ++ later) _ _ (e later o) _ (columns_wrong first.columns _ h.columns why g);
+    named = λ columns g later o.
+        import_header (block ++ later) _ _ (e later o) _ (columns_good first.columns _ h.columns columns g)
+        ∙ ap (λ (r : List ℕ). outcome (walk (take columns.count columns.places) 2 None (lines_of (r ++ later)))) (sym h.rest);
   }
 
 module _ (block : List ℕ) (start end : ℕ) (first : First) (s : start ≤ length block) (u : drop start block ≡ unmarked block)
     (e : end ≡ start + up_to line_feed (drop start block)) (l : end ≤ length block) (h : Headed block start end first) where
-  pub first-of_all : start < length block → FirstRead block true first
+  pub first-of_all : start < length block → FirstRead block Ended first
   first-of_all some =
-      first_read block true start end first (omega arith) l h
+      first_read block Ended start end first (omega arith) l h
       (λ later o. rw (o refl, append-nil block, append-nil (drop (end + 1) block)) (lines_of_lem block start end s u e some))
 
-  pub first-of_more : end < length block → 3 ≤ length block → FirstRead block false first
-  first-of_more inside long = first_read block false start end first (omega arith) l h (λ later o. lines_then block start end s u e inside long later)
+  pub first-of_more : end < length block → 3 ≤ length block → FirstRead block More first
+  first-of_more inside long = first_read block More start end first (omega arith) l h (λ later o. lines_then block start end s u e inside long later)
 
 -- there is no line, or none that ends
-module _ (block : List ℕ) (ended : Bool) (kind at : ℕ) (first : First) (n : NoLine kind at first) (inside : at ≤ length block) where
-  never : first.columns.good ≡ true → ⊥
-  never g = false≢true (sym n.bad ∙ g)
-
-  none_read : ((later : List ℕ) → (ended ≡ true → later ≡ []) → (kind ≡ long_line → ⊥) → import_of (block ++ later) ≡ refused_at kind 1 0 no_place)
-      → FirstRead block ended first
+module _ (block : List ℕ) (rest : Rest) (kind : Kind) (at : ℕ) (first : First) (n : NoLine kind at first) (inside : at ≤ length block) where
+  none_read : ((later : List ℕ) → (rest ≡ Ended → later ≡ []) → (kind ≡ LongLine → ⊥) → import_of (block ++ later) ≡ refused_at kind 1 0 no_place)
+      → FirstRead block rest first
   none_read why = record {
     starts = omega (arith, n.at_start, n.at_end);
     ends = omega (arith, n.at_end);
     behind = omega (arith, n.behind);
-    usable = λ g. absurd (never g);
-    refused = λ g k later o. rw (n.because, n.nowhere) (why later o (λ e. k (n.because ∙ e)));
-    named = λ g. absurd (never g);
+    is_wrong = λ told g k later o.
+        let same : told ≡ wrong kind 0 no_place = cc (n.because) in
+        let so : told.kind ≡ kind = ap (λ (w : Wrong). w.kind) same in
+        why later o (λ e. k (so ∙ e)) ∙ ap (λ (w : Wrong). refused_as (in_line 1 w)) (sym same);
+    named = λ columns g. cc (n.because);
   }
 
-  pub too_long : kind ≡ long_line → FirstRead block ended first
+  pub too_long : kind ≡ LongLine → FirstRead block rest first
   too_long e = none_read (λ later o k. absurd (k e))
 
   -- a file that did not end has more than a mark
-  pub nothing_there : kind ≡ no_header → drop at block ≡ unmarked block → at ≡ length block → (ended ≡ false → 3 < length block) → FirstRead block ended first
-  nothing_there e u all more = go ended refl
+  pub nothing_there : kind ≡ NoHeader → drop at block ≡ unmarked block → at ≡ length block → (rest ≡ More → 3 < length block) → FirstRead block rest first
+  nothing_there e u all more = go rest refl
     where
-      go : (t : Bool) → ended ≡ t → FirstRead block ended first
-      go true f =
+      go : (t : Rest) → rest ≡ t → FirstRead block rest first
+      go Ended f =
           none_read (λ later o k.
           rw (o f, append-nil block, e) (import_nothing block (sym u ∙ drop_of_length-le block {i = at} (omega arith))))
-      go false f = absurd (omega (arith, more f, mark-short block at inside u))
+      go More f = absurd (omega (arith, more f, mark-short block at inside u))

@@ -1,61 +1,63 @@
 -- The lines of bytes that are read in blocks. Assumes nothing.
-use Rattle.std.specs.Prelude.{if◌then◌else◌}
+use Rattle.std.specs.Prelude.{if◌then◌else◌, Option, Result, Ok, Err}
 use Prim.Native.Nat.{ℕ, suc, ◌+◌, ◌-◌, ◌*◌, ◌≤◌, ◌<◌}
 use native.Mathlib.Omega.{arith}
 use native.Mathlib.Numerals.{add-one}
 use mathlib.Core.Bool.{Bool, true, false}
 use mathlib.Core.List.{List, [], ◌∷◌, ◌++◌, append-nil}
-use mathlib.Core.Path.{◌≡◌, refl, sym, ap, subst, ◌∙◌}
+use mathlib.Core.Path.{◌≡◌, refl, sym, ap, ◌∙◌}
 use lib.Dec.{eqb, ltb}
 use lib.ListN.{length, take, drop, set, length-append, length-drop, length-set}
 use lib.Seq.{drop-append-le, drop-drop, take-add, take-suc-set, drop_at, length-take-le}
 use Rattle.text.specs.Parts.{line_feed, up_to, joined}
 use Rattle.cells.specs.Cells.{onto, lines_of, whole_lines, tail_of, is_empty, front}
-use Rattle.table.specs.Lines.Imported.{refused_at, orders}
+use Rattle.table.specs.Lines.Imported.{refused_as, orders}
 use Rattle.table.specs.Blocks.{Walked, having, walk, onward, outcome, met_in, used_of, checked_as}
 use Rattle.table.specs.Blocks.Walked.{stopped, reached}
 use Rattle.table.specs.declared.Checked.{Checked}
 use Rattle.table.specs.Theorems.{InBlocks, WalkInBlocks, RoomEnough}
 use Rattle.table.proofs.InBlocks.{in_blocks, walk-in_blocks, room_enough}
-use Rattle.cells.specs.Kinds.{long_line}
 use Rattle.table.specs.Lines.{filled}
-use Rattle.table_buffer.specs.Blocks.{Given, inside, ending, Ordered, Continues, refused_as, Goes, record_bytes, Recorded}
+use Rattle.table_buffer.specs.Blocks.{Given, inside, ending, Ordered, Continues, long_line_at, Goes, record_bytes, Recorded}
 use Rattle.table_buffer.specs.declared.Reading.{Reading}
 use Rattle.table_buffer.specs.declared.Next.{Next}
-use Rattle.table_buffer.specs.declared.Converted.{Converted}
+use Rattle.table_buffer.specs.declared.Rest.TheVariants.{More}
+use Rattle.table.specs.declared.Refused.{Refused}
 
 -- ---- what a walk came to, by the code's answer
 
-pub record Stopped (w : Walked) (kind line column place : ℕ) : Type 0 where
-  pub is : w ≡ stopped kind line column place (met_in w)
+pub record Stopped (w : Walked) (why : Refused) : Type 0 where
+  pub is : w ≡ stopped why (met_in w)
   pub size : 0 ≡ record_bytes w
 
-pub record Passed (used : ℕ) (w : Walked) (n line empty wrote : ℕ) : Type 0 where
-  pub all : n ≡ used
-  pub is : w ≡ reached line empty (met_in w)
-  pub size : wrote ≡ record_bytes w
-  pub few : wrote ≡ 40 * length (met_in w)
+pub record Passed (used : ℕ) (w : Walked) (made : Checked) : Type 0 where
+  pub all : made.used ≡ used
+  pub is : w ≡ reached made.line made.empty (met_in w)
+  pub size : made.wrote ≡ record_bytes w
+  pub few : made.wrote ≡ 40 * length (met_in w)
 
 module _ (used : ℕ) where
-  pub refused-is : (w : Walked) (kind line column place : ℕ) → Checked.Refused kind line column place ≡ checked_as used w → Stopped w kind line column place
+  pub refused-is : (w : Walked) (why : Refused) → Err why ≡ checked_as used w → Stopped w why
   unfolding checked_as met_in record_bytes
-  refused-is (stopped k l c p met) kind line column place e = record { is = cc; size = refl }
-  refused-is (reached l p met) kind line column place e = absurd (let z : ◌≡◌ {A = ℕ} 0 1 = cc in omega arith)
+  refused-is (stopped because met) why e = record { is = cc; size = refl }
+  refused-is (reached l p met) why e = cc
 
-  pub passed_is : (w : Walked) (n line empty wrote : ℕ) → Checked.Passed n line empty wrote ≡ checked_as used w → Passed used w n line empty wrote
+  pub passed_is : (w : Walked) (made : Checked) → Ok made ≡ checked_as used w → Passed used w made
   unfolding checked_as met_in record_bytes
-  passed_is (stopped k l c p met) n line empty wrote e = absurd (let z : ◌≡◌ {A = ℕ} 0 1 = cc in omega arith)
-  passed_is (reached l p met) n line empty wrote e = record { all = cc; is = cc; size = cc; few = cc }
+  passed_is (stopped why met) made e = cc
+  passed_is (reached l p met) made e =
+      let same : made ≡ record { used = used; line = l; empty = p; wrote = 40 * length met } = cc in
+      rw same (record { all = refl; is = refl; size = refl; few = refl })
 
 -- the records of a block's lines are fewer than the buffer
-pub wrote_fits : (places : List ℕ) (line empty : ℕ) (block : List ℕ) (wrote : ℕ) → wrote ≡ 40 * length (met_in (walk places line empty (whole_lines block)))
+pub wrote_fits : (places : List ℕ) (line : ℕ) (empty : Option ℕ) (block : List ℕ) (wrote : ℕ) → wrote ≡ 40 * length (met_in (walk places line empty (whole_lines block)))
     → wrote ≤ 20 * length block
 unfolding RoomEnough
 wrote_fits places line empty block wrote e = omega (arith, e, room_enough places line empty block)
 
 -- ---- a block of lines
 
-module _ (places : List ℕ) (line empty : ℕ) where
+module _ (places : List ℕ) (line : ℕ) (empty : Option ℕ) where
   walk_block : (block next : List ℕ)
       → walk places line empty (lines_of (block ++ next))
       ≡ onward (walk places line empty (whole_lines block)) (λ reached passed. walk places reached passed (lines_of (tail_of block ++ next)))
@@ -63,15 +65,15 @@ module _ (places : List ℕ) (line empty : ℕ) where
   walk_block block next =
       ap (walk places line empty) (in_blocks block next) ∙ walk-in_blocks places line empty (whole_lines block) (lines_of (tail_of block ++ next))
 
-  pub block_stops : (block : List ℕ) (kind number column place : ℕ)
-      → walk places line empty (whole_lines block) ≡ stopped kind number column place (met_in (walk places line empty (whole_lines block)))
-      → outcome (walk places line empty (lines_of block)) ≡ refused_at kind number column place
+  pub block_stops : (block : List ℕ) (why : Refused)
+      → walk places line empty (whole_lines block) ≡ stopped why (met_in (walk places line empty (whole_lines block)))
+      → outcome (walk places line empty (lines_of block)) ≡ refused_as why
   unfolding onward outcome
-  block_stops block kind number column place s =
+  block_stops block why s =
       ap (λ (l : List ℕ). outcome (walk places line empty (lines_of l))) (sym (append-nil block)) ∙ ap outcome (walk_block block [])
       ∙ ap (λ (w : Walked). outcome (onward w (λ reached passed. walk places reached passed (lines_of (tail_of block ++ []))))) s
 
-  pub block_reaches : (block left : List ℕ) (line' empty' : ℕ)
+  pub block_reaches : (block left : List ℕ) (line' : ℕ) (empty' : Option ℕ)
       → walk places line empty (whole_lines block) ≡ reached line' empty' (met_in (walk places line empty (whole_lines block))) → left ≡ tail_of block
       → Continues places line empty block left line' empty'
   unfolding onward
@@ -149,14 +151,14 @@ ends (b ∷ c ∷ block) = go (eqb b line_feed) refl (ends (c ∷ block))
       lines = simp e (ap (onto b) r.lines ∙ onto-joined b (lines_of (c ∷ block)) r.extra (some-lines c block));
     }
 
-module _ (places : List ℕ) (line empty : ℕ) where
+module _ (places : List ℕ) (line : ℕ) (empty : Option ℕ) where
   -- an empty line more changes nothing
   spare-so : {extra : List (List ℕ)} → Spare extra → (w : Walked)
       → outcome (onward w (λ reached passed. walk places reached passed extra)) ≡ outcome w
   unfolding onward outcome walk having is_empty front
-  spare-so none (stopped kind number column place met) = refl
+  spare-so none (stopped why met) = refl
   spare-so none (reached number passed met) = ap orders (append-nil met)
-  spare-so one (stopped kind number column place met) = refl
+  spare-so one (stopped why met) = refl
   spare-so one (reached number passed met) = ap orders (append-nil met)
 
   pub last_same : (block : List ℕ) → outcome (walk places line empty (whole_lines (block ++ (line_feed ∷ [])))) ≡ outcome (walk places line empty (lines_of block))
@@ -166,14 +168,14 @@ module _ (places : List ℕ) (line empty : ℕ) where
       ap (λ (l : List (List ℕ)). outcome (walk places line empty l)) e.lines
       ∙ ap outcome (walk-in_blocks places line empty (lines_of block) e.extra) ∙ spare-so e.spare (walk places line empty (lines_of block))
 
-  pub last_stops : (block : List ℕ) (kind number column place : ℕ)
+  pub last_stops : (block : List ℕ) (why : Refused)
       → walk places line empty (whole_lines (block ++ (line_feed ∷ [])))
-      ≡ stopped kind number column place (met_in (walk places line empty (whole_lines (block ++ (line_feed ∷ [])))))
-      → outcome (walk places line empty (lines_of block)) ≡ refused_at kind number column place
+      ≡ stopped why (met_in (walk places line empty (whole_lines (block ++ (line_feed ∷ [])))))
+      → outcome (walk places line empty (lines_of block)) ≡ refused_as why
   unfolding outcome
-  last_stops block kind number column place s = sym (last_same block) ∙ ap outcome s
+  last_stops block why s = sym (last_same block) ∙ ap outcome s
 
-  pub last_reaches : (block : List ℕ) (line' empty' : ℕ)
+  pub last_reaches : (block : List ℕ) (line' : ℕ) (empty' : Option ℕ)
       → walk places line empty (whole_lines (block ++ (line_feed ∷ [])))
       ≡ reached line' empty' (met_in (walk places line empty (whole_lines (block ++ (line_feed ∷ [])))))
       → Ordered (outcome (walk places line empty (lines_of block)))
@@ -207,44 +209,34 @@ left_over from used size input h k =
 -- ---- the lines of a buffer, by the code's answer
 
 -- what the code was told of some bytes, which are those of a block
-record Told (places : List ℕ) (reading : Reading) (block : List ℕ) (checked : Checked) (out out' : List ℕ) : Type 0 where
+record Told (places : List ℕ) (reading : Reading) (block : List ℕ) (checked : Result Checked Refused) (out out' : List ℕ) : Type 0 where
   answer : checked ≡ checked_as (used_of block) (walk places reading.line reading.empty (whole_lines block))
   contents : out' ≡ filled (met_in (walk places reading.line reading.empty (whole_lines block))) out
 
-told_of : {places : List ℕ} {reading : Reading} {bytes block : List ℕ} {checked : Checked} {out out' : List ℕ} → bytes ≡ block
+told_of : {places : List ℕ} {reading : Reading} {bytes block : List ℕ} {checked : Result Checked Refused} {out out' : List ℕ} → bytes ≡ block
     → checked ≡ checked_as (used_of bytes) (walk places reading.line reading.empty (whole_lines bytes))
     → out' ≡ filled (met_in (walk places reading.line reading.empty (whole_lines bytes))) out → Told places reading block checked out out'
 told_of e a f = record { answer = rw e at a; contents = rw e at f }
 
-module _ {places : List ℕ} {reading : Reading} {block : List ℕ} {checked : Checked} {out out' : List ℕ} (t : Told places reading block checked out out') where
-  stopped_at : (kind line column place : ℕ) → checked ≡ Checked.Refused kind line column place
-      → Stopped (walk places reading.line reading.empty (whole_lines block)) kind line column place
-  stopped_at kind line column place e = refused-is (used_of block) _ kind line column place (sym e ∙ t.answer)
+module _ {places : List ℕ} {reading : Reading} {block : List ℕ} {checked : Result Checked Refused} {out out' : List ℕ} (t : Told places reading block checked out out') where
+  stopped_at : (why : Refused) → checked ≡ Err why → Stopped (walk places reading.line reading.empty (whole_lines block)) why
+  stopped_at why e = refused-is (used_of block) _ why (sym e ∙ t.answer)
 
-  passed_at : (used line empty wrote : ℕ) → checked ≡ Checked.Passed used line empty wrote
-      → Passed (used_of block) (walk places reading.line reading.empty (whole_lines block)) used line empty wrote
-  passed_at used line empty wrote e = passed_is (used_of block) _ used line empty wrote (sym e ∙ t.answer)
+  passed_at : (made : Checked) → checked ≡ Ok made → Passed (used_of block) (walk places reading.line reading.empty (whole_lines block)) made
+  passed_at made e = passed_is (used_of block) _ made (sym e ∙ t.answer)
 
-  recorded_none : (kind line column place : ℕ) → checked ≡ Checked.Refused kind line column place → Recorded places reading block 0 out out'
-  recorded_none kind line column place e =
-      record { size = (stopped_at kind line column place e).size; fits = omega arith; contents = t.contents }
+  recorded_none : (why : Refused) → checked ≡ Err why → Recorded places reading block 0 out out'
+  recorded_none why e =
+      record { size = (stopped_at why e).size; fits = omega arith; contents = t.contents }
 
-  recorded : (used line empty wrote : ℕ) → checked ≡ Checked.Passed used line empty wrote → length block ≤ 16384 → Recorded places reading block wrote out out'
-  recorded used line empty wrote e few =
-      let p = passed_at used line empty wrote e in
-      let most = wrote_fits places reading.line reading.empty block wrote p.few in
+  recorded : (made : Checked) → checked ≡ Ok made → length block ≤ 16384 → Recorded places reading block made.wrote out out'
+  recorded made e few =
+      let p = passed_at made e in
+      let most = wrote_fits places reading.line reading.empty block made.wrote p.few in
       record { size = p.size; fits = omega arith; contents = t.contents }
 
--- the code's answer is a refusal
-pub as_refused : (places : List ℕ) (reading : Reading) (input input' block out out' : List ℕ) (r : Converted) {kind line column place wrote : ℕ}
-    → r ≡ refused_as kind line column place wrote
-    → Goes places reading input input' (Next.Refused kind line column place) × Recorded places reading block wrote out out'
-    → Goes places reading input input' r.next × Recorded places reading block r.wrote out out'
-as_refused places reading input input' block out out' r e g =
-    subst (λ (x : Converted). Goes places reading input input' x.next × Recorded places reading block x.wrote out out') (sym e) g
-
 -- a full buffer
-module _ (places : List ℕ) (reading : Reading) (input out out' : List ℕ) (checked : Checked) (given : Given places input out reading)
+module _ (places : List ℕ) (reading : Reading) (input out out' : List ℕ) (checked : Result Checked Refused) (given : Given places input out reading)
     (a : checked ≡ checked_as (used_of (take (reading.size - reading.from) (drop reading.from input)))
     (walk places reading.line reading.empty (whole_lines (take (reading.size - reading.from) (drop reading.from input)))))
     (f : out' ≡ filled (met_in (walk places reading.line reading.empty
@@ -257,50 +249,49 @@ module _ (places : List ℕ) (reading : Reading) (input out out' : List ℕ) (ch
       length-drop reading.from (take reading.size input)
       ∙ ap (λ (n : ℕ). n - reading.from) (length-take-le reading.size input (omega (arith, given.ends, given.input_long)))
 
-  pub full-refused : (kind line column place : ℕ) (input' : List ℕ) → checked ≡ Checked.Refused kind line column place
-      → Goes places reading input input' (Next.Refused kind line column place) × Recorded places reading (inside reading input) 0 out out'
+  pub full-refused : (why : Refused) (input' : List ℕ) → checked ≡ Err why → Goes places reading input input' (Err why) × Recorded places reading (inside reading input) 0 out out'
   unfolding Goes
-  full-refused kind line column place input' e = (
-    λ n. block_stops places reading.line reading.empty (inside reading input) kind line column place (stopped_at full-told kind line column place e).is,
-    recorded_none full-told kind line column place e,
+  full-refused why input' e = (
+    λ n. block_stops places reading.line reading.empty (inside reading input) why (stopped_at full-told why e).is,
+    recorded_none full-told why e,
   )
 
-  module _ (used line empty wrote : ℕ) (e : checked ≡ Checked.Passed used line empty wrote) where
-    full-recorded : Recorded places reading (inside reading input) wrote out out'
-    full-recorded = recorded full-told used line empty wrote e (omega (arith, inside-long, given.ends))
+  module _ (made : Checked) (e : checked ≡ Ok made) where
+    full-recorded : Recorded places reading (inside reading input) made.wrote out out'
+    full-recorded = recorded full-told made e (omega (arith, inside-long, given.ends))
 
     pub full-long : (input' : List ℕ)
-        → Goes places reading input input' (Next.Refused long_line line 0 18) × Recorded places reading (inside reading input) wrote out out'
+        → Goes places reading input input' (Err (long_line_at made.line)) × Recorded places reading (inside reading input) made.wrote out out'
     unfolding Goes
     full-long input' = (λ n. absurd (n refl), full-recorded)
 
-    pub used-most : reading.from + used ≤ reading.size
+    pub used-most : reading.from + made.used ≤ reading.size
     unfolding used_of
-    used-most = omega (arith, (passed_at full-told used line empty wrote e).all, inside-long, given.starts)
+    used-most = omega (arith, (passed_at full-told made e).all, inside-long, given.starts)
 
-    pub full-more : (input' : List ℕ) → reading.ended ≡ false
-        → take (reading.size - (reading.from + used)) input'
-        ≡ take (reading.size - (reading.from + used)) (drop (reading.from + used) input)
-        → Goes places reading input input' (Next.More (reading.size - (reading.from + used)) line empty)
-        × Recorded places reading (inside reading input) wrote out out'
+    pub full-more : (input' : List ℕ) → reading.rest ≡ More
+        → take (reading.size - (reading.from + made.used)) input'
+        ≡ take (reading.size - (reading.from + made.used)) (drop (reading.from + made.used) input)
+        → Goes places reading input input' (Ok (Next.More (reading.size - (reading.from + made.used)) made.line made.empty))
+        × Recorded places reading (inside reading input) made.wrote out out'
     unfolding Goes
     full-more input' on moved =
-        let p = passed_at full-told used line empty wrote e in
+        let p = passed_at full-told made e in
         let left = moved
-        ∙ left_over reading.from used reading.size input used-most (omega (arith, given.ends, given.input_long))
+        ∙ left_over reading.from made.used reading.size input used-most (omega (arith, given.ends, given.input_long))
         ∙ ap (λ (n : ℕ). drop n (inside reading input)) p.all
         ∙ sym (tail-is (inside reading input))
         in (
           (
             omega (arith, given.ends),
             on,
-            block_reaches places reading.line reading.empty (inside reading input) _ line empty p.is left,
+            block_reaches places reading.line reading.empty (inside reading input) _ made.line made.empty p.is left,
           ),
           full-recorded,
         )
 
 -- the last bytes, with a line feed behind them
-module _ (places : List ℕ) (reading : Reading) (input out out' : List ℕ) (checked : Checked) (given : Given places input out reading)
+module _ (places : List ℕ) (reading : Reading) (input out out' : List ℕ) (checked : Result Checked Refused) (given : Given places input out reading)
     (a : checked ≡ checked_as (used_of (take (reading.size + 1 - reading.from) (drop reading.from (set input reading.size line_feed))))
     (walk places reading.line reading.empty
     (whole_lines (take (reading.size + 1 - reading.from) (drop reading.from (set input reading.size line_feed))))))
@@ -319,18 +310,17 @@ module _ (places : List ℕ) (reading : Reading) (input out out' : List ℕ) (ch
         given.ends,
       )
 
-  pub last_refused : (kind line column place : ℕ) (input' : List ℕ) → checked ≡ Checked.Refused kind line column place
-      → Goes places reading input input' (Next.Refused kind line column place) × Recorded places reading (ending reading input) 0 out out'
+  pub last_refused : (why : Refused) (input' : List ℕ) → checked ≡ Err why → Goes places reading input input' (Err why) × Recorded places reading (ending reading input) 0 out out'
   unfolding Goes
-  last_refused kind line column place input' e = (
-    λ n. last_stops places reading.line reading.empty (inside reading input) kind line column place (stopped_at last_told kind line column place e).is,
-    recorded_none last_told kind line column place e,
+  last_refused why input' e = (
+    λ n. last_stops places reading.line reading.empty (inside reading input) why (stopped_at last_told why e).is,
+    recorded_none last_told why e,
   )
 
-  pub last_ended : (used line empty wrote : ℕ) (input' : List ℕ) → checked ≡ Checked.Passed used line empty wrote
-      → Goes places reading input input' (Next.Ended line) × Recorded places reading (ending reading input) wrote out out'
+  pub last_ended : (made : Checked) (input' : List ℕ) → checked ≡ Ok made
+      → Goes places reading input input' (Ok (Next.Ended made.line)) × Recorded places reading (ending reading input) made.wrote out out'
   unfolding Goes
-  last_ended used line empty wrote input' e = (
-    last_reaches places reading.line reading.empty (inside reading input) line empty (passed_at last_told used line empty wrote e).is,
-    recorded last_told used line empty wrote e ending-long,
+  last_ended made input' e = (
+    last_reaches places reading.line reading.empty (inside reading input) made.line made.empty (passed_at last_told made e).is,
+    recorded last_told made e ending-long,
   )

@@ -1,9 +1,11 @@
 // The first line of a table.
-ghost use Rattle.std.specs.Prelude.{false, ◌≡◌, ◌+◌, ◌≤◌, ◌<◌, length, drop};
+ghost use Rattle.std.specs.Prelude.{◌≡◌, ◌+◌, ◌≤◌, ◌<◌, length, drop};
+ghost use Rattle.table_buffer.specs.declared.Rest.TheVariants.{More};
 ghost use Rattle.table_buffer.specs.First.{Headed, FirstRead, NoLine};
 
-use cells::kinds;
-use table::Columns;
+use crate::Rest;
+use cells::Kind;
+use table::{Columns, Wrong};
 
 // Where the line starts and ends, where the lines behind it start, and its columns.
 #[derive(Clone, Copy)]
@@ -11,24 +13,23 @@ pub struct First {
     pub start: usize,
     pub end: usize,
     pub from: usize,
-    pub columns: Columns,
+    pub columns: Result<Columns, Wrong>,
 }
 
 // There is no line, or none that ends.
-fn wrong(kind: u64, at: usize) -> First
+fn no_line(kind: Kind, at: usize) -> First
     ensures { NoLine kind at result }
 {
+    let wrong = Wrong {
+        kind,
+        column: 0,
+        place: 18,
+    };
     First {
         start: at,
         end: at,
         from: at,
-        columns: Columns {
-            good: false,
-            kind: kind,
-            column: 0,
-            count: 0,
-            places: [0; 19],
-        },
+        columns: Err(wrong),
     }
 }
 
@@ -51,28 +52,30 @@ fn headed(block: &[u8], start: usize, end: usize) -> First
     let from = behind(block, end);
     let columns = first_line::header(&block[start..end]);
     First {
-        start: start,
-        end: end,
-        from: from,
-        columns: columns,
+        start,
+        end,
+        from,
+        columns,
     }
 }
 
-// The first line of these bytes; where the file did not end, it is too long if it does not end in them.
-pub fn first_line(block: &[u8], ended: bool) -> First
-    requires { ended ≡ false → 3 < length block.now }
-    ensures { FirstRead block.now ended result }
+// The first line of these bytes; where more may follow, it is too long if it does not end in them.
+pub fn first_line(block: &[u8], rest: Rest) -> First
+    requires { rest ≡ More → 3 < length block.now }
+    ensures { FirstRead block.now rest result }
 {
     let start = first_line::text_start(block);
     if start == block.len() {
-        return wrong(kinds::NO_HEADER, start);
+        return no_line(Kind::NoHeader, start);
     }
-    let end = text::end_of(block, start, 10);
-    if ended {
-        return headed(block, start, end);
+    let end = text::end_of(block, start, b'\n');
+    match rest {
+        Rest::Ended => headed(block, start, end),
+        Rest::More => {
+            if end == block.len() {
+                return no_line(Kind::LongLine, start);
+            }
+            headed(block, start, end)
+        }
     }
-    if end == block.len() {
-        return wrong(kinds::LONG_LINE, start);
-    }
-    headed(block, start, end)
 }

@@ -1,78 +1,63 @@
 // The lines in the buffer, and what is left of it.
-ghost use Rattle.std.specs.Prelude.{false, ◌≡◌, ◌+◌, ◌≤◌, length, take, drop};
-ghost use Rattle.table_buffer.specs.Blocks.{Given, Goes, Recorded, Written, inside, ending, refused_as};
+ghost use Rattle.std.specs.Prelude.{◌≡◌, ◌+◌, ◌≤◌, length, take, drop};
+ghost use Rattle.table_buffer.specs.declared.Rest.TheVariants.{More};
+ghost use Rattle.table_buffer.specs.Blocks.{Given, Goes, Recorded, Written, inside, ending, long_line_at};
 
-use crate::{Converted, Next, Reading};
-use cells::kinds;
-use table::Checked;
+use crate::{Converted, Next, Reading, Rest};
+use cells::Kind;
+use table::{Refused, Wrong};
 
 // Moves so many bytes from a place on to the start of the buffer.
 fn move_down(input: &mut [u8], from: usize, count: usize)
     requires { from + count ≤ length input.old }
     ensures { take count input.new ≡ take count (drop from input.old) }
 {
-    let mut i: usize = 0;
-    while i < count {
-        input[i] = input[from + i];
-        i += 1;
-    }
+    input.copy_within(from..from + count, 0);
 }
 
-fn refused(kind: u64, line: u64, column: usize, place: usize, wrote: usize) -> Converted
-    ensures { result ≡ refused_as kind line column place wrote }
+// A line fills the buffer.
+fn long_line(line: u64) -> Refused
+    ensures { result ≡ long_line_at line }
 {
-    Converted {
-        next: Next::Refused {
-            kind: kind,
-            line: line,
-            column: column,
-            place: place,
-        },
-        wrote: wrote,
-    }
+    let wrong = Wrong {
+        kind: Kind::LongLine,
+        column: 0,
+        place: 18,
+    };
+    Refused { line, wrong }
 }
 
 // A full buffer: its lines, and its tail moved to its start. A line that fills it is too long.
 fn full(input: &mut [u8], out: &mut [u8], places: &[usize], reading: Reading) -> Converted
-    requires { Given places.now input.old out.old reading × (reading.ended ≡ false) }
+    requires { Given places.now input.old out.old reading × (reading.rest ≡ More) }
     ensures goes { Goes places.now reading input.old input.new result.next }
     ensures recorded { Recorded places.now reading (inside reading input.old) result.wrote out.old out.new }
 {
     let from = reading.from;
     let size = reading.size;
-    let checked = line_blocks::convert_block(
-        &input[from..size],
-        places,
-        reading.line,
-        reading.empty,
-        out,
-    );
-    match checked {
-        Checked::Refused {
-            kind,
-            line,
-            column,
-            place,
-        } => refused(kind, line, column, place, 0),
-        Checked::Passed {
-            used,
-            line,
-            empty,
-            wrote,
-        } => {
-            let behind = from + used;
+    match line_blocks::convert_block(&input[from..size], places, reading.line, reading.empty, out) {
+        Err(why) => Converted {
+            next: Err(why),
+            wrote: 0,
+        },
+        Ok(checked) => {
+            let behind = from + checked.used;
             if behind == 0 {
-                return refused(kinds::LONG_LINE, line, 0, 18, wrote);
+                return Converted {
+                    next: Err(long_line(checked.line)),
+                    wrote: checked.wrote,
+                };
             }
             let held = size - behind;
             move_down(input, behind, held);
+            let next = Next::More {
+                held,
+                line: checked.line,
+                empty: checked.empty,
+            };
             Converted {
-                next: Next::More {
-                    held: held,
-                    line: line,
-                    empty: empty,
-                },
-                wrote: wrote,
+                next: Ok(next),
+                wrote: checked.wrote,
             }
         }
     }
@@ -86,25 +71,25 @@ fn last(input: &mut [u8], out: &mut [u8], places: &[usize], reading: Reading) ->
 {
     let from = reading.from;
     let size = reading.size;
-    input[size] = 10;
-    let checked = line_blocks::convert_block(
+    input[size] = b'\n';
+    match line_blocks::convert_block(
         &input[from..size + 1],
         places,
         reading.line,
         reading.empty,
         out,
-    );
-    match checked {
-        Checked::Refused {
-            kind,
-            line,
-            column,
-            place,
-        } => refused(kind, line, column, place, 0),
-        Checked::Passed { line, wrote, .. } => Converted {
-            next: Next::Ended { line: line },
-            wrote: wrote,
+    ) {
+        Err(why) => Converted {
+            next: Err(why),
+            wrote: 0,
         },
+        Ok(checked) => {
+            let next = Next::Ended { line: checked.line };
+            Converted {
+                next: Ok(next),
+                wrote: checked.wrote,
+            }
+        }
     }
 }
 
@@ -114,14 +99,8 @@ pub fn convert(input: &mut [u8], out: &mut [u8], places: &[usize], reading: Read
     ensures goes { Goes places.now reading input.old input.new result.next }
     ensures written { Written places.now reading input.old result.wrote out.old out.new }
 {
-    if reading.ended {
-        return last(input, out, places, reading);
-    }
-    if reading.more {
-        return full(input, out, places, reading);
-    }
-    Converted {
-        next: Next::Failed,
-        wrote: 0,
+    match reading.rest {
+        Rest::Ended => last(input, out, places, reading),
+        Rest::More => full(input, out, places, reading),
     }
 }

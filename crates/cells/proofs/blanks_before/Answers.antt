@@ -1,0 +1,14 @@
+-- `cells::blanks_before` meets its contract. Assumes nothing.
+use Rattle.std.proofs.Common.{rules, not}
+use borrow.Author.Tests.{tests}
+use Rattle.std.proofs.lemmas.Iterator.{YieldsList-from_slice}
+use Rattle.std.proofs.lemmas.Iterator.Search.{position_from_yields_List}
+use Rattle.cells.specs.Cells.{blank}
+use Rattle.cells.proofs.Bytes.{past_blanks}
+use Rattle.cells.proofs.blanks_before.Goals as goal
+
+pub returns : goal.returns
+returns c =
+    past_blanks c.args.cell.now c.position.result
+    (position_from_yields_List (λ b. not (blank b)) _ _ c.position.result c.position.ensures.ran (YieldsList-from_slice c.args.cell.now cc) (λ x b q k. search (rules, tests)))
+    c.unwrap_or.ensures
