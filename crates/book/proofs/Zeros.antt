@@ -1,13 +1,11 @@
 -- The zero words are stored right and mean the fresh ledger but for its rate. Assumes nothing.
 use Rattle.std.specs.Prelude.{if◌then◌else◌}
-use Prim.Native.Nat.{ℕ, zero, suc, ◌+◌, ◌<◌}
-use native.Mathlib.Numerals.{add-one}
+use Prim.Native.Nat.{ℕ, zero, suc}
 use native.Mathlib.Omega.{arith}
 use mathlib.Core.Bool.{Bool, true, false}
-use mathlib.Core.List.{List, [], ◌∷◌, ◌++◌}
-use mathlib.Core.Path.{◌≡◌, refl, ap, sym, ◌∙◌, subst, fun_ext}
-use lib.ListN.{length, get_or, set, take, replicate, replicate-append-replicate}
-use lib.Seq.{take-suc-set}
+use mathlib.Core.List.{List, []}
+use mathlib.Core.Path.{◌≡◌, refl, sym, subst, fun_ext}
+use lib.ListN.{get_or, replicate}
 use Rattle.plain.specs.Lists.{sum_below}
 use Rattle.rulebook.specs.Ledger.{first_rate, no_request, fresh, put_rate}
 use Rattle.rulebook.specs.declared.Account.{Account}
@@ -92,8 +90,3 @@ rated_mean before after e m = next (put_rate first_rate) (subst (λ (words : Lis
 
 pub fresh_kept : (words : List ℕ) → Means words fresh → Kept words
 fresh_kept words m = record { stored = m.stored; premise = rw m.ledger fresh-premise }
-
--- ---- the words so far
-
-pub zeros_more : (w : List ℕ) (i : ℕ) → i < length w → take i w ≡ replicate i 0 → take (i + 1) (set w i 0) ≡ replicate (i + 1) 0
-zeros_more w i l e = rw add-one (take-suc-set w i 0 l ∙ ap (λ (x : List ℕ). x ++ (0 ∷ [])) e ∙ replicate-append-replicate i 1 0 ∙ rw add-one)

@@ -56,8 +56,8 @@ fn put_day_in(words: &mut [u64], day: Day)
     requires { length words.old ≡ 8 }
     ensures { (day_in words.new ≡ day) × (get_or words.new 1 0 ≤ 1) }
 {
-    let opened = words::bit_of(day.opened);
-    let sent = words::bit_of(day.sent);
+    let opened = u64::from(day.opened);
+    let sent = u64::from(day.sent);
     let values = [day.number, opened, day.kind, day.cycles, day.minute, sent];
     words::write(words, 0, &values);
 }
@@ -121,11 +121,7 @@ pub fn fresh(book: &mut [u64]) -> bool
     if book.len() != END {
         return false;
     }
-    let mut i: usize = 0;
-    while i < END {
-        book[i] = 0;
-        i += 1;
-    }
+    book.fill(0);
     put_rate(book, Rate(FIRST_RATE));
     true
 }

@@ -10,7 +10,7 @@ ghost use Rattle.waiting_list.specs.Waiting.{Sized, state_of, state_words, item_
 
 use rulebook::{Cents, Item, Party, Shares, State};
 
-// A state in four words: which it is, its references, its marks.
+// A state in four words: which it is, its references, its marks. Numbers stand for kinds here, for the book is words that a C program lends.
 #[derive(Clone, Copy)]
 pub struct StateWords {
     pub tag: u64,
@@ -30,7 +30,7 @@ fn state_words(s: State) -> StateWords
             tag: 0,
             first: reference,
             second: 0,
-            marks: words::bit_of(delivers),
+            marks: u64::from(delivers),
         },
         State::Pair {
             deliver_reference,
@@ -41,7 +41,7 @@ fn state_words(s: State) -> StateWords
             tag: 1,
             first: deliver_reference,
             second: receive_reference,
-            marks: words::bit_of(deliver_marked) + 2 * words::bit_of(receive_marked),
+            marks: u64::from(deliver_marked) + 2 * u64::from(receive_marked),
         },
         State::Trade { reference } => StateWords {
             tag: 2,
@@ -147,7 +147,7 @@ fn write_row(items: &mut [u64], i: usize, item: Item)
 {
     let state = item.state;
     let s = state_words(state);
-    let marks = s.marks + 4 * words::bit_of(item.sent);
+    let marks = s.marks + 4 * u64::from(item.sent);
     let values = [
         item.security,
         item.currency,
@@ -192,7 +192,7 @@ pub fn put_sent(items: &mut [u64], i: usize, sent: bool)
         × ((d : Item) → items_of items.new ≡ set (items_of items.old) i (with_sent sent (get_or (items_of items.old) i d))) }
 {
     let at = i * 16 + 16;
-    items[at] = items[at] % 4 + 4 * words::bit_of(sent);
+    items[at] = items[at] % 4 + 4 * u64::from(sent);
 }
 
 // The item goes last.

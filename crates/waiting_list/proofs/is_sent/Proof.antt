@@ -1,5 +1,4 @@
 -- `waiting_list::is_sent` meets its contract. Assumes nothing.
-use native.Mathlib.Omega.{arith}
 use borrow.Author.Rules.{rules}
 use Rattle.waiting_list.proofs.Sent.{is_sent_lem}
 use Rattle.waiting_list.proofs.is_sent.Statement.{statement}
