@@ -7,12 +7,13 @@ ghost use Rattle.book.specs.Meaning.{ledger_of};
 ghost use Rattle.figures.specs.Figures.{day_figures, size_figures, security_figures, request_figures, item_figures};
 ghost use Rattle.exports.specs.Lent.{field_words, FreshIn};
 ghost use Rattle.exports.specs.Words.{fields_read, CalledWith, ReadInto, WrittenFrom};
-ghost use Rattle.telling.specs.Told.{Lent, Tells, TellsAt};
+ghost use Rattle.telling.specs.Told.{Lent, number_in, Tells, TellsAt};
 
-use rulebook::{Answer, Order, Read, Written};
+use rulebook::{Account, Answer, Order, Read, Written};
+use telling::Wrong;
 
-// What is answered for a buffer of a wrong length, and for a place behind the last: numbers above every refusal.
-const WRONG_BOOK: u64 = 1001;
+// What is answered for a buffer of a wrong length: numbers above every refusal's, which the C interface has.
+const WRONG_BOOK: u64 = Wrong::Book as u64;
 
 const WRONG_COUNTS: u64 = 1002;
 
@@ -109,13 +110,23 @@ pub extern "C" fn depository_write(fields: &[u64], area: &mut [u8]) -> u64
 
 // ---- what a book says
 
+// 0 where all is told; else the number of what is wrong.
+fn number_of(told: Result<(), Wrong>) -> u64
+    ensures { result ≡ number_in told }
+{
+    match told {
+        Ok(()) => 0,
+        Err(wrong) => wrong.into(),
+    }
+}
+
 // The day: number, 1 where it is open, kind, cycles run, last minute, 1 where a cycle is sent.
 #[unsafe(no_mangle)]
 pub extern "C" fn depository_day(book: &[u64], values: &mut [u64]) -> u64
     requires { Lent book.now }
     ensures { Tells book.now values.old (day_figures (ledger_of book.now).day) result values.new }
 {
-    telling::day(book, values)
+    number_of(telling::day(book, values))
 }
 
 // The rate: hundredths of LBP for one USD.
@@ -124,7 +135,7 @@ pub extern "C" fn depository_rate(book: &[u64], values: &mut [u64]) -> u64
     requires { Lent book.now }
     ensures { Tells book.now values.old ((ledger_of book.now).rate ∷ []) result values.new }
 {
-    telling::rate(book, values)
+    number_of(telling::rate(book, values))
 }
 
 // How many securities are admitted, how many accounts there are, how many items wait, how many requests for paper are open.
@@ -133,7 +144,7 @@ pub extern "C" fn depository_sizes(book: &[u64], values: &mut [u64]) -> u64
     requires { Lent book.now }
     ensures { Tells book.now values.old (size_figures (ledger_of book.now)) result values.new }
 {
-    telling::sizes(book, values)
+    number_of(telling::sizes(book, values))
 }
 
 // The security at a place, in order of admission: code, issued, held, outside, a custody line's four figures.
@@ -143,7 +154,7 @@ pub extern "C" fn depository_security(book: &[u64], place: usize, values: &mut [
     ensures { TellsAt book.now values.old 4 (security_figures (ledger_of book.now).holdings)
         place (ledger_of book.now).holdings.securities result values.new }
 {
-    telling::security(book, place, values)
+    number_of(telling::security(book, place, values))
 }
 
 // What a security's accounts hold.
@@ -153,7 +164,7 @@ pub extern "C" fn depository_held(book: &[u64], security: u64, values: &mut [u64
     ensures { Tells book.now values.old (Ledger.held security (ledger_of book.now).holdings ∷ [])
         result values.new }
 {
-    telling::held(book, security, values)
+    number_of(telling::held(book, security, values))
 }
 
 // An account's balance.
@@ -171,7 +182,13 @@ pub extern "C" fn depository_balance(
         ((ledger_of book.now).holdings.balance (record { security = security; member = member; typ = typ; shareholder = shareholder }) ∷ [])
         result values.new }
 {
-    telling::balance(book, security, member, typ, shareholder, values)
+    let account = Account {
+        security,
+        member,
+        typ,
+        shareholder,
+    };
+    number_of(telling::balance(book, account, values))
 }
 
 // A member's cash in a currency.
@@ -186,7 +203,7 @@ pub extern "C" fn depository_cash(
     ensures { Tells book.now values.old ((ledger_of book.now).holdings.cash member currency ∷ [])
         result values.new }
 {
-    telling::cash(book, member, currency, values)
+    number_of(telling::cash(book, member, currency, values))
 }
 
 // The waiting item at a place, in order of arrival.
@@ -196,7 +213,7 @@ pub extern "C" fn depository_item(book: &[u64], place: usize, values: &mut [u64]
     ensures { TellsAt book.now values.old 18 item_figures place (ledger_of book.now).waiting
         result values.new }
 {
-    telling::item(book, place, values)
+    number_of(telling::item(book, place, values))
 }
 
 // The request for paper that a member has open under a reference.
@@ -211,5 +228,5 @@ pub extern "C" fn depository_request(
     ensures { Tells book.now values.old (request_figures ((ledger_of book.now).requests.asked member reference))
         result values.new }
 {
-    telling::request(book, member, reference, values)
+    number_of(telling::request(book, member, reference, values))
 }

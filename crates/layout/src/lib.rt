@@ -42,6 +42,7 @@ pub fn fields_in(record: &[u8]) -> [u64; 19]
 }
 
 // The order of such fields; what stands behind them is not looked at.
+#[tactic(auto, unfolding(rulebook::specs::Record::order_of))]
 pub fn order_of(fields: &[u64]) -> Order
     requires { 18 ≤ length fields.now }
     ensures { result ≡ order_of fields.now }
@@ -72,12 +73,16 @@ pub fn order_of(fields: &[u64]) -> Order
     }
 }
 
-// The fields of an order, and 0 for the bits behind them.
+// The fields of an order, and 0 for the bits behind them. A function, since `From` of one crate's order for an array cannot stand in another crate.
+#[tactic(auto, unfolding(rulebook::specs::Record::fields_of))]
 pub fn fields_of(order: Order) -> [u64; 19]
     ensures { result ≡ fields_of order }
 {
-    let debited = order.debited;
-    let credited = order.credited;
+    let Order {
+        debited,
+        credited,
+        ..
+    } = order;
     [
         order.form,
         order.minute,

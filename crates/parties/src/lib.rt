@@ -10,6 +10,7 @@ ghost use Rattle.parties.specs.Counted.{outside_account};
 
 use rulebook::{Account, Item, Order, Party, Request};
 
+#[tactic(auto, unfolding(rulebook::specs::Ledger::account_of))]
 pub fn account_of(security: u64, party: Party) -> Account
     ensures { result ≡ account_of security party }
 {
@@ -22,6 +23,7 @@ pub fn account_of(security: u64, party: Party) -> Account
 }
 
 // A member's account of the shares of a request, in a type.
+#[tactic(auto, unfolding(rulebook::specs::Ledger::request_account))]
 pub fn request_account(typ: u64, member: u64, request: Request) -> Account
     ensures { result ≡ request_account typ member request }
 {
@@ -41,18 +43,18 @@ pub fn awaiting_account(member: u64, request: Request) -> Account
 }
 
 // The account that the shares of a new request go to.
+#[tactic(auto, unfolding(rulebook::specs::Ledger::request_account, rulebook::specs::Ledger::account_of))]
 pub fn requested_account(order: Order) -> Account
     ensures { (today : ℕ) → result ≡ request_account requested order.debited.member (new_request today order) }
 {
     Account {
-        security: order.security,
-        member: order.debited.member,
         typ: types::REQUESTED,
-        shareholder: order.debited.shareholder,
+        ..account_of(order.security, order.debited)
     }
 }
 
 // The account that a trade debits.
+#[tactic(auto, unfolding(rulebook::specs::Shortfall::seller))]
 pub fn seller_of(trade: Item) -> Account
     ensures { result ≡ seller trade }
 {
@@ -60,6 +62,7 @@ pub fn seller_of(trade: Item) -> Account
 }
 
 // The account that a trade credits.
+#[tactic(auto, unfolding(rulebook::specs::Shortfall::buyer))]
 pub fn buyer_of(trade: Item) -> Account
     ensures { result ≡ buyer trade }
 {

@@ -105,26 +105,11 @@ pub fn held(book: &[u64], security: u64, values: &mut [u64]) -> Result<(), Wrong
 
 // An account's balance.
 #[tactic(auto, using(crate::proofs::Answers::one_word))]
-pub fn balance(
-    book: &[u64],
-    security: u64,
-    member: u64,
-    typ: u64,
-    shareholder: u64,
-    values: &mut [u64],
-) -> Result<(), Wrong>
+pub fn balance(book: &[u64], account: Account, values: &mut [u64]) -> Result<(), Wrong>
     requires { Lent book.now }
-    ensures { Tells book.now values.old
-        ((ledger_of book.now).holdings.balance (record { security = security; member = member; typ = typ; shareholder = shareholder }) ∷ [])
-        (number_in result) values.new }
+    ensures { Tells book.now values.old ((ledger_of book.now).holdings.balance account ∷ []) (number_in result) values.new }
 {
     lengths(book.len(), values.len(), 1)?;
-    let account = Account {
-        security,
-        member,
-        typ,
-        shareholder,
-    };
     values[0] = reading::balance(book, account).0;
     Ok(())
 }
