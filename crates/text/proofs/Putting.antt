@@ -4,8 +4,8 @@ use native.Mathlib.Omega.{arith}
 use native.Mathlib.Numerals.{add-one}
 use mathlib.Core.List.{List, [], ◌∷◌, ◌++◌, append_assoc, append-nil}
 use mathlib.Core.Path.{◌≡◌, sym, ap, ◌∙◌}
-use lib.ListN.{length, take, drop, set, length-append, length-drop, take-append-drop}
-use lib.Seq.{length-take-le, take_at, drop-append-add, drop-drop, set_split, append_snoc}
+use lib.ListN.{length, get_or, take, drop, set, length-append, length-drop, take-append-drop}
+use lib.Seq.{length-take-le, take_at, drop-append-add, drop-drop, set_split, append_snoc, paste, paste-suc, take-length}
 use borrow.Rule.Slice.PartMut.{put_mid}
 use Rattle.text.specs.Text.{put, Put}
 
@@ -66,3 +66,18 @@ put_one out at b inside = set_split out at b inside ∙ rw (add-one at, append_s
 pub put_mid-put : (out : List ℕ) (at k : ℕ) (bytes part : List ℕ) → part ≡ bytes → k ≡ length bytes → put_mid at k out part ≡ put out at bytes
 unfolding put
 put_mid-put out at k bytes part e all = rw (e, all, drop-drop, append_assoc)
+
+-- a part that is stored byte by byte: one more, and all
+pub one_more :
+    (out : List ℕ) (at : ℕ) (bytes now : List ℕ) (i : ℕ) → at + length bytes ≤ length out → i < length bytes → now ≡ paste out at bytes i
+    → set now (at + i) (get_or bytes i 0) ≡ paste out at bytes (i + 1)
+one_more out at bytes now i room more e = rw (e, paste-suc out at bytes i 0 (omega arith) more, add-one i)
+
+pub all-put :
+    (out : List ℕ) (at : ℕ) (bytes now : List ℕ) (i : ℕ) → at + length bytes ≤ length out → i ≡ length bytes → now ≡ paste out at bytes i
+    → Put out at bytes now (at + i)
+unfolding put
+all-put out at bytes now i room all e = record { room = room; contents = e ∙ whole; place = rw all }
+  where
+    whole : paste out at bytes i ≡ put out at bytes
+    whole = rw (all, take-length bytes)
