@@ -77,10 +77,9 @@ fn columns(line: &[u8]) -> Result<Columns, Wrong>
             return Err(wrong(Kind::TooManyColumns, count + 1));
         }
         let name = cells::trimmed(cell);
-        let place = names::field_place(name);
-        if place == 18 {
+        let Some(place) = names::field_place(name) else {
             return Err(wrong(name_kind(name), count + 1));
-        }
+        };
         if places[..count].contains(&place) {
             return Err(wrong(Kind::RepeatedName, count + 1));
         }

@@ -23,11 +23,10 @@ fn form_in(text: &[u8]) -> Result<u64, Kind>
     if text[0].is_ascii_digit() {
         return cells::number_in(text);
     }
-    let form = names::form_number(text);
-    if form == 0 {
-        return Err(cells::kind_of(Kind::UnknownForm, text));
+    match names::form_number(text) {
+        Some(form) => Ok(form),
+        None => Err(cells::kind_of(Kind::UnknownForm, text)),
     }
-    Ok(form)
 }
 
 // The number that a text says, which is 0 where it is empty.

@@ -1,5 +1,5 @@
 -- `order_line::form_in` meets its contract: by its first byte a text is a number or a name. Assumes nothing.
-use Rattle.std.proofs.Common.{sym, ap, ◌∙◌, Err}
+use Rattle.std.proofs.Common.{sym, ap, ◌∙◌, ℕ, ◌<◌, ◌≡◌, arith, Err}
 use borrow.Author.Tests.{eq-eqb, ne_eqb}
 use Rattle.table.specs.Lines.{form_in}
 use Rattle.order_line.proofs.form_in.Goals as goal
@@ -14,22 +14,25 @@ returns-then-is_ascii_digit c =
     c.number_in.ensures
     ∙ sym (simp (sym c.is_empty.ensures ∙ c.if-is_empty.false, sym c.is_ascii_digit.ensures.value ∙ c.if-is_ascii_digit.true))
 
-pub returns-then-form-eq0 : goal.returns-then-form-eq0
+pub returns-in-None : goal.returns-in-None
 unfolding form_in
-returns-then-form-eq0 c =
+returns-in-None c =
     ap Err c.kind_of.ensures
     ∙ sym (simp (
       sym c.is_empty.ensures ∙ c.if-is_empty.false,
       sym c.is_ascii_digit.ensures.value ∙ c.if-is_ascii_digit.false,
-      eq-eqb _ _ (sym c.form_number-form.ensures ∙ c.if-form-eq0.true),
+      eq-eqb _ _ c.in-None.ensures,
     ))
 
-pub returns : goal.returns
+not_zero : (form number : ℕ) → 0 < form → form ≡ number → number ≡ 0 → ⊥
+not_zero form number some e none = omega arith
+
+pub returns-in-Some : goal.returns-in-Some
 unfolding form_in
-returns c =
+returns-in-Some c =
     sym (simp (
       sym c.is_empty.ensures ∙ c.if-is_empty.false,
       sym c.is_ascii_digit.ensures.value ∙ c.if-is_ascii_digit.false,
-      ← c.form_number-form.ensures,
-      ne_eqb _ _ c.if-form-eq0.false,
+      ne_eqb _ _ (not_zero _ _ c.in-Some.ensures.0 c.in-Some.ensures.1),
+      ← c.in-Some.ensures.1,
     ))
