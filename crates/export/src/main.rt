@@ -2,10 +2,11 @@
 // standard error.
 #![tactic(auto)]
 
-ghost use Rattle.std.specs.Prelude.{◌≡◌, ◌+◌, ◌^◌, ◌≤◌, ◌<◌, length, take};
+ghost use Rattle.std.specs.Prelude.{◌≡◌, ◌+◌, ◌^◌, ◌≤◌, ◌<◌, length, take, IfOk};
 ghost use Rattle.export.specs.Written.{BLOCK, OUT, HALF, Emptied, BlockWritten, RecordsWritten, TableWritten};
 
-use streams::Streams;
+use std::ops::ControlFlow;
+use streams::{Follows, Streams, Told};
 
 // Bytes of a block of 80 records.
 const BLOCK: usize = 3200;
@@ -16,53 +17,44 @@ const OUT: usize = 262144;
 // More records than any input has.
 const LAST: usize = 1 << 63;
 
-// How far the output buffer is filled with lines that are still to be printed, and whether more may follow.
-#[derive(Clone, Copy)]
-struct Pending {
-    end: usize,
-    more: bool,
-}
-
-// Writes lines to standard output; false where it takes no more.
-fn print(streams: Streams, lines: &[u8]) -> bool {
+// Writes lines to standard output.
+fn print(streams: Streams, lines: &[u8]) -> Result<(), Told> {
     streams::print(streams, lines, b"export: standard output cannot be written")
 }
 
-// Prints the lines in the buffer where those of another block might not fit behind them.
-fn make_room(streams: Streams, out: &[u8], at: usize) -> Pending
+// Prints the lines in the buffer where those of another block might not fit behind them; answers how far it is filled then.
+fn make_room(streams: Streams, out: &[u8], at: usize) -> Result<usize, Told>
     requires { (length out.now ≡ OUT) × (at ≤ OUT) }
-    ensures { Emptied out.now at result }
+    ensures { IfOk result (Emptied out.now at) }
 {
     if at <= 131072 {
-        return Pending {
-            end: at,
-            more: true,
-        };
+        return Ok(at);
     }
-    Pending {
-        end: 0,
-        more: print(streams, &out[..at]),
+    match print(streams, &out[..at]) {
+        Ok(()) => Ok(0),
+        Err(told) => Err(told),
     }
 }
 
-// Reads a block and puts its lines behind those in the buffer; after a read that failed only those of the whole records before it.
+// Reads a block and puts its lines behind those in the buffer; after a read that failed only those of the whole records before it. Answers how far the
+// buffer is filled, and goes on where more may follow.
 fn put_block(
     streams: Streams,
     input: &mut [u8],
     out: &mut [u8],
     at: usize,
     records: &mut usize,
-) -> Pending
+) -> ControlFlow<usize, usize>
     requires { (length input.old ≡ BLOCK) × (length out.old ≡ OUT) × (at ≤ HALF) × (records.old + 80 < 2 ^ 64) }
     ensures { BlockWritten input.new records.old (take at out.old) result records.new out.new }
 {
     let filled = streams::fill_records(streams, input, b"export: standard input cannot be read");
     let size = filled.size;
     let end = table_lines::put_records(out, at, &input[..size]);
-    *records = *records + (size + 39) / 40;
-    Pending {
-        end: end,
-        more: filled.more,
+    *records += size.div_ceil(40);
+    match filled.follows {
+        Follows::More => ControlFlow::Continue(end),
+        _ => ControlFlow::Break(end),
     }
 }
 
@@ -80,14 +72,12 @@ fn put_records(
 {
     let mut end = at;
     while *records < LAST {
-        let room = make_room(streams, out, end);
-        if !room.more {
+        let Ok(room) = make_room(streams, out, end) else {
             return 0;
-        }
-        let pending = put_block(streams, input, out, room.end, records);
-        end = pending.end;
-        if !pending.more {
-            return end;
+        };
+        match put_block(streams, input, out, room, records) {
+            ControlFlow::Continue(next) => end = next,
+            ControlFlow::Break(last) => return last,
         }
     }
     end
@@ -103,25 +93,8 @@ fn put_table(streams: Streams, input: &mut [u8], out: &mut [u8], records: &mut u
     put_records(streams, input, out, at, records)
 }
 
-// Zeros for a block, and for its lines. The contracts give only the lengths.
-fn input_buffer() -> [u8; BLOCK]
-    ensures { length result ≡ BLOCK }
-{
-    [0; BLOCK]
-}
-
-fn output_buffer() -> [u8; OUT]
-    ensures { length result ≡ OUT }
-{
-    [0; OUT]
-}
-
 fn main(rt: HostRuntime) {
-    let streams = Streams {
-        input: rt.stdin(),
-        output: rt.stdout(),
-        error: rt.stderr(),
-    };
+    let streams = Streams::new(&rt);
     if streams::has_word(&rt, 1) {
         streams::tell(
             streams.error,
@@ -129,9 +102,9 @@ fn main(rt: HostRuntime) {
         );
         return;
     }
-    let mut input = input_buffer();
-    let mut out = output_buffer();
+    let mut input = streams::zeros::<BLOCK>();
+    let mut out = streams::zeros::<OUT>();
     let mut records: usize = 0;
     let end = put_table(streams, &mut input, &mut out, &mut records);
-    print(streams, &out[..end]);
+    let _ = print(streams, &out[..end]);
 }

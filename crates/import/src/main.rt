@@ -16,6 +16,9 @@ use std::rt::{Env, Files};
 use std::{fs, str};
 use streams::Streams;
 
+// Bytes of the buffer of lines.
+const INPUT: usize = table_buffer::INPUT;
+
 // Bytes of the records of a buffer's lines.
 const OUT: usize = 327720;
 
@@ -32,19 +35,6 @@ pub enum Read {
         line: u64,
     },
     Failed,
-}
-
-// Zeros for the lines, and for their records. The contracts give only the lengths.
-fn input_buffer() -> [u8; table_buffer::INPUT]
-    ensures { length result ≡ INPUT }
-{
-    [0; table_buffer::INPUT]
-}
-
-fn output_buffer() -> [u8; OUT]
-    ensures { length result ≡ OUT }
-{
-    [0; OUT]
 }
 
 // Opens the file by its name, which has to be text.
@@ -129,8 +119,8 @@ fn import(rt: &(impl Env + Files), streams: Streams) {
     let mut name = [0u8; 4096];
     match rt.arg(1, &mut name) {
         Ok(size) => {
-            let mut input = input_buffer();
-            let mut out = output_buffer();
+            let mut input = streams::zeros::<INPUT>();
+            let mut out = streams::zeros::<OUT>();
             run(rt, streams, &name[..size], &mut input, &mut out);
         }
         Err(reason) => {
@@ -144,11 +134,7 @@ fn import(rt: &(impl Env + Files), streams: Streams) {
 }
 
 fn main(rt: HostRuntime) {
-    let streams = Streams {
-        input: rt.stdin(),
-        output: rt.stdout(),
-        error: rt.stderr(),
-    };
+    let streams = Streams::new(&rt);
     if !streams::has_word(&rt, 1) || streams::has_word(&rt, 2) {
         telling::tell_use(streams);
         return;

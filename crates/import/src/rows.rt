@@ -6,7 +6,7 @@ ghost use Rattle.import.specs.Reading.{ReadOn, RowsRead, read_of};
 
 use crate::{Read, telling};
 use std::io;
-use streams::Streams;
+use streams::{Follows, Streams};
 use table_buffer::{Next, Reading};
 
 // More blocks, and more lines, than any file has.
@@ -17,7 +17,7 @@ fn put(streams: Streams, bytes: &[u8], print: bool) -> bool {
     if !print {
         return true;
     }
-    streams::print(streams, bytes, b"import: standard output cannot be written")
+    streams::print(streams, bytes, b"import: standard output cannot be written").is_ok()
 }
 
 // Converts the lines in the buffer, and writes their records.
@@ -57,8 +57,8 @@ pub fn read_on<F: io::Read>(
     Reading {
         from: 0,
         size: held + filled.size,
-        more: filled.more,
-        ended: filled.ended,
+        more: filled.follows == Follows::More,
+        ended: filled.follows == Follows::Ended,
         line: line,
         empty: empty,
     }

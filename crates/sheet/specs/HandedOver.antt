@@ -5,7 +5,8 @@ use Rattle.book.specs.Meaning.{ledger_of}
 use Rattle.text.specs.Text.{Put}
 use Rattle.printing.specs.Printed.{FileCalled}
 use Rattle.sheets.specs.Sheet.{sheet_of, sheet_bytes}
-use Rattle.streams.specs.declared.Filled.{Filled}
+use Rattle.streams.specs.declared.Follows.{Follows}
+use Rattle.streams.specs.declared.Follows.TheVariants.{More}
 
 -- bytes of the input buffer, 1,024 records, and of the output buffer, which holds every sheet
 abbrev pub BLOCK : ℕ
@@ -15,9 +16,10 @@ abbrev pub OUT : ℕ
 OUT = sheet_bytes
 
 -- the first bytes of the input buffer were called, all of it where more may follow
-pub record BlockCalled (input : List ℕ) (filled : Filled) (number : ℕ) (book area : List ℕ) (number' : ℕ) (book' area' : List ℕ) : Type 0 where
-  pub called : FileCalled (take filled.size input) number book area number' book' area'
-  pub whole : filled.more ≡ true → filled.size ≡ BLOCK
+pub record BlockCalled (input : List ℕ) (follows : Follows) (number : ℕ) (book area : List ℕ) (number' : ℕ) (book' area' : List ℕ) : Type 0 where
+  pub size : ℕ
+  pub called : FileCalled (take size input) number book area number' book' area'
+  pub whole : follows ≡ More → size ≡ BLOCK
 
 -- some bytes were read, and called as the records of one file
 pub record FileRead (number : ℕ) (book area : List ℕ) (number' : ℕ) (book' area' : List ℕ) : Type 0 where

@@ -8,22 +8,18 @@ ghost use Rattle.book.specs.Stored.{Kept};
 ghost use Rattle.sheet.specs.HandedOver.{BLOCK, OUT, BlockCalled, FileRead, SheetPrinted, HandedOver};
 
 use std::rt::Env;
-use streams::{Filled, Streams};
+use streams::{Follows, Streams};
 
 // Bytes of a block of 1,024 records.
 const BLOCK: usize = 40960;
 
+// Bytes of the output buffer, which holds every sheet.
+const OUT: usize = sheets::SHEET_BYTES;
+
 // More records than any input has.
 const LAST: u64 = 1 << 63;
 
-// What is asked for on the command line.
-const AS_TEXT: u64 = 0;
-
-const AS_PAGE: u64 = 1;
-
-const OTHERWISE: u64 = 2;
-
-// Reads a block and calls its records. Their lines are left unprinted in the output buffer.
+// Reads a block and calls its records; tells what follows it. Their lines are left unprinted in the output buffer.
 fn call_block(
     streams: Streams,
     book: &mut [u64],
@@ -31,15 +27,14 @@ fn call_block(
     input: &mut [u8],
     out: &mut [u8],
     number: &mut u64,
-) -> Filled
+) -> Follows
     requires { Kept book.old × (length input.old ≡ BLOCK) × (length out.old ≡ OUT) × (number.old + 1024 < 2 ^ 64) }
     ensures { BlockCalled input.new result number.old book.old area.old number.new book.new
         area.new }
 {
     let filled = streams::fill_records(streams, input, b"sheet: standard input cannot be read");
-    let size = filled.size;
-    printing::put_block(out, number, book, &input[..size], area);
-    filled
+    printing::put_block(out, number, book, &input[..filled.size], area);
+    filled.follows
 }
 
 // Block after block, from the record of that number on; true where the input ended.
@@ -55,9 +50,10 @@ fn call_all(
     ensures { FileRead number.old book.old area.old number.new book.new area.new }
 {
     while *number < LAST {
-        let filled = call_block(streams, book, area, input, out, number);
-        if !filled.more {
-            return filled.ended;
+        match call_block(streams, book, area, input, out, number) {
+            Follows::More => (),
+            Follows::Ended => return true,
+            Follows::Failed => return false,
         }
     }
     false
@@ -69,7 +65,7 @@ fn print_sheet(streams: Streams, out: &mut [u8], page: bool, book: &[u64])
     ensures { SheetPrinted page (ledger_of book.now) out.old out.new }
 {
     let end = sheets::put_sheet(out, page, book);
-    streams::print(
+    let _ = streams::print(
         streams,
         &out[..end],
         b"sheet: standard output cannot be written",
@@ -97,39 +93,26 @@ fn hand_over(
     ended
 }
 
-// Zeros for a block, and for a sheet. Their contracts give only the length.
-fn input_buffer() -> [u8; BLOCK]
-    ensures { length result ≡ BLOCK }
-{
-    [0; BLOCK]
-}
-
-fn sheet_buffer() -> [u8; sheets::SHEET_BYTES]
-    ensures { length result ≡ OUT }
-{
-    [0; sheets::SHEET_BYTES]
-}
-
-// No word asks for text, the word `html` for a page.
-fn asked_for(words: &impl Env) -> u64 {
+// Whether a page is asked for, by the word `html`, or text, by no word. Other words ask for nothing that there is.
+fn asked_for(words: &impl Env) -> Option<bool> {
     if !streams::has_word(words, 1) {
-        return AS_TEXT;
+        return Some(false);
     }
     if streams::has_word(words, 2) {
-        return OTHERWISE;
+        return None;
     }
     let mut word = [0u8; 5];
     match words.arg(1, &mut word) {
-        Ok(size) if text::same(&word[..size], b"html") => AS_PAGE,
-        _ => OTHERWISE,
+        Ok(size) if &word[..size] == b"html".as_slice() => Some(true),
+        _ => None,
     }
 }
 
 fn run(streams: Streams, page: bool) {
     let mut book = [0u64; ledger::BOOK_WORDS];
     let mut area = [0u8; 4096];
-    let mut input = input_buffer();
-    let mut out = sheet_buffer();
+    let mut input = streams::zeros::<BLOCK>();
+    let mut out = streams::zeros::<OUT>();
     let mut number: u64 = 1;
     if ledger::fresh(&mut book) {
         hand_over(
@@ -145,18 +128,14 @@ fn run(streams: Streams, page: bool) {
 }
 
 fn main(rt: HostRuntime) {
-    let streams = Streams {
-        input: rt.stdin(),
-        output: rt.stdout(),
-        error: rt.stderr(),
-    };
-    let asked = asked_for(&rt);
-    if asked == OTHERWISE {
-        streams::tell(
-            streams.error,
-            b"sheet: takes no word, or the word html, on its command line; records come from standard input\n",
-        );
-        return;
+    let streams = Streams::new(&rt);
+    match asked_for(&rt) {
+        Some(page) => run(streams, page),
+        None => {
+            streams::tell(
+                streams.error,
+                b"sheet: takes no word, or the word html, on its command line; records come from standard input\n",
+            );
+        }
     }
-    run(streams, asked == AS_PAGE);
 }

@@ -47,7 +47,8 @@ pub struct Told;
 
 // Zeros, as a buffer.
 pub fn zeros<const N: usize>() -> [u8; N]
-    ensures { result ≡ replicate N 0 }
+    ensures zeros { result ≡ replicate N 0 }
+    ensures len { length result ≡ N }
 {
     [0; N]
 }

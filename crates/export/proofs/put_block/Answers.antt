@@ -19,18 +19,34 @@ put_records-end-requires c =
       c.requires.2,
     )
 
-pub returns : goal.returns
-returns c =
+pub returns-in-More : goal.returns-in-More
+returns-in-More c =
     let fill = c.fill_records-filled in
     let put = c.put_records-end in
     let size = length-take-le fill.result.size fill.new.input (omega (arith, fill.ensures.within.inside, fill.auto.input)) in
     record {
       size = fill.result.size;
       written = record {
-        counted = ap (λ (n : ℕ). c.args.records.now + n) (sym (records_length _ ∙ ap (λ (n : ℕ). (n + 39) / 40) size));
+        counted = omega (arith, records_length (take fill.result.size fill.new.input), size, c.div_ceil.ensures);
         printed = [];
         lines = put-taken put.ensures;
       };
       inside = omega (arith, put.ensures.room, put.ensures.place, put.auto.out);
-      whole = λ e. fill.ensures.within.full e ∙ c.requires.0;
+      whole = λ next e. fill.ensures.within.full c.in-More.is ∙ c.requires.0;
+    }
+
+pub returns-in_default : goal.returns-in_default
+returns-in_default c =
+    let fill = c.fill_records-filled in
+    let put = c.put_records-end in
+    let size = length-take-le fill.result.size fill.new.input (omega (arith, fill.ensures.within.inside, fill.auto.input)) in
+    record {
+      size = fill.result.size;
+      written = record {
+        counted = omega (arith, records_length (take fill.result.size fill.new.input), size, c.div_ceil.ensures);
+        printed = [];
+        lines = put-taken put.ensures;
+      };
+      inside = omega (arith, put.ensures.room, put.ensures.place, put.auto.out);
+      whole = λ next e. cc;
     }

@@ -1,5 +1,7 @@
 -- What was read stands behind the bytes held: as many bytes were lent as the buffer has room for, and not more than that were read.
-use Rattle.std.proofs.Common.{◌≡◌, ◌-◌, ◌≤◌, refl, length, take, drop, arith}
+use denote.Enum.Bare.{same_true}
+use Rattle.std.proofs.Common.{◌≡◌, ◌-◌, ◌≤◌, refl, sym, ◌∙◌, length, take, drop, arith, rules}
+use Rattle.streams.specs.contracts.Follows.{the_type}
 use Rattle.import.proofs.Laws.{read_behind}
 use Rattle.import.proofs.rows.read_on.Goals as goal
 use borrow.Rule.Slice.PartMut.{mid_len}
@@ -18,7 +20,7 @@ returns g c =
           (omega (arith, most, filled.auto.input, room));
       starts = refl;
       ends = omega (arith, most, c.requires.1);
-      full = λ e. omega (arith, filled.ensures.full e, room, c.requires.1);
+      full = λ e. omega (arith, filled.ensures.full (same_true the_type (search rules) _ _ (sym c.eq.ensures ∙ e)), room, c.requires.1);
       same_line = refl;
       same_empty = refl;
     }
