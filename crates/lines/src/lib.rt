@@ -6,28 +6,30 @@ ghost use Rattle.rulebook.specs.Call.{answer_number, answer_rows};
 ghost use Rattle.text.specs.Text.{Put};
 ghost use Rattle.lines.specs.Lines.{answer_line, custody_line};
 
-use rulebook::{Answer, Security};
+use rulebook::{Counts, Refusal, Security};
 
-fn number_of(answer: Answer) -> u64
+#[tactic(auto, unfolding(rulebook::specs::Call::answer_number))]
+fn number_of(answer: Result<Counts, Refusal>) -> u64
     ensures { result ≡ answer_number answer }
 {
     match answer {
-        Answer::Accepted(_) => 0,
-        Answer::Refused(number) => number,
+        Ok(_) => 0,
+        Err(refusal) => refusal.into(),
     }
 }
 
-fn rows_of(answer: Answer) -> u64
+#[tactic(auto, unfolding(rulebook::specs::Call::answer_rows))]
+fn rows_of(answer: Result<Counts, Refusal>) -> u64
     ensures { result ≡ answer_rows answer }
 {
     match answer {
-        Answer::Accepted(counts) => counts.rows,
-        Answer::Refused(_) => 0,
+        Ok(counts) => counts.rows,
+        Err(_) => 0,
     }
 }
 
 // A record's line: its number, the answer, rows.
-pub fn put_answer_line(out: &mut [u8], at: usize, number: u64, answer: Answer) -> usize
+pub fn put_answer_line(out: &mut [u8], at: usize, number: u64, answer: Result<Counts, Refusal>) -> usize
     requires { at + 63 ≤ length out.old }
     ensures put { Put out.old at (answer_line number answer) out.new result }
     ensures upper_bound { result ≤ at + 63 }

@@ -1,5 +1,5 @@
 -- A line's order, and its record. Assumes nothing.
-use Rattle.std.specs.Prelude.{if◌then◌else◌}
+use Rattle.std.specs.Prelude.{if◌then◌else◌, Ok, Err}
 use Prim.Native.Nat.{ℕ, ◌≤◌}
 use mathlib.Core.Bool.{Bool, true, false}
 use mathlib.Core.List.{List, ◌++◌}
@@ -9,7 +9,7 @@ use lib.ListN.{length, drop}
 use Rattle.plain.specs.Lists.{◌is◌, first}
 use Rattle.rulebook.specs.Record.{order_of, fields_of, field_tests, record_of, write_refusal, written_of, area_written}
 use Rattle.rulebook.specs.declared.Order.{Order}
-use Rattle.rulebook.specs.declared.Written.{Written}
+use Rattle.rulebook.specs.Answers.{Written}
 use Rattle.field_rules.specs.Fields.{refused_place}
 use Rattle.table.specs.Header.Parsed.{refused, parsed}
 use Rattle.table.specs.Lines.{column_from, line_fields, fields_read, ordered, row_of, row_written}
@@ -18,8 +18,8 @@ use Rattle.table.specs.declared.Row.{Row}
 
 -- the row that the record writer's answer makes of an order
 abbrev pub told : List ℕ → Order → Written → Row
-told places order Written.Record = Row.Order order
-told places order (Written.Refused n) = Row.Refused n (column_from 1 places (refused_place (fields_of order))) (refused_place (fields_of order))
+told places order Ok tt = Row.Order order
+told places order (Err n) = Row.Refused n (column_from 1 places (refused_place (fields_of order))) (refused_place (fields_of order))
 
 module _ (f : Fields) (places line : List ℕ) (e : fields_read f ≡ line_fields places line) where
   pub row-unread : f.good ≡ false → Row.Refused f.kind f.column f.place ≡ row_of places line
@@ -38,7 +38,7 @@ module _ (f : Fields) (places line : List ℕ) (e : fields_read f ≡ line_field
       rw (w, ← e, read, ← o) (simp (le-ltb (length area) 40 room) (go (number is 0) number))
     where
       go : (t : Bool) (n : ℕ)
-          → (told places order (if t then Written.Record else Written.Refused n) ≡ (if t then Row.Order order else told places order (Written.Refused n)))
-          × ((if t then record_of order ++ drop 40 area else area) ≡ row_written (told places order (if t then Written.Record else Written.Refused n)) area)
+          → (told places order (if t then Ok tt else Err n) ≡ (if t then Row.Order order else told places order (Err n)))
+          × ((if t then record_of order ++ drop 40 area else area) ≡ row_written (told places order (if t then Ok tt else Err n)) area)
       go true n = (refl, refl)
       go false n = (refl, refl)

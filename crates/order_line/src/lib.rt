@@ -11,7 +11,7 @@ ghost use Rattle.table.specs.Header.{Known};
 ghost use Rattle.table.specs.Lines.{form_in, optional_in, field_number, column_from, line_fields, fields_read, row_of, row_written};
 
 use cells::{Number, kinds};
-use rulebook::{Order, Written};
+use rulebook::Order;
 use table::{Fields, Row};
 
 fn is_digit(b: u8) -> bool
@@ -144,7 +144,7 @@ pub fn write_row(line: &[u8], places: &[usize], out: &mut [u8]) -> Row
     let order = layout::order_of(&values);
     let written = record::write(order, out);
     match written {
-        Written::Record => Row::Order(order),
-        Written::Refused(number) => refused_row(order, places, number),
+        Ok(()) => Row::Order(order),
+        Err(refusal) => refused_row(order, places, refusal.into()),
     }
 }

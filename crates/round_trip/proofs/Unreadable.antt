@@ -1,5 +1,5 @@
 -- A table with a line of a record that does not read is refused. Assumes nothing.
-use Rattle.std.specs.Prelude.{if◌then◌else◌}
+use Rattle.std.specs.Prelude.{if◌then◌else◌, Ok, Err}
 use Prim.Native.Nat.{ℕ, suc, ◌-◌, ◌≤◌, ◌<◌}
 use native.Mathlib.Omega.{arith}
 use lib.Dec.{lit≤}
@@ -12,7 +12,7 @@ use Rattle.plain.proofs.Lists.{each_none}
 use Rattle.rulebook.specs.Names.{field_names, refusal_names, name_from1}
 use Rattle.rulebook.specs.Record.{no_form, unused_not_zero, used_out_of_range, fields_of, fields_in, order_of, field_tests, read_of, read_refusal, write_refusal}
 use Rattle.rulebook.specs.declared.Order.{Order}
-use Rattle.rulebook.specs.declared.Read.{Read}
+use Rattle.rulebook.specs.Answers.{Read}
 use Rattle.rulebook.proofs.Below.{tabled, same_below}
 use Rattle.rulebook.proofs.RoundTrips.{read_writable}
 use Rattle.text.specs.Text.{decimal, digits}
@@ -43,15 +43,15 @@ abbrev words : ℕ → List ℕ
 words number = line "unreadable: refused by # (!)" (number ∷ number ∷ [])
 
 -- it is refused by 2 to 5, and what is computed for each of them holds of it
-module _ (octets : List ℕ) (number : ℕ) (e : read_of octets ≡ Read.Refused number) where
+module _ (octets : List ℕ) (number : ℕ) (e : read_of octets ≡ Err number) where
   unread : (2 ≤ number) × (number < 6)
   unfolding read_of read_refusal
   unread = go (length octets is_not 40) (no_form (fields_in octets)) (unused_not_zero (fields_in octets)) (used_out_of_range (fields_in octets)) e
     where
       go : (a b c d : Bool)
-          → (if first ((2, a) ∷ (3, b) ∷ (4, c) ∷ (5, d) ∷ []) is 0 then Read.Order (order_of (fields_in octets))
-          else Read.Refused (first ((2, a) ∷ (3, b) ∷ (4, c) ∷ (5, d) ∷ [])))
-          ≡ Read.Refused number
+          → (if first ((2, a) ∷ (3, b) ∷ (4, c) ∷ (5, d) ∷ []) is 0 then Ok (order_of (fields_in octets))
+          else Err (first ((2, a) ∷ (3, b) ∷ (4, c) ∷ (5, d) ∷ [])))
+          ≡ Err number
           → (2 ≤ number) × (number < 6)
       go true b c d e = let n : 2 ≡ number = cc in (omega arith, omega arith)
       go false true c d e = let n : 3 ≡ number = cc in (omega arith, omega arith)
@@ -95,13 +95,13 @@ module _ (octets : List ℕ) (records : List (List ℕ)) where
   abbrev Line : List ℕ → Type 0
   Line text = full_lines (lines_of (record_lines (octets ∷ records))) ≡ text ∷ full_lines (lines_of (record_lines records))
 
-  unread_line : (refusal : ℕ) → read_of octets ≡ Read.Refused refusal → Line (words refusal)
+  unread_line : (refusal : ℕ) → read_of octets ≡ Err refusal → Line (words refusal)
   unfolding record_lines read_line
   unread_line refusal e =
       rw (e, line-ends octets refusal e, append_assoc (words refusal) (line_feed ∷ []) (record_lines records))
       (one_line (words refusal) (record_lines records) (no_end octets refusal e) (not_empty octets refusal e))
 
-  read_line_lem : (order : Order) → read_of octets ≡ Read.Order order → Line (join comma (order_cells order))
+  read_line_lem : (order : Order) → read_of octets ≡ Ok order → Line (join comma (order_cells order))
   unfolding record_lines read_line write_refusal
   read_line_lem order e =
       let t : first (field_tests (fields_of order)) ≡ 0 = read_writable octets order (replicate 40 0) e (lit≤ tt) in
@@ -120,8 +120,8 @@ module _ (octets : List ℕ) (records : List (List ℕ)) where
           first_off (one t r) = none_taken _ r
 
       go : (answer : Read) → read_of octets ≡ answer → ⊥
-      go (Read.Order order) e = past _ (read_line_lem order e)
-      go (Read.Refused refusal) e = past _ (unread_line refusal e)
+      go (Ok order) e = past _ (read_line_lem order e)
+      go (Err refusal) e = past _ (unread_line refusal e)
 
 not_taken : {records : List (List ℕ)} → SomeUnreadable records → (all : List Order) → Along (Taken every) (full_lines (lines_of (record_lines records))) all → ⊥
 not_taken (here {octets} {records} refusal e) all a = go (rw (unread_line octets records refusal e) at a)

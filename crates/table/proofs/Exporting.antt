@@ -1,5 +1,5 @@
 -- The table of some orders imports as these orders. Assumes nothing.
-use Rattle.std.specs.Prelude.{if◌then◌else◌}
+use Rattle.std.specs.Prelude.{if◌then◌else◌, Ok}
 use Prim.Native.Nat.{ℕ, zero, suc, ◌+◌, ◌-◌, ◌*◌, ◌%◌, ◌^◌, ◌≤◌, ◌<◌}
 use native.Mathlib.Omega.{arith}
 use mathlib.Core.Bool.{Bool, true, false}
@@ -18,7 +18,6 @@ use Rattle.rulebook.specs.Forms.{forms, row_of as form_row}
 use Rattle.rulebook.specs.Names.{field_names, form_name}
 use Rattle.rulebook.specs.Record.{fields_of, order_of, record_of, read_of, field_tests, no_form, unused_not_zero, used_out_of_range, write_refusal}
 use Rattle.rulebook.specs.declared.Order.{Order}
-use Rattle.rulebook.specs.declared.Read.{Read}
 use Rattle.rulebook.proofs.Below.{tabled, same_below}
 use Rattle.rulebook.proofs.RoundTrips.{write_read}
 use Rattle.field_rules.specs.Fields.{fields_refusal}
@@ -254,7 +253,7 @@ export_imports all w =
 -- ---- and what a table says is such orders
 
 lines_writable : {places : List ℕ} {lines : List (List ℕ)} {all : List Order} → Along (Taken places) lines all
-    → Writable all × (map (λ order. read_of (record_of order)) all ≡ map Read.Order all)
+    → Writable all × (map (λ order. read_of (record_of order)) all ≡ map Ok all)
 unfolding Writable write_refusal
 lines_writable none = (tt, refl)
 lines_writable (one {b = order} t r) =
@@ -266,6 +265,6 @@ unfolding ImportExports ExportImports import_of import_lines
 import_exports file all e = go (lines_of (unmarked file)) e
   where
     go : (lines : List (List ℕ)) → import_lines lines ≡ orders all
-        → Writable all × (map (λ order. read_of (record_of order)) all ≡ map Read.Order all) × (import_of (table_of all) ≡ orders all)
+        → Writable all × (map (λ order. read_of (record_of order)) all ≡ map Ok all) × (import_of (table_of all) ≡ orders all)
     go [] e = absurd (none_such e)
     go (header ∷ others) e = let w = lines_writable (imported header others all e).taken_in in (w.0, w.1, export_imports all w.0)

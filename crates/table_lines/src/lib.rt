@@ -8,7 +8,7 @@ ghost use Rattle.file.specs.Records.{records_of};
 ghost use Rattle.table_lines.specs.Exported.{name_line, order_line, read_line, record_lines};
 
 use file::{Cursor, Next};
-use rulebook::{Order, Read};
+use rulebook::Order;
 
 // The first line.
 pub fn put_names(out: &mut [u8], at: usize) -> usize
@@ -39,15 +39,17 @@ fn put_record(out: &mut [u8], at: usize, octets: &[u8]) -> usize
     ensures put { Put out.old at (read_line (read_of octets.now)) out.new result }
     ensures upper_bound { result ≤ at + 1556 }
 {
-    let answer = record::read(octets);
-    match answer {
-        Read::Order(order) => put_order(out, at, order),
-        Read::Refused(number) => wording::put_filled(
-            out,
-            at,
-            b"unreadable: refused by # (!)\n",
-            &[number, number],
-        ),
+    match record::read(octets) {
+        Ok(order) => put_order(out, at, order),
+        Err(refusal) => {
+            let number = refusal.into();
+            wording::put_filled(
+                out,
+                at,
+                b"unreadable: refused by # (!)\n",
+                &[number, number],
+            )
+        }
     }
 }
 

@@ -1,10 +1,10 @@
 -- `order_line::write_row` meets its contract: the line's fields, then the record writer. Assumes nothing.
+use Rattle.std.specs.Prelude.{Ok, Err}
 use borrow.Author.Rules.{rules}
 use native.Mathlib.Omega.{arith}
 use borrow.Author.Tests.{not-true, not-false}
 use mathlib.Core.Path.{◌≡◌, refl, sym, ◌∙◌}
 use Rattle.table.specs.Lines.{row_written}
-use Rattle.rulebook.specs.declared.Written.{Written}
 use Rattle.order_line.proofs.Writing.{row-unread, row_told}
 use Rattle.order_line.proofs.write_row.Statement.{statement}
 use Rattle.order_line.proofs.write_row.Tie as tie
@@ -25,7 +25,7 @@ returns-2 c =
     let write = c.before.before.before in
     let fields = good (ordered write) in
     let both = row_told fields.line_fields-fields.result _ _ fields.line_fields-fields.ensures.0 (not-false _ fields.if-not-fields.false)
-    _ (ordered write).order_of-order.ensures (start fields).args.out.now (start fields).requires.2 Written.Record
+    _ (ordered write).order_of-order.ensures (start fields).args.out.now (start fields).requires.2 Ok tt
     (sym c.in-Record.is ∙ write.write-written.ensures.answered) in
     (both.0, write.write-written.ensures.written ∙ both.1)
 
@@ -36,7 +36,7 @@ returns-3 c =
     let write = written.before.before.before.before in
     let fields = good (ordered write) in
     let both = row_told fields.line_fields-fields.result _ _ fields.line_fields-fields.ensures.0 (not-false _ fields.if-not-fields.false)
-    _ (ordered write).order_of-order.ensures (start fields).args.out.now (start fields).requires.2 (Written.Refused _)
+    _ (ordered write).order_of-order.ensures (start fields).args.out.now (start fields).requires.2 (Err _)
     (sym written.in-Refused.is ∙ write.write-written.ensures.answered) in
     let same : row_written c.refused_row.result (start fields).args.out.now ≡ (start fields).args.out.now = rw c.refused_row.ensures in
     (c.refused_row.ensures ∙ both.0, write.write-written.ensures.written ∙ both.1 ∙ sym same)
