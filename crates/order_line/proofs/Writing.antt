@@ -9,7 +9,10 @@ use lib.ListN.{length, drop}
 use Rattle.plain.specs.Lists.{◌is◌, first}
 use Rattle.rulebook.specs.Record.{order_of, fields_of, field_tests, record_of, write_refusal, written_of, area_written}
 use Rattle.rulebook.specs.declared.Order.{Order}
-use Rattle.rulebook.specs.Answers.{Written}
+use Rattle.rulebook.specs.Answers.{Written, number_of, refusal_of}
+use Rattle.rulebook.proofs.Answers.{number-back}
+use Rattle.rulebook.proofs.Checking.{first-known}
+use native.Mathlib.Omega.{arith}
 use Rattle.field_rules.specs.Fields.{refused_place}
 use Rattle.table.specs.Header.Parsed.{refused, parsed}
 use Rattle.table.specs.Lines.{column_from, line_fields, fields_read, ordered, row_of, row_written}
@@ -18,8 +21,9 @@ use Rattle.table.specs.declared.Row.{Row}
 
 -- the row that the record writer's answer makes of an order
 abbrev pub told : List ℕ → Order → Written → Row
-told places order Ok tt = Row.Order order
-told places order (Err n) = Row.Refused n (column_from 1 places (refused_place (fields_of order))) (refused_place (fields_of order))
+told places order (Ok done) = Row.Order order
+told places order (Err refusal) =
+    Row.Refused (number_of refusal) (column_from 1 places (refused_place (fields_of order))) (refused_place (fields_of order))
 
 module _ (f : Fields) (places line : List ℕ) (e : fields_read f ≡ line_fields places line) where
   pub row-unread : f.good ≡ false → Row.Refused f.kind f.column f.place ≡ row_of places line
@@ -35,10 +39,14 @@ module _ (f : Fields) (places line : List ℕ) (e : fields_read f ≡ line_field
   row_told z order o area room answer w =
       let read : fields_read f ≡ parsed f.values = simp z in
       let number : ℕ = first (field_tests (fields_of order)) in
-      rw (w, ← e, read, ← o) (simp (le-ltb (length area) 40 room) (go (number is 0) number))
+      rw (w, ← e, read, ← o)
+      (simp (le-ltb (length area) 40 room) (go (number is 0) number refl (first-known (field_tests (fields_of order)) (omega arith))))
     where
-      go : (t : Bool) (n : ℕ)
-          → (told places order (if t then Ok tt else Err n) ≡ (if t then Row.Order order else told places order (Err n)))
-          × ((if t then record_of order ++ drop 40 area else area) ≡ row_written (told places order (if t then Ok tt else Err n)) area)
-      go true n = (refl, refl)
-      go false n = (refl, refl)
+      place : ℕ
+      place = refused_place (fields_of order)
+
+      go : (t : Bool) (n : ℕ) → (n is 0) ≡ t → n ≤ 24
+          → (told places order (if t then Ok tt else Err (refusal_of n)) ≡ (if t then Row.Order order else Row.Refused n (column_from 1 places place) place))
+          × ((if t then record_of order ++ drop 40 area else area) ≡ row_written (told places order (if t then Ok tt else Err (refusal_of n))) area)
+      go true n p l = (refl, refl)
+      go false n p l = (rw (number-back n p l), refl)

@@ -3,6 +3,7 @@ use Rattle.std.specs.Prelude.{ℕ, true, List, [], ◌∷◌, ◌≡◌, Ok, Err
 use Rattle.bits.specs.Bits.{Octets}
 use Rattle.rulebook.specs.Record.{read_of}
 use Rattle.rulebook.specs.declared.Order.{Order}
+use Rattle.rulebook.specs.declared.Refusal.{Refusal}
 use Rattle.file.specs.Records as File
 use Rattle.table.specs.Lines.{records_of}
 use Rattle.table.specs.Lines.Imported.{orders}
@@ -28,7 +29,7 @@ CanonicalTable = (table : List ℕ) (all : List Order) → import_of table ≡ o
 
 -- some record does not read
 pub data SomeUnreadable : List (List ℕ) → Type 0 where
-  here : {octets : List ℕ} {records : List (List ℕ)} (number : ℕ) → read_of octets ≡ Err number → SomeUnreadable (octets ∷ records)
+  here : {octets : List ℕ} {records : List (List ℕ)} (refusal : Refusal) → read_of octets ≡ Err refusal → SomeUnreadable (octets ∷ records)
   later : {octets : List ℕ} {records : List (List ℕ)} → SomeUnreadable records → SomeUnreadable (octets ∷ records)
 
 -- what is exported of a file with such a record is refused by import

@@ -23,7 +23,8 @@ use Rattle.rulebook.specs.Waiting.{sender_of, marking, cancelled, both_marked}
 use Rattle.rulebook.specs.declared.Item.{Item}
 use Rattle.rulebook.specs.declared.Notice.{Notice}
 use Rattle.rulebook.specs.declared.Order.{Order}
-use Rattle.rulebook.specs.Answers.{Read}
+use Rattle.rulebook.specs.Answers.{Read, refusal_of}
+use Rattle.rulebook.specs.declared.Refusal.{Refusal}
 use Rattle.rulebook.proofs.ByCall.{by_form}
 use Rattle.rulebook.proofs.EveryCall.Items.{marking-fits}
 use Rattle.rulebook.proofs.Reading.{AllProper, noticed, row_fits}
@@ -39,7 +40,7 @@ use Rattle.statements.specs.Told.{rows_of}
 
 -- ---- a call is refused, or its order is accepted
 
-module _ (b : Ledger) (octets area : List ℕ) (P : Read → Result → Type 0) (refuses : (r : Read) (n : ℕ) → P r (refused n b area))
+module _ (b : Ledger) (octets area : List ℕ) (P : Read → Result → Type 0) (refuses : (r : Read) (refusal : Refusal) → P r (refused refusal b area))
     (accepts : (o : Order) → read_of octets ≡ Ok o → first (refusals b o) ≡ 0 → P (Ok o) (accepted (effect b o) o.minute area))
   where
     order-does : (o : Order) → read_of octets ≡ Ok o → P (Ok o) (order_call b o area)
@@ -48,19 +49,19 @@ module _ (b : Ledger) (octets area : List ℕ) (P : Read → Result → Type 0) 
       where
         go : (t : Bool) → (first (refusals b o) is 0) ≡ t → P (Ok o) (order_call b o area)
         go true p = simp p (accepts o e (eqb-true _ 0 p))
-        go false p = simp p (refuses (Ok o) (first (refusals b o)))
+        go false p = simp p (refuses (Ok o) (refusal_of (first (refusals b o))))
 
     read_does : (r : Read) → read_of octets ≡ r → P r (read_call b r area)
     unfolding read_call
     read_does (Ok o) e = order-does o e
-    read_does (Err n) e = refuses (Err n) n
+    read_does (Err refusal) e = refuses (Err refusal) refusal
 
     pub by_result : P (read_of octets) (call_of b octets area)
     unfolding call_of
     by_result = go (length area below 4_096) refl
       where
         go : (t : Bool) → (length area below 4_096) ≡ t → P (read_of octets) (call_of b octets area)
-        go true p = simp p (refuses (read_of octets) 1)
+        go true p = simp p (refuses (read_of octets) Refusal.ShortArea)
         go false p = simp p (read_does (read_of octets) refl)
 
 -- ---- which forms write posting rows
@@ -150,10 +151,10 @@ module _ (b : Ledger) (octets area : List ℕ) (p : Premise b) where
       answer_line number (form_in r) x.answer ++ row_lines (row_of (form_in r)).posts (answer_rows x.answer) x.area
       ≡ answer_line number (form_in r) x.answer ++ lines_of (rows_of b r x.answer)
 
-  none_told : (number : ℕ) (r : Read) (n : ℕ) → AsHad number r (refused n b area)
+  none_told : (number : ℕ) (r : Read) (refusal : Refusal) → AsHad number r (refused refusal b area)
   unfolding refused answer_rows row_lines rows_of lines_of
-  none_told number (Ok o) n = refl
-  none_told number (Err m) n = refl
+  none_told number (Ok o) refusal = refl
+  none_told number (Err unread) refusal = refl
 
   pub call_told : (number : ℕ) → call_lines number octets (call_of b octets area)
       ≡ answer_line number (form_in (read_of octets)) (call_of b octets area).answer ++ lines_of (rows_of b (read_of octets) (call_of b octets area).answer)

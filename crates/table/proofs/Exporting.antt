@@ -168,7 +168,7 @@ small_fit (suc n) (w ∷ ws) (v ∷ vs) s f = (omega (arith, f.0, pow_mono (ltb-
 module _ (order : Order) (t : first (field_tests (fields_of order)) ≡ 0) where
   small_fields : Each (λ v. v < 2 ^ 64) (drop 1 (take 18 (fields_of order)))
   unfolding fields_refusal fields_of widths
-  small_fields = (small_fit 18 widths (fields_of order) (each_none (λ w. 64 below w) widths refl) (write_fits order t)).1
+  small_fields = (small_fit 18 widths (fields_of order) (each_none (λ w. 64 below w) widths refl) (write_fits order (sym t))).1
 
   -- the form is one of the table
   form-known : (1 ≤ order.form) × (order.form ≤ 21)
