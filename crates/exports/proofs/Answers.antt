@@ -1,5 +1,5 @@
 -- Lengths and answers as numbers, and what is left in the lent words. Assumes nothing.
-use Rattle.std.specs.Prelude.{if◌then◌else◌}
+use Rattle.std.specs.Prelude.{if◌then◌else◌, Ok, Err}
 use Prim.Native.Nat.{ℕ, ◌≤◌, ◌<◌}
 use mathlib.Core.Path.{◌≡◌, refl, sym, ap, ◌∙◌}
 use mathlib.Core.Bool.{Bool, true, false, true≢false, not}
@@ -11,11 +11,10 @@ use borrow.Author.Tests.{eq-eqb, ne_eqb, eqb-true, lt-ltb, le-ltb}
 use Rattle.plain.specs.Lists.{◌is◌}
 use Rattle.rulebook.specs.Record.{read_number, order_of, record_of, write_refusal, written_of, written_number, area_written}
 use Rattle.rulebook.specs.Call.{answer_number}
-use Rattle.rulebook.specs.declared.Answer.{Answer}
+use Rattle.rulebook.specs.Answers.{Answer, Read, Written, number_of, number_in, refusal_of}
+use Rattle.rulebook.specs.declared.Refusal.{Refusal}
 use Rattle.rulebook.specs.declared.Counts.{Counts}
 use Rattle.rulebook.specs.declared.Order.{Order}
-use Rattle.rulebook.specs.declared.Read.{Read}
-use Rattle.rulebook.specs.declared.Written.{Written}
 use Rattle.record.specs.Answers.{ReadAs, WrittenAs}
 use Rattle.book.specs.Meaning.{book_length}
 use Rattle.book.specs.Fresh.{Freshened}
@@ -80,7 +79,7 @@ module _ (book octets area counts : List ℕ) where
       number_is = rw (eq-eqb _ _ long, eq-eqb _ _ wide) (sym called.number)
 
       pub call_accepted :
-          (c : Counts) (counts' : List ℕ) → a ≡ Answer.Accepted c → counts' ≡ count_figures c
+          (c : Counts) (counts' : List ℕ) → a ≡ Ok c → counts' ≡ count_figures c
           → CalledWith book octets area counts 0 book' area' counts'
       unfolding answer_number counts_of
       call_accepted c counts' e f = record {
@@ -92,14 +91,14 @@ module _ (book octets area counts : List ℕ) where
         kept = λ l. called.kept;
       }
 
-      pub call_refused : (n : ℕ) → a ≡ Answer.Refused n → CalledWith book octets area counts n book' area' counts
+      pub call_refused : (refusal : Refusal) → a ≡ Err refusal → CalledWith book octets area counts (number_of refusal) book' area' counts
       unfolding answer_number counts_of
-      call_refused n e = record {
+      call_refused refusal e = record {
         numbered = sym (number_is ∙ ap answer_number e);
         ledger = λ z. called.ledger;
         written = λ z. called.written;
         counted = λ z. ap (λ (x : Answer). counts_of x counts) (sym e ∙ called.answered);
-        untouched = λ z. ((called.refused n e).0, (called.refused n e).1, refl);
+        untouched = λ z. ((called.refused refusal e).0, (called.refused refusal e).1, refl);
         kept = λ l. called.kept;
       }
 
@@ -115,7 +114,7 @@ module _ (octets fields : List ℕ) where
     unfolding reading_number
     reading_is = rw (eq-eqb _ _ wide) (sym told.number)
 
-    pub read_order : (o : Order) (fields' : List ℕ) → r ≡ Read.Order o → fields' ≡ fields_read (Read.Order o) fields → ReadInto octets fields 0 fields'
+    pub read_order : (o : Order) (fields' : List ℕ) → r ≡ Ok o → fields' ≡ fields_read (Ok o) fields → ReadInto octets fields 0 fields'
     unfolding read_number
     read_order o fields' e f = record {
       numbered = sym (reading_is ∙ ap read_number e);
@@ -123,9 +122,9 @@ module _ (octets fields : List ℕ) where
       untouched = λ n. absurd (n refl);
     }
 
-    pub read-refused : (n : ℕ) → r ≡ Read.Refused n → ReadInto octets fields n fields
+    pub read-refused : (refusal : Refusal) → r ≡ Err refusal → ReadInto octets fields (number_of refusal) fields
     unfolding read_number fields_read
-    read-refused n e = record {
+    read-refused refusal e = record {
       numbered = sym (reading_is ∙ ap read_number e);
       told = λ z. ap (λ (x : Read). fields_read x fields) (sym e ∙ told.answered);
       untouched = λ z. refl;
@@ -139,7 +138,7 @@ unfolding written_number written_of area_written
 kept-area o area n = go (write_refusal o area is 0) n
   where
     go :
-        (b : Bool) → (written_number (if b then Written.Record else Written.Refused (write_refusal o area)) ≡ 0 → ⊥)
+        (b : Bool) → (number_in {A = Unit {0}} (if b then Ok tt else Err (refusal_of (write_refusal o area))) ≡ 0 → ⊥)
         → (if b then record_of o ++ drop 40 area else area) ≡ area
     go true n = absurd (n refl)
     go false n = refl

@@ -1,10 +1,9 @@
 -- Calls, reader and writer over the words that a C program lends.
-use Rattle.std.specs.Prelude.{if◌then◌else◌, ℕ, List, ◌≡◌, length, take}
+use Rattle.std.specs.Prelude.{if◌then◌else◌, ℕ, List, ◌≡◌, length, take, Ok, Err}
 use Rattle.plain.specs.Lists.{◌is_not◌}
 use Rattle.rulebook.specs.Record.{read_of, read_number, order_of, written_of, written_number, area_written, fields_of}
 use Rattle.rulebook.specs.Call.{call_of, answer_number}
-use Rattle.rulebook.specs.declared.Answer.{Answer}
-use Rattle.rulebook.specs.declared.Read.{Read}
+use Rattle.rulebook.specs.Answers.{Answer, Read}
 use Rattle.book.specs.Meaning.{book_length, ledger_of}
 use Rattle.figures.specs.Figures.{count_figures}
 use Rattle.telling.specs.Told.{wrong_book, Lent}
@@ -14,8 +13,8 @@ use Rattle.exports.specs.Lent.{wrong_counts, wrong_fields, count_words, field_wo
 
 -- the counts of an accepted call; a refused one leaves what was there
 unfoldable pub counts_of : Answer → List ℕ → List ℕ
-counts_of (Answer.Accepted c) before = count_figures c
-counts_of (Answer.Refused number) before = before
+counts_of (Ok c) before = count_figures c
+counts_of (Err refusal) before = before
 
 -- lengths are looked at before everything else
 unfoldable pub call_number : (book octets area counts : List ℕ) → ℕ
@@ -38,8 +37,8 @@ pub record CalledWith (book octets area counts : List ℕ) (number : ℕ) (book'
 
 -- the fields of an order that was read, in the record's order, without the zero bits behind them; a refusal leaves what was there
 unfoldable pub fields_read : Read → List ℕ → List ℕ
-fields_read (Read.Order order) before = take field_words (fields_of order)
-fields_read (Read.Refused number) before = before
+fields_read (Ok order) before = take field_words (fields_of order)
+fields_read (Err refusal) before = before
 
 unfoldable pub reading_number : (octets fields : List ℕ) → ℕ
 reading_number octets fields = if length fields is_not field_words then wrong_fields else read_number (read_of octets)

@@ -9,7 +9,7 @@ ghost use Rattle.exports.specs.Lent.{field_words, FreshIn};
 ghost use Rattle.exports.specs.Words.{fields_read, CalledWith, ReadInto, WrittenFrom};
 ghost use Rattle.telling.specs.Told.{Lent, number_in, Tells, TellsAt};
 
-use rulebook::{Account, Answer, Order, Read, Written};
+use rulebook::{Account, Order};
 use telling::Wrong;
 
 // What is answered for a buffer of a wrong length: numbers above every refusal's, which the C interface has.
@@ -54,13 +54,12 @@ pub extern "C" fn depository_call(
     if counts.len() != COUNT_WORDS {
         return WRONG_COUNTS;
     }
-    let answer = ledger::call(book, record, area);
-    match answer {
-        Answer::Accepted(c) => {
+    match ledger::call(book, record, area) {
+        Ok(c) => {
             figures::put_counts(counts, c);
             0
         }
-        Answer::Refused(number) => number,
+        Err(refusal) => refusal.into(),
     }
 }
 
@@ -69,7 +68,7 @@ pub extern "C" fn depository_call(
 // An order's fields as words, in the record's order.
 fn put_fields(words: &mut [u64], order: Order)
     requires { length words.old ≡ field_words }
-    ensures { words.new ≡ fields_read (Read.Order order) words.old }
+    ensures { words.new ≡ fields_read (Ok order) words.old }
 {
     let fields = layout::fields_of(order);
     words::write(words, 0, &fields[..FIELD_WORDS]);
@@ -83,13 +82,12 @@ pub extern "C" fn depository_read(record: &[u8], fields: &mut [u64]) -> u64
     if fields.len() != FIELD_WORDS {
         return WRONG_FIELDS;
     }
-    let read = record::read(record);
-    match read {
-        Read::Order(order) => {
+    match record::read(record) {
+        Ok(order) => {
             put_fields(fields, order);
             0
         }
-        Read::Refused(number) => number,
+        Err(refusal) => refusal.into(),
     }
 }
 
@@ -101,10 +99,9 @@ pub extern "C" fn depository_write(fields: &[u64], area: &mut [u8]) -> u64
     if fields.len() != FIELD_WORDS {
         return WRONG_FIELDS;
     }
-    let written = record::write(layout::order_of(fields), area);
-    match written {
-        Written::Record => 0,
-        Written::Refused(number) => number,
+    match record::write(layout::order_of(fields), area) {
+        Ok(()) => 0,
+        Err(refusal) => refusal.into(),
     }
 }
 

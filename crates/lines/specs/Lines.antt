@@ -2,7 +2,7 @@
 use Rattle.std.specs.Prelude.{ℕ, List, ◌++◌}
 use Prim.Native.String.{String}
 use Rattle.rulebook.specs.Call.{answer_number, answer_rows}
-use Rattle.rulebook.specs.declared.Answer.{Answer}
+use Rattle.rulebook.specs.Answers.{Answer}
 use Rattle.rulebook.specs.declared.Security.{Security}
 use Rattle.text.specs.Text.{text, decimal}
 

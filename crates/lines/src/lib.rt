@@ -5,30 +5,36 @@ ghost use Rattle.std.specs.Prelude.{◌++◌, ◌≡◌, ◌+◌, ◌≤◌, len
 ghost use Rattle.rulebook.specs.Call.{answer_number, answer_rows};
 ghost use Rattle.lines.specs.Lines.{answer_line, custody_line};
 
-use rulebook::{Answer, Security};
+use rulebook::{Counts, Refusal, Security};
 use text::Buffer;
 
-fn number_of(answer: Answer) -> u64
+#[tactic(auto, unfolding(rulebook::specs::Call::answer_number))]
+fn number_of(answer: Result<Counts, Refusal>) -> u64
     ensures { result ≡ answer_number answer }
 {
     match answer {
-        Answer::Accepted(_) => 0,
-        Answer::Refused(number) => number,
+        Ok(_) => 0,
+        Err(refusal) => refusal.into(),
     }
 }
 
-fn rows_of(answer: Answer) -> u64
+#[tactic(auto, unfolding(rulebook::specs::Call::answer_rows))]
+fn rows_of(answer: Result<Counts, Refusal>) -> u64
     ensures { result ≡ answer_rows answer }
 {
     match answer {
-        Answer::Accepted(counts) => counts.rows,
-        Answer::Refused(_) => 0,
+        Ok(counts) => counts.rows,
+        Err(_) => 0,
     }
 }
 
 // A record's line: its number, the answer, rows.
 #[tactic(auto, unfolding(crate::specs::Lines::answer_line))]
-pub fn put_answer_line<const N: usize>(out: &mut Buffer<N>, number: u64, answer: Answer)
+pub fn put_answer_line<const N: usize>(
+    out: &mut Buffer<N>,
+    number: u64,
+    answer: Result<Counts, Refusal>,
+)
     requires { length out.old + 63 ≤ N }
     ensures put { out.new ≡ out.old ++ answer_line number answer }
     ensures upper_bound { length out.new ≤ length out.old + 63 }

@@ -7,8 +7,6 @@ mod samples;
 ghost use Rattle.std.specs.Prelude.{◌≡◌, ◌<◌};
 ghost use Rattle.one_bit.specs.Changes.{answer_to, count_of};
 
-use rulebook::{Read, Written};
-
 // The reader's answer to the record with one bit changed.
 fn answer_to(record: [u8; 40], bit: usize) -> u64
     requires { bit < 320 }
@@ -18,8 +16,8 @@ fn answer_to(record: [u8; 40], bit: usize) -> u64
     let mut other = record;
     other[at] = other[at] ^ 128 >> (bit % 8);
     match record::read(&other) {
-        Read::Order(_) => 0,
-        Read::Refused(number) => number,
+        Ok(_) => 0,
+        Err(refusal) => refusal.into(),
     }
 }
 
@@ -43,10 +41,9 @@ fn print(rt: &impl Print, number: u64) {
 // Prints nothing where there is no such form: the writer refuses its order.
 fn print_form(rt: &impl Print, form: u64) {
     let mut record = [0u8; 40];
-    let written = record::write(samples::sample(form), &mut record);
-    let Written::Record = written else {
+    if record::write(samples::sample(form), &mut record).is_err() {
         return;
-    };
+    }
     let _ = print!(rt; "{form}");
     print(rt, count_of(record, 0));
     print(rt, count_of(record, 2));

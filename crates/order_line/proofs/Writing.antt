@@ -9,7 +9,10 @@ use lib.ListN.{length, drop}
 use Rattle.plain.specs.Lists.{◌is◌, first}
 use Rattle.rulebook.specs.Record.{order_of, fields_of, field_tests, record_of, write_refusal, written_of, area_written}
 use Rattle.rulebook.specs.declared.Order.{Order}
-use Rattle.rulebook.specs.declared.Written.{Written}
+use Rattle.rulebook.specs.Answers.{Written, number_of, refusal_of}
+use Rattle.rulebook.proofs.Answers.{number-back}
+use Rattle.rulebook.proofs.Checking.{first-known}
+use native.Mathlib.Omega.{arith}
 use Rattle.field_rules.specs.Fields.{refused_place}
 use Rattle.cells.specs.declared.kind.Kind.TheVariants.{Record}
 use Rattle.table.specs.Header.{refused}
@@ -23,8 +26,9 @@ or_none (Some column) e = e.0
 
 -- the row that the record writer's answer makes of an order
 abbrev pub told : List ℕ → Order → Written → Result Order Wrong
-told places order Written.Record = Ok order
-told places order (Written.Refused n) = refused (Record n) (column_from 1 places (refused_place (fields_of order))) (refused_place (fields_of order))
+told places order (Ok done) = Ok order
+told places order (Err refusal) =
+    refused (Record (number_of refusal)) (column_from 1 places (refused_place (fields_of order))) (refused_place (fields_of order))
 
 module _ (places line : List ℕ) where
   pub row-unread : (wrong : Wrong) → Err wrong ≡ line_fields places line → Err wrong ≡ row_of places line
@@ -37,10 +41,14 @@ module _ (places line : List ℕ) where
   unfolding row_of ordered written_of area_written write_refusal row_written
   row_told values e order o area room answer w =
       let number : ℕ = first (field_tests (fields_of order)) in
-      rw (w, ← e, ← o) (simp (le-ltb (length area) 40 room) (go (number is 0) number))
+      rw (w, ← e, ← o)
+      (simp (le-ltb (length area) 40 room) (go (number is 0) number refl (first-known (field_tests (fields_of order)) (omega arith))))
     where
-      go : (t : Bool) (n : ℕ)
-          → (told places order (if t then Written.Record else Written.Refused n) ≡ (if t then Ok order else told places order (Written.Refused n)))
-          × ((if t then record_of order ++ drop 40 area else area) ≡ row_written (told places order (if t then Written.Record else Written.Refused n)) area)
-      go true n = (refl, refl)
-      go false n = (refl, refl)
+      place : ℕ
+      place = refused_place (fields_of order)
+
+      go : (t : Bool) (n : ℕ) → (n is 0) ≡ t → n ≤ 24
+          → (told places order (if t then Ok tt else Err (refusal_of n)) ≡ (if t then Ok order else refused (Record n) (column_from 1 places place) place))
+          × ((if t then record_of order ++ drop 40 area else area) ≡ row_written (told places order (if t then Ok tt else Err (refusal_of n))) area)
+      go true n p l = (refl, refl)
+      go false n p l = (rw (number-back n p l), refl)

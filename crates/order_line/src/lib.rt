@@ -10,7 +10,7 @@ ghost use Rattle.table.specs.Header.{Known, wrong};
 ghost use Rattle.table.specs.Lines.{form_in, optional_in, field_number, column_from, line_fields, row_of, row_written};
 
 use cells::Kind;
-use rulebook::{Order, Written};
+use rulebook::Order;
 use table::Wrong;
 
 // The form that a text says by its number or its name.
@@ -103,7 +103,7 @@ pub fn write_row(line: &[u8], places: &[usize], out: &mut [u8]) -> Result<Order,
     let values = line_fields(line, places)?;
     let order = layout::order_of(&values);
     match record::write(order, out) {
-        Written::Record => Ok(order),
-        Written::Refused(number) => Err(wrong_order(order, places, number)),
+        Ok(()) => Ok(order),
+        Err(refusal) => Err(wrong_order(order, places, refusal.into())),
     }
 }

@@ -1,4 +1,5 @@
 -- A record file is its records, one behind the other, and the records of orders make such a file. Assumes nothing.
+use Rattle.std.specs.Prelude.{Ok}
 use Prim.Native.Nat.{ℕ, zero, suc, ◌+◌, ◌<◌}
 use native.Mathlib.Omega.{arith}
 use mathlib.Core.List.{List, [], ◌∷◌, ◌++◌, map}
@@ -9,7 +10,6 @@ use lib.Seq.{take_at, drop-append-add, get_or-drop}
 use Rattle.bits.specs.Bits.{Octets}
 use Rattle.rulebook.specs.Record.{read_of, record_of, write_refusal}
 use Rattle.rulebook.specs.declared.Order.{Order}
-use Rattle.rulebook.specs.declared.Read.{Read}
 use Rattle.rulebook.proofs.RoundTrips.{read-write, read_writable}
 use Rattle.file.specs.Records as File
 use Rattle.file.proofs.Walking.{no_records, first-record}
@@ -35,18 +35,18 @@ file_records (order ∷ all) =
     in
     first-record (record_of order ++ records_of all) some ∙ rw (front, rest, file_records all)
 
-each_reads : (all : List Order) → map (λ order. read_of (record_of order)) all ≡ map Read.Order all → EachReads (map record_of all) all
+each_reads : (all : List Order) → map (λ order. read_of (record_of order)) all ≡ map Ok all → EachReads (map record_of all) all
 each_reads [] e = none
 each_reads (order ∷ all) e = one (head e) (each_reads all (tail e))
   where
-    head : map (λ order. read_of (record_of order)) (order ∷ all) ≡ map Read.Order (order ∷ all) → read_of (record_of order) ≡ Read.Order order
+    head : map (λ order. read_of (record_of order)) (order ∷ all) ≡ map Ok (order ∷ all) → read_of (record_of order) ≡ Ok order
     head e = cc
 
-    tail : map (λ order. read_of (record_of order)) (order ∷ all) ≡ map Read.Order (order ∷ all)
-        → map (λ order. read_of (record_of order)) all ≡ map Read.Order all
+    tail : map (λ order. read_of (record_of order)) (order ∷ all) ≡ map Ok (order ∷ all)
+        → map (λ order. read_of (record_of order)) all ≡ map Ok all
     tail e = cc
 
-pub orders_read : (all : List Order) → map (λ order. read_of (record_of order)) all ≡ map Read.Order all → EachReads (File.records_of (records_of all)) all
+pub orders_read : (all : List Order) → map (λ order. read_of (record_of order)) all ≡ map Ok all → EachReads (File.records_of (records_of all)) all
 orders_read all e = rw (file_records all) (each_reads all e)
 
 -- ---- a file whose records read

@@ -1,5 +1,5 @@
 -- A table with a line of a record that does not read is refused. Assumes nothing.
-use Rattle.std.specs.Prelude.{if◌then◌else◌}
+use Rattle.std.specs.Prelude.{if◌then◌else◌, Ok, Err}
 use Prim.Native.Nat.{ℕ, suc, ◌-◌, ◌≤◌, ◌<◌}
 use native.Mathlib.Omega.{arith}
 use lib.Dec.{lit≤}
@@ -10,9 +10,11 @@ use mathlib.Core.Path.{◌≡◌, refl, sym, ap, ◌∙◌}
 use Rattle.plain.specs.Lists.{◌is◌, ◌is_not◌, some, first}
 use Rattle.plain.proofs.Lists.{each_none}
 use Rattle.rulebook.specs.Names.{field_names, refusal_names, name_from1}
-use Rattle.rulebook.specs.Record.{no_form, unused_not_zero, used_out_of_range, fields_of, fields_in, order_of, field_tests, read_of, read_refusal, write_refusal}
+use Rattle.rulebook.specs.Record.{no_form, unused_not_zero, used_out_of_range, fields_of, fields_in, order_of, field_tests, read_of, read_number, read_refusal, write_refusal}
 use Rattle.rulebook.specs.declared.Order.{Order}
-use Rattle.rulebook.specs.declared.Read.{Read}
+use Rattle.rulebook.specs.Answers.{Read, number_of, number_in}
+use Rattle.rulebook.specs.declared.Refusal.{Refusal}
+use Rattle.rulebook.proofs.Answers.{refusal-back, read-number}
 use Rattle.rulebook.proofs.Below.{tabled, same_below}
 use Rattle.rulebook.proofs.RoundTrips.{read_writable}
 use Rattle.text.specs.Text.{decimal, digits}
@@ -43,21 +45,25 @@ abbrev words : ℕ → List ℕ
 words number = line "unreadable: refused by # (!)" (number ∷ number ∷ [])
 
 -- it is refused by 2 to 5, and what is computed for each of them holds of it
-module _ (octets : List ℕ) (number : ℕ) (e : read_of octets ≡ Read.Refused number) where
+module _ (octets : List ℕ) (refusal : Refusal) (e : read_of octets ≡ Err refusal) where
+  abbrev number : ℕ
+  number = number_of refusal
+
   unread : (2 ≤ number) × (number < 6)
-  unfolding read_of read_refusal
-  unread = go (length octets is_not 40) (no_form (fields_in octets)) (unused_not_zero (fields_in octets)) (used_out_of_range (fields_in octets)) e
+  unfolding read_number read_refusal
+  unread =
+      go (length octets is_not 40) (no_form (fields_in octets)) (unused_not_zero (fields_in octets)) (used_out_of_range (fields_in octets))
+      (sym (ap number_in e) ∙ read-number octets)
     where
-      go : (a b c d : Bool)
-          → (if first ((2, a) ∷ (3, b) ∷ (4, c) ∷ (5, d) ∷ []) is 0 then Read.Order (order_of (fields_in octets))
-          else Read.Refused (first ((2, a) ∷ (3, b) ∷ (4, c) ∷ (5, d) ∷ [])))
-          ≡ Read.Refused number
-          → (2 ≤ number) × (number < 6)
-      go true b c d e = let n : 2 ≡ number = cc in (omega arith, omega arith)
-      go false true c d e = let n : 3 ≡ number = cc in (omega arith, omega arith)
-      go false false true d e = let n : 4 ≡ number = cc in (omega arith, omega arith)
-      go false false false true e = let n : 5 ≡ number = cc in (omega arith, omega arith)
-      go false false false false e = absurd (let z : ◌≡◌ {A = ℕ} 0 1 = cc in omega arith)
+      go : (a b c d : Bool) → number ≡ first ((2, a) ∷ (3, b) ∷ (4, c) ∷ (5, d) ∷ []) → (2 ≤ number) × (number < 6)
+      go true b c d e = (omega arith, omega arith)
+      go false true c d e = (omega arith, omega arith)
+      go false false true d e = (omega arith, omega arith)
+      go false false false true e = (omega arith, omega arith)
+      go false false false false e =
+          let z : (number is 0) ≡ false = (refusal-back refusal).1 in
+          let t : (number is 0) ≡ true = rw e in
+          absurd (false≢true (sym z ∙ t))
 
   by_refusal : {A : Type 0} (f g : ℕ → A) → tabled 4 (λ k. f (suc (suc k))) ≡ tabled 4 (λ k. g (suc (suc k))) → f number ≡ g number
   by_refusal f g same =
@@ -95,13 +101,13 @@ module _ (octets : List ℕ) (records : List (List ℕ)) where
   abbrev Line : List ℕ → Type 0
   Line text = full_lines (lines_of (record_lines (octets ∷ records))) ≡ text ∷ full_lines (lines_of (record_lines records))
 
-  unread_line : (refusal : ℕ) → read_of octets ≡ Read.Refused refusal → Line (words refusal)
+  unread_line : (refusal : Refusal) → read_of octets ≡ Err refusal → Line (words (number_of refusal))
   unfolding record_lines read_line
   unread_line refusal e =
-      rw (e, line-ends octets refusal e, append_assoc (words refusal) (line_feed ∷ []) (record_lines records))
-      (one_line (words refusal) (record_lines records) (no_end octets refusal e) (not_empty octets refusal e))
+      rw (e, line-ends octets refusal e, append_assoc (words (number_of refusal)) (line_feed ∷ []) (record_lines records))
+      (one_line (words (number_of refusal)) (record_lines records) (no_end octets refusal e) (not_empty octets refusal e))
 
-  read_line_lem : (order : Order) → read_of octets ≡ Read.Order order → Line (join comma (order_cells order))
+  read_line_lem : (order : Order) → read_of octets ≡ Ok order → Line (join comma (order_cells order))
   unfolding record_lines read_line write_refusal
   read_line_lem order e =
       let t : first (field_tests (fields_of order)) ≡ 0 = read_writable octets order (replicate 40 0) e (lit≤ tt) in
@@ -120,13 +126,13 @@ module _ (octets : List ℕ) (records : List (List ℕ)) where
           first_off (one t r) = none_taken _ r
 
       go : (answer : Read) → read_of octets ≡ answer → ⊥
-      go (Read.Order order) e = past _ (read_line_lem order e)
-      go (Read.Refused refusal) e = past _ (unread_line refusal e)
+      go (Ok order) e = past _ (read_line_lem order e)
+      go (Err refusal) e = past _ (unread_line refusal e)
 
 not_taken : {records : List (List ℕ)} → SomeUnreadable records → (all : List Order) → Along (Taken every) (full_lines (lines_of (record_lines records))) all → ⊥
 not_taken (here {octets} {records} refusal e) all a = go (rw (unread_line octets records refusal e) at a)
   where
-    go : {all : List Order} → Along (Taken every) (words refusal ∷ full_lines (lines_of (record_lines records))) all → ⊥
+    go : {all : List Order} → Along (Taken every) (words (number_of refusal) ∷ full_lines (lines_of (record_lines records))) all → ⊥
     go (one t r) = no_order octets refusal e t
 not_taken (later {octets} {records} some) all a = behind octets records a (not_taken some)
 

@@ -1,9 +1,9 @@
 -- Records to a table and back, and a table to records and back (RULES 16).
-use Rattle.std.specs.Prelude.{ℕ, true, List, [], ◌∷◌, ◌≡◌}
+use Rattle.std.specs.Prelude.{ℕ, true, List, [], ◌∷◌, ◌≡◌, Ok, Err}
 use Rattle.bits.specs.Bits.{Octets}
 use Rattle.rulebook.specs.Record.{read_of}
 use Rattle.rulebook.specs.declared.Order.{Order}
-use Rattle.rulebook.specs.declared.Read.{Read}
+use Rattle.rulebook.specs.declared.Refusal.{Refusal}
 use Rattle.file.specs.Records as File
 use Rattle.table.specs.Lines.{records_of}
 use Rattle.table.specs.Lines.Imported.{orders}
@@ -15,7 +15,7 @@ use Rattle.table_lines.specs.Exported.{exported}
 pub data EachReads : List (List ℕ) → List Order → Type 0 where
   none : EachReads [] []
   one : {octets : List ℕ} {records : List (List ℕ)} {order : Order} {all : List Order}
-      → read_of octets ≡ Read.Order order → EachReads records all → EachReads (octets ∷ records) (order ∷ all)
+      → read_of octets ≡ Ok order → EachReads records all → EachReads (octets ∷ records) (order ∷ all)
 
 -- a record file whose records read is exported as the canonical table of its orders, and import makes the same bytes of that
 unfoldable pub SameBytes : Type 0
@@ -29,7 +29,7 @@ CanonicalTable = (table : List ℕ) (all : List Order) → import_of table ≡ o
 
 -- some record does not read
 pub data SomeUnreadable : List (List ℕ) → Type 0 where
-  here : {octets : List ℕ} {records : List (List ℕ)} (number : ℕ) → read_of octets ≡ Read.Refused number → SomeUnreadable (octets ∷ records)
+  here : {octets : List ℕ} {records : List (List ℕ)} (refusal : Refusal) → read_of octets ≡ Err refusal → SomeUnreadable (octets ∷ records)
   later : {octets : List ℕ} {records : List (List ℕ)} → SomeUnreadable records → SomeUnreadable (octets ∷ records)
 
 -- what is exported of a file with such a record is refused by import

@@ -1,8 +1,8 @@
 -- The lines of a statement (RULES 17): what an answer and each row that a call wrote say in words.
-use Rattle.std.specs.Prelude.{if◌then◌else◌, ℕ, zero, suc, Bool, List, [], ◌∷◌, ◌++◌, take, drop}
+use Rattle.std.specs.Prelude.{if◌then◌else◌, ℕ, zero, suc, Bool, List, [], ◌∷◌, ◌++◌, take, drop, Ok, Err}
 use Rattle.plain.specs.Lists.{◌is◌}
 use Rattle.rulebook.specs.Rows.{Row, posting, notice, posting_in, notice_in}
-use Rattle.rulebook.specs.declared.Answer.{Answer}
+use Rattle.rulebook.specs.Answers.{Answer, number_of}
 use Rattle.wording.specs.Fill.{line}
 use Rattle.row_lines.specs.Rows.{posting_line, notice_line}
 
@@ -28,5 +28,5 @@ refused_line number form refusal =
     else line "# ^: refused by #, !\n" (number ∷ form ∷ refusal ∷ refusal ∷ [])
 
 unfoldable pub answer_line : (number form : ℕ) → Answer → List ℕ
-answer_line number form (Answer.Accepted counts) = line "# ^: accepted\n" (number ∷ form ∷ [])
-answer_line number form (Answer.Refused refusal) = refused_line number form refusal
+answer_line number form (Ok counts) = line "# ^: accepted\n" (number ∷ form ∷ [])
+answer_line number form (Err refusal) = refused_line number form (number_of refusal)

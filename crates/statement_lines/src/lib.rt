@@ -6,7 +6,7 @@ mod told;
 ghost use Rattle.std.specs.Prelude.{◌++◌, ◌≡◌, ◌+◌, ◌≤◌, length};
 ghost use Rattle.statement_lines.specs.Lines.{refused_line, answer_line};
 
-use rulebook::Answer;
+use rulebook::{Counts, Refusal};
 use text::Buffer;
 pub use told::put_rows;
 
@@ -28,13 +28,18 @@ fn put_refused<const N: usize>(out: &mut Buffer<N>, number: u64, form: u64, refu
 
 // A record's answer, with its form's name; form 0 is that of a record that does not read.
 #[tactic(auto, unfolding(crate::specs::Lines::answer_line))]
-pub fn put_answer<const N: usize>(out: &mut Buffer<N>, number: u64, form: u64, answer: Answer)
+pub fn put_answer<const N: usize>(
+    out: &mut Buffer<N>,
+    number: u64,
+    form: u64,
+    answer: Result<Counts, Refusal>,
+)
     requires { length out.old + 512 ≤ N }
     ensures put { out.new ≡ out.old ++ answer_line number form answer }
     ensures upper_bound { length out.new ≤ length out.old + 512 }
 {
     match answer {
-        Answer::Accepted(_) => { wording::put_filled(out, b"# ^: accepted\n", &[number, form]) }
-        Answer::Refused(refusal) => put_refused(out, number, form, refusal),
+        Ok(_) => wording::put_filled(out, b"# ^: accepted\n", &[number, form]),
+        Err(refusal) => put_refused(out, number, form, refusal.into()),
     }
 }

@@ -1,4 +1,5 @@
 -- What a call can result in, what its answer counts, and that its rows are told as the rulebook has them. Assumes nothing.
+use Rattle.std.specs.Prelude.{Ok, Err}
 use Prim.Native.Nat.{ℕ, ◌*◌, ◌≤◌}
 use native.Mathlib.Omega.{arith}
 use mathlib.Core.Bool.{Bool, true, false, true≢false}
@@ -19,11 +20,11 @@ use Rattle.rulebook.specs.Record.{read_of}
 use Rattle.rulebook.specs.Refusals.{refusals}
 use Rattle.rulebook.specs.Rows.{notice, notice_of, notice_widths, posting_rows, rows_bytes}
 use Rattle.rulebook.specs.Waiting.{sender_of, marking, cancelled, both_marked}
-use Rattle.rulebook.specs.declared.Answer.{Answer}
 use Rattle.rulebook.specs.declared.Item.{Item}
 use Rattle.rulebook.specs.declared.Notice.{Notice}
 use Rattle.rulebook.specs.declared.Order.{Order}
-use Rattle.rulebook.specs.declared.Read.{Read}
+use Rattle.rulebook.specs.Answers.{Read, refusal_of}
+use Rattle.rulebook.specs.declared.Refusal.{Refusal}
 use Rattle.rulebook.proofs.ByCall.{by_form}
 use Rattle.rulebook.proofs.EveryCall.Items.{marking-fits}
 use Rattle.rulebook.proofs.Reading.{AllProper, noticed, row_fits}
@@ -39,28 +40,28 @@ use Rattle.statements.specs.Told.{rows_of}
 
 -- ---- a call is refused, or its order is accepted
 
-module _ (b : Ledger) (octets area : List ℕ) (P : Read → Result → Type 0) (refuses : (r : Read) (n : ℕ) → P r (refused n b area))
-    (accepts : (o : Order) → read_of octets ≡ Read.Order o → first (refusals b o) ≡ 0 → P (Read.Order o) (accepted (effect b o) o.minute area))
+module _ (b : Ledger) (octets area : List ℕ) (P : Read → Result → Type 0) (refuses : (r : Read) (refusal : Refusal) → P r (refused refusal b area))
+    (accepts : (o : Order) → read_of octets ≡ Ok o → first (refusals b o) ≡ 0 → P (Ok o) (accepted (effect b o) o.minute area))
   where
-    order-does : (o : Order) → read_of octets ≡ Read.Order o → P (Read.Order o) (order_call b o area)
+    order-does : (o : Order) → read_of octets ≡ Ok o → P (Ok o) (order_call b o area)
     unfolding order_call
     order-does o e = go (first (refusals b o) is 0) refl
       where
-        go : (t : Bool) → (first (refusals b o) is 0) ≡ t → P (Read.Order o) (order_call b o area)
+        go : (t : Bool) → (first (refusals b o) is 0) ≡ t → P (Ok o) (order_call b o area)
         go true p = simp p (accepts o e (eqb-true _ 0 p))
-        go false p = simp p (refuses (Read.Order o) (first (refusals b o)))
+        go false p = simp p (refuses (Ok o) (refusal_of (first (refusals b o))))
 
     read_does : (r : Read) → read_of octets ≡ r → P r (read_call b r area)
     unfolding read_call
-    read_does (Read.Order o) e = order-does o e
-    read_does (Read.Refused n) e = refuses (Read.Refused n) n
+    read_does (Ok o) e = order-does o e
+    read_does (Err refusal) e = refuses (Err refusal) refusal
 
     pub by_result : P (read_of octets) (call_of b octets area)
     unfolding call_of
     by_result = go (length area below 4_096) refl
       where
         go : (t : Bool) → (length area below 4_096) ≡ t → P (read_of octets) (call_of b octets area)
-        go true p = simp p (refuses (read_of octets) 1)
+        go true p = simp p (refuses (read_of octets) Refusal.ShortArea)
         go false p = simp p (read_does (read_of octets) refl)
 
 -- ---- which forms write posting rows
@@ -119,7 +120,7 @@ form-notices =
     no e = absurd (true≢false e)
 
 -- the rows of an accepted order
-order-told : (b : Ledger) (o : Order) (octets : List ℕ) → Premise b → read_of octets ≡ Read.Order o → first (refusals b o) ≡ 0
+order-told : (b : Ledger) (o : Order) (octets : List ℕ) → Premise b → read_of octets ≡ Ok o → first (refusals b o) ≡ 0
     → AllTold (row_of o.form).posts (effect b o).rows
 order-told b o octets p e z = go (row_of o.form).posts refl
   where
@@ -150,19 +151,19 @@ module _ (b : Ledger) (octets area : List ℕ) (p : Premise b) where
       answer_line number (form_in r) x.answer ++ row_lines (row_of (form_in r)).posts (answer_rows x.answer) x.area
       ≡ answer_line number (form_in r) x.answer ++ lines_of (rows_of b r x.answer)
 
-  none_told : (number : ℕ) (r : Read) (n : ℕ) → AsHad number r (refused n b area)
+  none_told : (number : ℕ) (r : Read) (refusal : Refusal) → AsHad number r (refused refusal b area)
   unfolding refused answer_rows row_lines rows_of lines_of
-  none_told number (Read.Order o) n = refl
-  none_told number (Read.Refused m) n = refl
+  none_told number (Ok o) refusal = refl
+  none_told number (Err unread) refusal = refl
 
   pub call_told : (number : ℕ) → call_lines number octets (call_of b octets area)
       ≡ answer_line number (form_in (read_of octets)) (call_of b octets area).answer ++ lines_of (rows_of b (read_of octets) (call_of b octets area).answer)
   unfolding call_lines accepted answer_rows form_in rows_of
   call_told number = by_result b octets area (AsHad number) (none_told number) told
     where
-      told : (o : Order) → read_of octets ≡ Read.Order o → first (refusals b o) ≡ 0 → AsHad number (Read.Order o) (accepted (effect b o) o.minute area)
+      told : (o : Order) → read_of octets ≡ Ok o → first (refusals b o) ≡ 0 → AsHad number (Ok o) (accepted (effect b o) o.minute area)
       told o e z =
           let t = order-step b o octets p e z in
           let rows = (effect b o).rows in
-          ap (λ (l : List ℕ). answer_line number o.form (Answer.Accepted (effect b o).counts) ++ l)
+          ap (λ (l : List ℕ). answer_line number o.form (Ok (effect b o).counts) ++ l)
           (rw t.counted (rows_told (row_of o.form).posts rows (drop (16 * length rows) area) (order-told b o octets p e z)))

@@ -10,7 +10,7 @@ use Rattle.rulebook.specs.Call.{Result, answer_rows, call_of}
 use Rattle.rulebook.specs.Forms.{row_of}
 use Rattle.rulebook.specs.Ledger.{Ledger}
 use Rattle.rulebook.specs.Record.{read_of}
-use Rattle.rulebook.specs.declared.Answer.{Answer}
+use Rattle.rulebook.specs.Answers.{Answer}
 use Rattle.book.specs.Meaning.{ledger_of}
 use Rattle.book.specs.Stored.{Kept}
 use Rattle.ledger.specs.Called.{Called}

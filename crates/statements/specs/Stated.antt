@@ -1,10 +1,10 @@
 -- What a statement prints of records that are called one after the other, and how far a buffer was filled with it.
-use Rattle.std.specs.Prelude.{ℕ, ◌+◌, ◌≤◌, ◌<◌, List, [], ◌∷◌, ◌++◌, ◌≡◌, length, drop, replicate}
+use Rattle.std.specs.Prelude.{ℕ, ◌+◌, ◌≤◌, ◌<◌, List, [], ◌∷◌, ◌++◌, ◌≡◌, length, drop, replicate, Ok, Err}
 use Rattle.rulebook.specs.Call.{Result, answer_rows, call_of}
 use Rattle.rulebook.specs.Forms.{row_of}
 use Rattle.rulebook.specs.Ledger.{Ledger, fresh}
 use Rattle.rulebook.specs.Record.{read_of}
-use Rattle.rulebook.specs.declared.Read.{Read}
+use Rattle.rulebook.specs.Answers.{Read}
 use Rattle.book.specs.Meaning.{ledger_of}
 use Rattle.book.specs.Stored.{Kept}
 use Rattle.file.specs.Records.{records_of}
@@ -14,8 +14,8 @@ use Rattle.statements.specs.declared.calls.Part.{Part}
 
 -- the form of a record that reads; 0 where it does not
 unfoldable pub form_in : Read → ℕ
-form_in (Read.Order order) = order.form
-form_in (Read.Refused number) = 0
+form_in (Ok order) = order.form
+form_in (Err refusal) = 0
 
 -- RULES 17.2: of a call, its answer and the rows that the answer counts; by the form these are posting rows or notices
 unfoldable pub call_lines : (number : ℕ) → (octets : List ℕ) → Result → List ℕ

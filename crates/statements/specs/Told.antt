@@ -1,21 +1,20 @@
 -- A statement tells the rows of the rulebook's effects: nothing of it depends on bytes.
-use Rattle.std.specs.Prelude.{ℕ, ◌+◌, List, [], ◌∷◌, ◌++◌, ◌≡◌}
+use Rattle.std.specs.Prelude.{ℕ, ◌+◌, List, [], ◌∷◌, ◌++◌, ◌≡◌, Ok, Err}
 use Rattle.rulebook.specs.Call.{Result, call_of}
 use Rattle.rulebook.specs.Forms.{effect}
 use Rattle.rulebook.specs.Ledger.{Ledger, fresh}
 use Rattle.rulebook.specs.Record.{read_of}
 use Rattle.rulebook.specs.Rows.{Row}
-use Rattle.rulebook.specs.declared.Answer.{Answer}
-use Rattle.rulebook.specs.declared.Read.{Read}
+use Rattle.rulebook.specs.Answers.{Answer, Read}
 use Rattle.file.specs.Records.{records_of}
 use Rattle.statement_lines.specs.Lines.{lines_of, answer_line}
 use Rattle.statements.specs.Stated.{form_in, statement_lines}
 
 -- the rows of a call: those of its order's effect where it is accepted, and else none
 unfoldable pub rows_of : Ledger → Read → Answer → List Row
-rows_of book (Read.Order order) (Answer.Accepted counts) = (effect book order).rows
-rows_of book (Read.Order order) (Answer.Refused refusal) = []
-rows_of book (Read.Refused number) answer = []
+rows_of book (Ok order) (Ok counts) = (effect book order).rows
+rows_of book (Ok order) (Err refusal) = []
+rows_of book (Err refusal) answer = []
 
 -- what the rulebook has to tell of records that are called one after the other
 unfoldable pub told_lines : (number : ℕ) → Ledger → (area : List ℕ) → List (List ℕ) → List ℕ

@@ -8,7 +8,7 @@ ghost use Rattle.file.specs.Records.{records_of};
 ghost use Rattle.printing.specs.Printed.{lent};
 ghost use Rattle.statements.specs.Stated.{form_in, RECORD, Stated, PartPut};
 
-use rulebook::{Answer, Read};
+use rulebook::{Counts, Refusal};
 use text::Buffer;
 
 // More bytes than the lines of one record: 512 for its answer, and 512 for each of 256 rows.
@@ -22,13 +22,13 @@ pub struct Part {
 }
 
 // The form of a record that reads, or 0.
+#[tactic(auto, unfolding(crate::specs::Stated::form_in))]
 fn form_of(record: &[u8]) -> u64
     ensures { result ≡ form_in (read_of «record».now) }
 {
-    let read = record::read(record);
-    match read {
-        Read::Order(order) => order.form,
-        Read::Refused(_) => 0,
+    match record::read(record) {
+        Ok(order) => order.form,
+        Err(_) => 0,
     }
 }
 
@@ -43,12 +43,13 @@ fn posts(form: u64) -> bool
     }
 }
 
-fn rows_of(answer: Answer) -> usize
+#[tactic(auto, unfolding(rulebook::specs::Call::answer_rows))]
+fn rows_of(answer: Result<Counts, Refusal>) -> usize
     ensures { result ≡ answer_rows answer }
 {
     match answer {
-        Answer::Accepted(counts) => counts.rows as usize,
-        Answer::Refused(_) => 0,
+        Ok(counts) => counts.rows as usize,
+        Err(_) => 0,
     }
 }
 

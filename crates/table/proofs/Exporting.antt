@@ -18,7 +18,6 @@ use Rattle.rulebook.specs.Forms.{forms, row_of as form_row}
 use Rattle.rulebook.specs.Names.{field_names, form_name}
 use Rattle.rulebook.specs.Record.{fields_of, order_of, record_of, read_of, field_tests, no_form, unused_not_zero, used_out_of_range, write_refusal}
 use Rattle.rulebook.specs.declared.Order.{Order}
-use Rattle.rulebook.specs.declared.Read.{Read}
 use Rattle.rulebook.proofs.Below.{tabled, same_below}
 use Rattle.rulebook.proofs.RoundTrips.{write_read}
 use Rattle.field_rules.specs.Fields.{fields_refusal}
@@ -168,7 +167,7 @@ small_fit (suc n) (w ∷ ws) (v ∷ vs) s f = (omega (arith, f.0, pow_mono (ltb-
 module _ (order : Order) (t : first (field_tests (fields_of order)) ≡ 0) where
   small_fields : Each (λ v. v < 2 ^ 64) (drop 1 (take 18 (fields_of order)))
   unfolding fields_refusal fields_of widths
-  small_fields = (small_fit 18 widths (fields_of order) (each_none (λ w. 64 below w) widths refl) (write_fits order t)).1
+  small_fields = (small_fit 18 widths (fields_of order) (each_none (λ w. 64 below w) widths refl) (write_fits order (sym t))).1
 
   -- the form is one of the table
   form-known : (1 ≤ order.form) × (order.form ≤ 21)
@@ -253,7 +252,7 @@ export_imports all w =
 -- ---- and what a table says is such orders
 
 lines_writable : {places : List ℕ} {lines : List (List ℕ)} {all : List Order} → Along (Taken places) lines all
-    → Writable all × (map (λ order. read_of (record_of order)) all ≡ map Read.Order all)
+    → Writable all × (map (λ order. read_of (record_of order)) all ≡ map Ok all)
 unfolding Writable write_refusal
 lines_writable none = (tt, refl)
 lines_writable (one {b = order} t r) =
@@ -265,6 +264,6 @@ unfolding ImportExports ExportImports import_of import_lines
 import_exports file all e = go (lines_of (unmarked file)) e
   where
     go : (lines : List (List ℕ)) → import_lines lines ≡ orders all
-        → Writable all × (map (λ order. read_of (record_of order)) all ≡ map Read.Order all) × (import_of (table_of all) ≡ orders all)
+        → Writable all × (map (λ order. read_of (record_of order)) all ≡ map Ok all) × (import_of (table_of all) ≡ orders all)
     go [] e = absurd (none_such e)
     go (header ∷ others) e = let w = lines_writable (imported header others all e).taken_in in (w.0, w.1, export_imports all w.0)

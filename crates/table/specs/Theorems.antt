@@ -2,7 +2,6 @@
 use Rattle.std.specs.Prelude.{ℕ, zero, suc, ◌+◌, ◌*◌, ◌<◌, ◌≤◌, true, false, List, [], ◌∷◌, ◌++◌, map, ◌≡◌, length, get_or, Option, None, Ok}
 use Rattle.rulebook.specs.Record.{fields_of, record_of, read_of}
 use Rattle.rulebook.specs.declared.Order.{Order}
-use Rattle.rulebook.specs.declared.Read.{Read}
 use Rattle.text.specs.Parts.{line_feed, up_to}
 use Rattle.names.specs.Numbers.{field_place}
 use Rattle.cells.specs.Cells.{cells, trim, is_empty, lines_of, full_lines, whole_lines, tail_of}
@@ -30,7 +29,7 @@ pub record Says (header line : List ℕ) (order : Order) : Type 0 where
   pub other : (place : ℕ) → place < no_place → ((column : ℕ) → column < length (cells header) → field_at header column ≡ place → ⊥)
       → get_or (fields_of order) place 0 ≡ 0
   -- and the record reads back as this order
-  pub back : read_of (record_of order) ≡ Read.Order order
+  pub back : read_of (record_of order) ≡ Ok order
 
 -- two lists, each element of the one with that of the other in the same place
 pub data Along {A B : Type 0} (Fits : A → B → Type 0) : List A → List B → Type 0 where
@@ -159,4 +158,4 @@ ExportImports = (all : List Order) → Writable all → import_of (table_of all)
 -- the orders of a table are such orders: each record that is written for it reads back as its order, and their canonical table imports as them
 unfoldable pub ImportExports : Type 0
 ImportExports = (file : List ℕ) (all : List Order) → import_of file ≡ orders all
-    → Writable all × (map (λ order. read_of (record_of order)) all ≡ map Read.Order all) × (import_of (table_of all) ≡ orders all)
+    → Writable all × (map (λ order. read_of (record_of order)) all ≡ map Ok all) × (import_of (table_of all) ≡ orders all)

@@ -1,9 +1,9 @@
 -- The table that records say: every field under its name, a line for each record (RULES 16).
-use Rattle.std.specs.Prelude.{ℕ, List, [], ◌∷◌, ◌++◌, map}
+use Rattle.std.specs.Prelude.{ℕ, List, [], ◌∷◌, ◌++◌, map, Ok, Err}
 use Rattle.rulebook.specs.Names.{field_names}
 use Rattle.rulebook.specs.Record.{fields_of, read_of}
 use Rattle.rulebook.specs.declared.Order.{Order}
-use Rattle.rulebook.specs.declared.Read.{Read}
+use Rattle.rulebook.specs.Answers.{Read, number_of}
 use Rattle.text.specs.Text.{text}
 use Rattle.text.specs.Parts.{line_feed, join}
 use Rattle.file.specs.Records.{records_of}
@@ -19,8 +19,8 @@ order_line order = line "^,#,#,#,#,#,#,#,#,#,#,#,#,#,#,#,#,#\n" (fields_of order
 
 -- a record that does not read has a line of its own, which says why
 unfoldable pub read_line : Read → List ℕ
-read_line (Read.Order order) = order_line order
-read_line (Read.Refused number) = line "unreadable: refused by # (!)\n" (number ∷ number ∷ [])
+read_line (Ok order) = order_line order
+read_line (Err refusal) = line "unreadable: refused by # (!)\n" (number_of refusal ∷ number_of refusal ∷ [])
 
 unfoldable pub record_lines : List (List ℕ) → List ℕ
 record_lines [] = []

@@ -6,7 +6,7 @@ ghost use Rattle.rulebook.specs.Record.{read_of};
 ghost use Rattle.file.specs.Records.{records_of};
 ghost use Rattle.table_lines.specs.Exported.{name_line, order_line, read_line, record_lines};
 
-use rulebook::{Order, Read};
+use rulebook::Order;
 use text::Buffer;
 
 // The first line.
@@ -39,14 +39,12 @@ fn put_record<const N: usize>(out: &mut Buffer<N>, octets: &[u8])
     ensures put { out.new ≡ out.old ++ read_line (read_of octets.now) }
     ensures upper_bound { length out.new ≤ length out.old + 1556 }
 {
-    let answer = record::read(octets);
-    match answer {
-        Read::Order(order) => put_order(out, order),
-        Read::Refused(number) => wording::put_filled(
-            out,
-            b"unreadable: refused by # (!)\n",
-            &[number, number],
-        ),
+    match record::read(octets) {
+        Ok(order) => put_order(out, order),
+        Err(refusal) => {
+            let number = refusal.into();
+            wording::put_filled(out, b"unreadable: refused by # (!)\n", &[number, number]);
+        }
     }
 }
 

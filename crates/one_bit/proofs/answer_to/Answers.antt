@@ -1,12 +1,13 @@
 -- The reader's answer, by its number.
+use Rattle.std.proofs.Common.{◌∙◌}
 use Rattle.rulebook.specs.Record.{read_number}
 use Rattle.one_bit.specs.Changes.{changed, answer_to}
 use Rattle.one_bit.proofs.answer_to.Goals as goal
 
-pub returns-in-Order : goal.returns-in-Order
+pub returns-in-Ok : goal.returns-in-Ok
 unfolding answer_to changed read_number
-returns-in-Order c = c.in-Order.ensures.number
+returns-in-Ok c = c.in-Ok.ensures.number
 
-pub returns-in-Refused : goal.returns-in-Refused
+pub returns-in-Err : goal.returns-in-Err
 unfolding answer_to changed read_number
-returns-in-Refused c = c.in-Refused.ensures.number
+returns-in-Err c = c.into.ensures ∙ c.in-Err.ensures.number
