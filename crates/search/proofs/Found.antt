@@ -1,40 +1,39 @@
 -- What a search finds, place by place, and what is known of what it found. Assumes nothing.
-use Rattle.std.specs.Prelude.{if◌then◌else◌, is_some, Some, None}
-use Prim.Native.Nat.{ℕ, suc, ◌+◌, ◌≤◌, ◌<◌}
-use mathlib.Core.Path.{◌≡◌, refl, sym, ◌∙◌}
+use Rattle.std.specs.List.{find, range_with_len}
+use Rattle.words.specs.Places.{first_from}
+use Rattle.words.proofs.Places.{found_in_range}
+use Rattle.std.specs.Prelude.{Option, option_map, if◌then◌else◌, is_some, Some}
+use Prim.Native.Nat.{ℕ, suc, ◌+◌, ◌<◌}
+use mathlib.Core.Path.{◌≡◌, refl, sym, ap, ◌∙◌}
 use mathlib.Core.Bool.{Bool, true, false, not, ◌||◌}
 use mathlib.Core.List.{List, [], ◌∷◌}
-use native.Mathlib.Numerals.{add-one}
 use native.Mathlib.Omega.{arith}
-use lib.ListN.{length, get_or, drop, drop_of_length-le}
-use lib.Seq.{drop-cons}
+use lib.ListN.{length, get_or}
 use Rattle.plain.specs.Lists.{some}
 use Rattle.search.specs.Place.{place_from, place_in}
 
--- ---- the loop: what is left of the list decides
+-- ---- the library's search of the places
 
-module _ {A : Type 0} (test : A → Bool) (l : List A) where
-  -- nothing was found before i
-  abbrev pub Left : ℕ → Type 0
-  Left i = place_from test i (drop i l) ≡ place_in test l
+first_as_place :
+    {A : Type 0} (test : A → Bool) (p : ℕ → Bool) (i : ℕ) (l : List A) (d : A) → ((k : ℕ) → k < length l → p (i + k) ≡ test (get_or l k d))
+    → first_from p i (length l) ≡ place_from test i l
+unfolding first_from place_from
+first_as_place test p i [] d h = refl
+first_as_place test p i (x ∷ rest) d h =
+    let a : i + 0 ≡ i = omega arith in
+    let here : p i ≡ test x = ap p (sym a) ∙ h 0 (omega arith) in
+    let next : (k : ℕ) → k < length rest → p (suc i + k) ≡ test (get_or rest k d) =
+    λ k l. let e : suc i + k ≡ i + suc k = omega arith in ap p e ∙ h (suc k) (omega arith) in
+    rw (here, first_as_place test p (suc i) rest d next)
 
-  module _ (i : ℕ) (h : i < length l) (d : A) where
-    next : place_from test i (drop i l) ≡ (if test (get_or l i d) then Some i else place_from test (i + 1) (drop (i + 1) l))
-    unfolding place_from
-    next = rw (add-one, drop-cons l i d h) refl
-
-    -- the one at i passes
-    pub place_here : test (get_or l i d) ≡ true → Left i → Some i ≡ place_in test l
-    place_here e left = sym (next ∙ rw e) ∙ left
-
-    -- the one at i does not pass
-    pub place-later : test (get_or l i d) ≡ false → Left i → Left (i + 1)
-    place-later e left = sym (next ∙ rw e) ∙ left
-
-  -- none is left
-  pub place_none : (i : ℕ) → length l ≤ i → Left i → None ≡ place_in test l
-  unfolding place_from
-  place_none i h left = sym (rw (drop_of_length-le l h)) ∙ left
+-- what `(0..n).find` has found, as `find_from_yields_List` tells it, where n is how many there are
+pub found_in_list :
+    {A : Type 0} (test : A → Bool) (l : List A) (d : A) (n : ℕ) → n ≡ length l → (found : Option ℕ)
+    → option_map (λ (k : ℕ). k) found ≡ find (λ i. test (get_or l i d)) (range_with_len 0 n) → found ≡ place_in test l
+found_in_list test l d n size found e =
+    found_in_range (λ i. test (get_or l i d)) 0 n found e
+    ∙ ap (first_from (λ i. test (get_or l i d)) 0) size
+    ∙ first_as_place test (λ i. test (get_or l i d)) 0 l d (λ k h. let z : 0 + k ≡ k = omega arith in ap (λ (i : ℕ). test (get_or l i d)) z)
 
 pub not-true : (a : Bool) → not a ≡ true → a ≡ false
 not-true true e = sym e

@@ -38,15 +38,7 @@ pub fn first_sent(book: &[u64], sender: u64, reference: u64) -> Option<usize>
     requires { Stored book.now }
     ensures { result ≡ place_in (sent_by sender reference) (ledger_of book.now).waiting }
 {
-    let n = book_items::items(book);
-    let mut i: usize = 0;
-    while i < n {
-        if is_sent(book, i, sender, reference) {
-            return Some(i);
-        }
-        i += 1;
-    }
-    None
+    (0..book_items::items(book)).find(|&i| is_sent(book, i, sender, reference))
 }
 
 // The first single that pairs with an arriving one within a limit.
@@ -54,15 +46,7 @@ fn first_pairing(book: &[u64], limit: Cents, arriving: Item) -> Option<usize>
     requires { Stored book.now }
     ensures { result ≡ place_in (pairs_with limit.0 arriving) (ledger_of book.now).waiting }
 {
-    let n = book_items::items(book);
-    let mut i: usize = 0;
-    while i < n {
-        if is_pairing(book, i, limit, arriving) {
-            return Some(i);
-        }
-        i += 1;
-    }
-    None
+    (0..book_items::items(book)).find(|&i| is_pairing(book, i, limit, arriving))
 }
 
 // The first single that pairs with an arriving one, by the rate that the book has now.
