@@ -3,21 +3,15 @@ use Prim.Native.Nat.{ℕ, ◌+◌, ◌≤◌, ◌<◌}
 use native.Mathlib.Omega.{arith}
 use mathlib.Core.List.{List}
 use mathlib.Core.Logic.{◌≢◌}
-use mathlib.Core.Path.{◌≡◌, refl, ◌∙◌}
+use mathlib.Core.Path.{◌≡◌, sym, subst, ◌∙◌}
 use lib.ListN.{length, get_or, set, length-set}
 use lib.Seq.{get_or-set_same, get_or-set_other}
 use borrow.Author.Count.{below_more}
-use Rattle.legs.specs.Figures.{TO, NUMBER, OWES, from_at, to_at, number_at, LegsAre, has_at, owes_at, Figures}
+use Rattle.legs.specs.Filled.{leg_in, Started}
+use Rattle.legs.specs.declared.Leg.{Leg}
+use Rattle.legs.specs.Figures.{TO, NUMBER, OWES, from_at, to_at, number_at, has_at, owes_at, Figures}
 
 -- ---- legs
-
-pub legs-none : (from to number : ℕ → ℕ) (legs : List ℕ) → length legs ≡ 192 → LegsAre 0 from to number legs
-legs-none from to number legs l = record {
-  long = l;
-  from_as = λ k h. absurd (omega arith);
-  to_as = λ k h. absurd (omega arith);
-  number_as = λ k h. absurd (omega arith);
-}
 
 abbrev put_leg : List ℕ → (i f t m : ℕ) → List ℕ
 put_leg legs i f t m = set (set (set legs i f) (i + TO) t) (i + NUMBER) m
@@ -54,33 +48,11 @@ module _ (legs : List ℕ) (i : ℕ) (low : i < 64) (long : length legs ≡ 192)
   leg_number : number_at (put_leg legs i f t m) i ≡ m
   leg_number = get_or-set_same two (i + NUMBER) m 0 (omega (arith, two_long))
 
-pub legs-more :
-    (from to number : ℕ → ℕ) (legs : List ℕ) (i : ℕ) → i < 64 → LegsAre i from to number legs → (f t m : ℕ) → f ≡ from i → t ≡ to i → m ≡ number i
-    → LegsAre (i + 1) from to number (put_leg legs i f t m)
-legs-more from to number legs i low d f t m ef et em = record {
-  long = leg_long legs i low d.long f t m;
-  from_as =
-      below_more _ _ (λ k h. other k (λ e. omega (arith, e)) (λ e. omega (arith, e)) (λ e. omega (arith, e)) ∙ d.from_as k h)
-      (leg_from legs i low d.long f t m ∙ ef);
-  to_as =
-      below_more _ _ (λ k h. other (k + TO) (λ e. omega (arith, e)) (λ e. omega (arith, e)) (λ e. omega (arith, e)) ∙ d.to_as k h)
-      (leg_to legs i low d.long f t m ∙ et);
-  number_as =
-      below_more _ _ (λ k h. other (k + NUMBER) (λ e. omega (arith, e)) (λ e. omega (arith, e)) (λ e. omega (arith, e)) ∙ d.number_as k h)
-      (leg_number legs i low d.long f t m ∙ em);
-}
-  where
-    other : (w : ℕ) → w ≢ i → w ≢ i + TO → w ≢ i + NUMBER → get_or (put_leg legs i f t m) w 0 ≡ get_or legs w 0
-    other = leg_other legs i low d.long f t m
-
-pub legs-done : (from to number : ℕ → ℕ) (legs : List ℕ) (n i : ℕ) → n ≤ i → LegsAre i from to number legs → LegsAre n from to number legs
-legs-done from to number legs n i h d =
-    record {
-      long = d.long;
-      from_as = λ k m. d.from_as k (omega arith);
-      to_as = λ k m. d.to_as k (omega arith);
-      number_as = λ k m. d.number_as k (omega arith);
-    }
+-- legs with the same words are the same
+legs_as :
+    {a b c d e f g h : ℕ} → a ≡ e → b ≡ f → c ≡ g → d ≡ h
+    → ◌≡◌ {A = Leg} (record { from = a; to = b; number = c; has = d }) (record { from = e; to = f; number = g; has = h })
+legs_as p q r s = rw (p, q, r, s)
 
 -- ---- figures
 
@@ -126,25 +98,51 @@ figures_done has owes figures n i h d = record { long = d.long; has_as = λ k m.
 
 -- ---- legs, and the figures before any of them is added
 
-pub record Filled (i : ℕ) (from to number has : ℕ → ℕ) (legs figures : List ℕ) : Type 0 where
-  pub legs_as : LegsAre i from to number legs
-  pub start_as : Figures i has (λ k. 0) figures
+-- the first i legs are what each asks of its place
+module _ (Asked : ℕ → Leg → Type 0) where
+  pub record Filled (i : ℕ) (legs figures : List ℕ) : Type 0 where
+    pub asked : (k : ℕ) → k < i → Asked k (leg_in legs figures k)
+    pub started : Started i legs figures
 
-module _ (from to number has : ℕ → ℕ) (legs figures : List ℕ) where
-  pub filled_none : length legs ≡ 192 → length figures ≡ 128 → Filled 0 from to number has legs figures
-  filled_none l f = record { legs_as = legs-none from to number legs l; start_as = figures_none has (λ k. 0) figures f }
+  pub filled_none : (legs figures : List ℕ) → length legs ≡ 192 → length figures ≡ 128 → Filled 0 legs figures
+  filled_none legs figures l f = record {
+    asked = λ k h. absurd (omega arith);
+    started = record { legs_long = l; figures_long = f; none_owed = λ k h. absurd (omega arith) };
+  }
 
   pub filled_more :
-      (i : ℕ) → i < 64 → Filled i from to number has legs figures → (f t m v : ℕ) → f ≡ from i → t ≡ to i → m ≡ number i → v ≡ has i
-      → (legs-now figures-now : List ℕ) → legs-now ≡ put_leg legs i f t m → figures-now ≡ put_figures figures i v 0
-      → Filled (i + 1) from to number has legs-now figures-now
-  filled_more i low d f t m v ef et em ev legs-now figures-now el es = record {
-    legs_as = rw el (legs-more from to number legs i low d.legs_as f t m ef et em);
-    start_as = rw es (figures_more has (λ k. 0) figures i low d.start_as v 0 ev refl);
-  }
+      (legs figures : List ℕ) (i : ℕ) → i < 64 → Filled i legs figures → (leg : Leg) → Asked i leg → (legs-now figures-now : List ℕ)
+      → legs-now ≡ put_leg legs i leg.from leg.to leg.number → figures-now ≡ put_figures figures i leg.has 0 → Filled (i + 1) legs-now figures-now
+  filled_more legs figures i low d leg a legs-now figures-now el ef =
+      rw (el, ef) (record {
+        asked = below_more _ _ (λ k h. subst (Asked k) (sym (as_was k h)) (d.asked k h)) (subst (Asked i) (sym as_put) a);
+        started = record {
+          legs_long = leg_long legs i low d.started.legs_long leg.from leg.to leg.number;
+          figures_long = put-long figures i low d.started.figures_long leg.has 0;
+          none_owed =
+              below_more _ _
+              (λ k h. owes_other figures i low d.started.figures_long leg.has 0 k (omega arith) (λ s. omega (arith, s)) ∙ d.started.none_owed k h)
+              (owes_here figures i low d.started.figures_long leg.has 0);
+        };
+      })
+    where
+      now : List ℕ
+      now = put_leg legs i leg.from leg.to leg.number
 
-  pub filled-done : (n i : ℕ) → n ≤ i → Filled i from to number has legs figures → Filled n from to number has legs figures
-  filled-done n i h d = record {
-    legs_as = legs-done from to number legs n i h d.legs_as;
-    start_as = figures_done has (λ k. 0) figures n i h d.start_as;
-  }
+      then : List ℕ
+      then = put_figures figures i leg.has 0
+
+      as_put : leg_in now then i ≡ leg
+      as_put =
+          legs_as (leg_from legs i low d.started.legs_long leg.from leg.to leg.number) (leg_to legs i low d.started.legs_long leg.from leg.to leg.number)
+          (leg_number legs i low d.started.legs_long leg.from leg.to leg.number) (has_here figures i low d.started.figures_long leg.has 0)
+
+      other : (w : ℕ) → w ≢ i → w ≢ i + TO → w ≢ i + NUMBER → get_or now w 0 ≡ get_or legs w 0
+      other = leg_other legs i low d.started.legs_long leg.from leg.to leg.number
+
+      as_was : (k : ℕ) → k < i → leg_in now then k ≡ leg_in legs figures k
+      as_was k h =
+          legs_as (other k (λ e. omega (arith, e)) (λ e. omega (arith, e)) (λ e. omega (arith, e)))
+          (other (k + TO) (λ e. omega (arith, e)) (λ e. omega (arith, e)) (λ e. omega (arith, e)))
+          (other (k + NUMBER) (λ e. omega (arith, e)) (λ e. omega (arith, e)) (λ e. omega (arith, e)))
+          (has_other figures i low d.started.figures_long leg.has 0 k (omega arith) (λ e. omega (arith, e)))

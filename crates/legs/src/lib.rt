@@ -4,11 +4,12 @@
 mod figures;
 mod shortfall;
 
-ghost use Rattle.std.specs.Prelude.{◌≡◌, ◌+◌, ◌*◌, ◌≤◌, ◌<◌, length, set};
+ghost use Rattle.std.specs.Prelude.{◌≡◌, ℕ, ◌+◌, ◌*◌, ◌≤◌, ◌<◌, length, set};
 ghost use Rattle.book.specs.Meaning.{ledger_of};
 ghost use Rattle.book.specs.Stored.{Stored};
 ghost use Rattle.legs.specs.Figures.{TO, NUMBER, OWES, cash_key};
-ghost use Rattle.legs.specs.Filled.{ShareLegs, ShareStart, CashLegs, CashStart};
+ghost use Rattle.marks.specs.Marks.{item_in};
+ghost use Rattle.legs.specs.Filled.{ShareLeg, CashLeg, leg_in, Started};
 ghost use Rattle.legs.specs.Ready.{Ready};
 
 pub use figures::{Legs, NOWHERE};
@@ -20,39 +21,30 @@ const NUMBER: usize = 128;
 
 const OWES: usize = 64;
 
-// The leg of the trade at `i`, its number as a word: of shares or of cash, as the columns are.
-fn put_leg(legs: &mut [u64], i: usize, from: u64, to: u64, number: u64)
-    requires { (length legs.old ≡ 192) × (i < 64) }
-    ensures { legs.new ≡ set (set (set legs.old i from) (i + TO) to) (i + NUMBER) number }
-{
-    legs[i] = from;
-    legs[i + TO] = to;
-    legs[i + NUMBER] = number;
+// What a trade moves of shares or of cash, as words: what it debits, what it credits, how many, and what there is of what it debits.
+#[derive(Clone, Copy)]
+pub struct Leg {
+    pub from: u64,
+    pub to: u64,
+    pub number: u64,
+    pub has: u64,
 }
 
-// What the leg at `i` debits starts with what there is of it, as a word, and owes nothing.
-fn start(figures: &mut [u64], i: usize, has: u64)
-    requires { (length figures.old ≡ 128) × (i < 64) }
-    ensures { figures.new ≡ set (set figures.old i has) (i + OWES) 0 }
+// What the trade at `i` moves of shares.
+pub fn share_leg(book: &[u64], i: usize) -> Leg
+    requires { Stored book.now × Ready (ledger_of book.now) × (i < length (ledger_of book.now).waiting) }
+    ensures { ShareLeg (ledger_of book.now) (item_in (ledger_of book.now).waiting i) result }
 {
-    figures[i] = has;
-    figures[i + OWES] = 0;
-}
-
-// The legs of shares, and the balances that they debit.
-pub fn fill_shares(legs: &mut [u64], figures: &mut [u64], book: &[u64])
-    requires { (length legs.old ≡ 192) × (length figures.old ≡ 128) × Stored book.now × Ready (ledger_of book.now) }
-    ensures share_legs { ShareLegs (ledger_of book.now).waiting legs.new }
-    ensures share_start { ShareStart (ledger_of book.now) figures.new }
-{
-    for i in 0..book_items::items(book) {
-        let trade = book_items::item_at(book, i);
-        let seller = parties::seller_of(trade);
-        let from = book_holdings::key_of(seller);
-        let to = book_holdings::key_of(parties::buyer_of(trade));
-        let balance = book_holdings::balance(book, seller);
-        put_leg(legs, i, from, to, trade.quantity.0);
-        start(figures, i, balance.0);
+    let trade = book_items::item_at(book, i);
+    let seller = parties::seller_of(trade);
+    let from = book_holdings::key_of(seller);
+    let to = book_holdings::key_of(parties::buyer_of(trade));
+    let balance = book_holdings::balance(book, seller);
+    Leg {
+        from,
+        to,
+        number: trade.quantity.0,
+        has: balance.0,
     }
 }
 
@@ -64,19 +56,53 @@ fn cash_key(member: u64, currency: u64) -> u64
     member * 4 + currency
 }
 
-// The legs of cash, and the amounts that they debit.
-pub fn fill_cash(legs: &mut [u64], figures: &mut [u64], book: &[u64])
-    requires { (length legs.old ≡ 192) × (length figures.old ≡ 128) × Stored book.now × Ready (ledger_of book.now) }
-    ensures cash_legs { CashLegs (ledger_of book.now).waiting legs.new }
-    ensures cash_start { CashStart (ledger_of book.now) figures.new }
+// What it moves of cash.
+pub fn cash_leg(book: &[u64], i: usize) -> Leg
+    requires { Stored book.now × Ready (ledger_of book.now) × (i < length (ledger_of book.now).waiting) }
+    ensures { CashLeg (ledger_of book.now) (item_in (ledger_of book.now).waiting i) result }
 {
-    for i in 0..book_items::items(book) {
-        let trade = book_items::item_at(book, i);
-        let payer = trade.credited.member;
-        let from = cash_key(payer, trade.currency);
-        let to = cash_key(trade.debited.member, trade.currency);
-        let cash = book_holdings::cash(book, payer, trade.currency);
-        put_leg(legs, i, from, to, trade.amount.0);
-        start(figures, i, cash.0);
+    let trade = book_items::item_at(book, i);
+    let payer = trade.credited.member;
+    let from = cash_key(payer, trade.currency);
+    let to = cash_key(trade.debited.member, trade.currency);
+    let cash = book_holdings::cash(book, payer, trade.currency);
+    Leg {
+        from,
+        to,
+        number: trade.amount.0,
+        has: cash.0,
+    }
+}
+
+// The leg of the trade at `i` in its columns.
+fn put_leg(legs: &mut [u64], i: usize, leg: Leg)
+    requires { (length legs.old ≡ 192) × (i < 64) }
+    ensures { legs.new ≡ set (set (set legs.old i leg.from) (i + TO) leg.to) (i + NUMBER) leg.number }
+{
+    legs[i] = leg.from;
+    legs[i + TO] = leg.to;
+    legs[i + NUMBER] = leg.number;
+}
+
+// What the leg at `i` debits starts with what there is of it, and owes nothing.
+fn start(figures: &mut [u64], i: usize, has: u64)
+    requires { (length figures.old ≡ 128) × (i < 64) }
+    ensures { figures.new ≡ set (set figures.old i has) (i + OWES) 0 }
+{
+    figures[i] = has;
+    figures[i + OWES] = 0;
+}
+
+// The legs of `n` trades, and the figures of what they debit before any is added.
+pub fn fill<F: Fn(usize) -> Leg>(legs: &mut [u64], figures: &mut [u64], n: usize, leg_of: F)
+    requires size { (length legs.old ≡ 192) × (length figures.old ≡ 128) × (n ≤ 64) }
+    requires asked { (i : ℕ) → i < n → F.pre leg_of i }
+    ensures filled { (k : ℕ) → k < n → F.post leg_of k (leg_in legs.new figures.new k) }
+    ensures started { Started n legs.new figures.new }
+{
+    for i in 0..n {
+        let leg = leg_of(i);
+        put_leg(legs, i, leg);
+        start(figures, i, leg.has);
     }
 }

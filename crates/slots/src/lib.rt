@@ -1,15 +1,15 @@
 // Slots: the figures of what a leg debits stand at the last leg that debits the same, so that a change of them is one store.
 #![tactic(auto)]
 
-ghost use Rattle.std.specs.Prelude.{◌≡◌, ◌+◌, ◌≤◌, ◌<◌, length, get_or, set};
+ghost use Rattle.std.specs.Prelude.{◌≡◌, ℕ, ◌+◌, ◌≤◌, ◌<◌, length, get_or, set};
 ghost use Rattle.book.specs.Meaning.{ledger_of};
 ghost use Rattle.book.specs.Stored.{Stored};
-ghost use Rattle.legs.specs.Filled.{ShareLegs, ShareStart, CashLegs, CashStart};
+ghost use Rattle.legs.specs.Filled.{ShareLegs, ShareStart, CashLegs, CashStart, leg_in, Started};
 ghost use Rattle.legs.specs.Ready.{Ready};
 ghost use Rattle.legs.specs.Slots.{slot_of, Slots};
 ghost use Rattle.slots.specs.Links.{bucket_of, Unlinked, Linked};
 
-use legs::{Legs, NOWHERE, TO};
+use legs::{Leg, Legs, NOWHERE, TO};
 
 const HEADS: usize = 64;
 
@@ -80,17 +80,17 @@ fn fill(slots: &mut [u64], legs: &[u64], n: usize)
     }
 }
 
-// The legs of the waiting trades' shares, with the balances that they debit.
-pub fn share_legs(book: &[u64]) -> Legs
-    requires { Stored book.now × Ready (ledger_of book.now) }
-    ensures trades { result.trades ≡ length (ledger_of book.now).waiting }
-    ensures share_legs { ShareLegs (ledger_of book.now).waiting result.legs }
-    ensures share_start { ShareStart (ledger_of book.now) result.figures }
+// The legs of some trades, with their slots, before any is added.
+fn legs_of<F: Fn(usize) -> Leg>(trades: usize, leg_of: F) -> Legs
+    requires few { trades ≤ 64 }
+    requires asked { (i : ℕ) → i < trades → F.pre leg_of i }
+    ensures as_many { result.trades ≡ trades }
+    ensures filled { (k : ℕ) → k < trades → F.post leg_of k (leg_in result.legs result.figures k) }
+    ensures started { Started trades result.legs result.figures }
 {
-    let trades = book_items::items(book);
     let mut legs = [0u64; 192];
     let mut figures = [0u64; 128];
-    legs::fill_shares(&mut legs, &mut figures, book);
+    legs::fill(&mut legs, &mut figures, trades, leg_of);
     let mut slots = [0u64; 128];
     fill(&mut slots, &legs, trades);
     Legs {
@@ -101,6 +101,16 @@ pub fn share_legs(book: &[u64]) -> Legs
     }
 }
 
+// The legs of the waiting trades' shares, with the balances that they debit.
+pub fn share_legs(book: &[u64]) -> Legs
+    requires { Stored book.now × Ready (ledger_of book.now) }
+    ensures trades { result.trades ≡ length (ledger_of book.now).waiting }
+    ensures share_legs { ShareLegs (ledger_of book.now).waiting result.legs }
+    ensures share_start { ShareStart (ledger_of book.now) result.figures }
+{
+    legs_of(book_items::items(book), |i| legs::share_leg(book, i))
+}
+
 // The legs of their cash, with the amounts that they debit.
 pub fn cash_legs(book: &[u64]) -> Legs
     requires { Stored book.now × Ready (ledger_of book.now) }
@@ -108,16 +118,5 @@ pub fn cash_legs(book: &[u64]) -> Legs
     ensures cash_legs { CashLegs (ledger_of book.now).waiting result.legs }
     ensures cash_start { CashStart (ledger_of book.now) result.figures }
 {
-    let trades = book_items::items(book);
-    let mut legs = [0u64; 192];
-    let mut figures = [0u64; 128];
-    legs::fill_cash(&mut legs, &mut figures, book);
-    let mut slots = [0u64; 128];
-    fill(&mut slots, &legs, trades);
-    Legs {
-        trades,
-        legs,
-        slots,
-        figures,
-    }
+    legs_of(book_items::items(book), |i| legs::cash_leg(book, i))
 }
