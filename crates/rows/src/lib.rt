@@ -44,6 +44,7 @@ fn write_movement(area: &mut [u8], debit: Posting, credit: Posting)
     write_posting(&mut area[16..], credit);
 }
 
+#[tactic(auto, unfolding(rulebook::specs::Rows::posting_of))]
 fn shares_row(credit: u64, a: Account, quantity: Shares) -> Posting
     ensures { result ≡ posting_of credit (account a) quantity.0 }
 {
@@ -58,6 +59,7 @@ fn shares_row(credit: u64, a: Account, quantity: Shares) -> Posting
     }
 }
 
+#[tactic(auto, unfolding(rulebook::specs::Rows::posting_of))]
 fn cash_row(credit: u64, member: u64, currency: u64, amount: Cents) -> Posting
     ensures { result ≡ posting_of credit (cash_of member currency) amount.0 }
 {
@@ -109,48 +111,52 @@ pub fn write_trade(area: &mut [u8], trade: Item)
     write_cash(&mut area[32..], trade.currency, payer, payee, trade.amount);
 }
 
+#[tactic(auto, unfolding(rulebook::specs::Rows::deliver_reference))]
 fn deliver_reference(state: State) -> u64
     ensures { result ≡ deliver_reference state }
 {
     match state {
         State::Single {
-            delivers,
+            delivers: true,
             reference,
-        } => { if delivers { reference } else { 0 } }
+        }
+        | State::Trade { reference } => reference,
+        State::Single { .. } => 0,
         State::Pair {
             deliver_reference,
             ..
         } => deliver_reference,
-        State::Trade { reference } => reference,
     }
 }
 
+#[tactic(auto, unfolding(rulebook::specs::Rows::receive_reference))]
 fn receive_reference(state: State) -> u64
     ensures { result ≡ receive_reference state }
 {
     match state {
         State::Single {
-            delivers,
+            delivers: false,
             reference,
-        } => { if delivers { 0 } else { reference } }
+        }
+        | State::Trade { reference } => reference,
+        State::Single { .. } => 0,
         State::Pair {
             receive_reference,
             ..
         } => receive_reference,
-        State::Trade { reference } => reference,
     }
 }
 
+#[tactic(auto, unfolding(rulebook::specs::Rows::notice_of))]
 fn notice_of(kind: u64, item: Item) -> Notice
     ensures { result ≡ notice_of kind item }
 {
-    let state = item.state;
     Notice {
         kind,
         deliverer: item.debited.member,
         receiver: item.credited.member,
-        deliver_reference: deliver_reference(state),
-        receive_reference: receive_reference(state),
+        deliver_reference: deliver_reference(item.state),
+        receive_reference: receive_reference(item.state),
     }
 }
 
@@ -172,6 +178,7 @@ pub fn write_notice(area: &mut [u8], kind: u64, item: Item)
 }
 
 // The counts of a form that writes no row; one that does stores its own into them.
+#[tactic(auto, unfolding(rulebook::specs::Forms::counts))]
 pub fn no_counts() -> Counts
     ensures { result ≡ counts 0 0 0 0 0 0 }
 {
@@ -186,10 +193,12 @@ pub fn no_counts() -> Counts
 }
 
 // A movement is written as two rows, and nothing else is counted.
+#[tactic(auto, unfolding(rulebook::specs::Forms::counts))]
 pub fn two_rows() -> Counts
     ensures { result ≡ counts 2 0 0 0 0 0 }
 {
-    let mut counts = no_counts();
-    counts.rows = 2;
-    counts
+    Counts {
+        rows: 2,
+        ..no_counts()
+    }
 }

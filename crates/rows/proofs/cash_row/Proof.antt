@@ -1,9 +1,0 @@
--- `rows::cash_row` meets its contract. Assumes nothing.
-use borrow.Author.Rules.{rules}
-use Rattle.rulebook.specs.Rows.{posting_of}
-use Rattle.rows.proofs.cash_row.Statement.{statement}
-use Rattle.rows.proofs.cash_row.Tie as tie
-
-pub cash_row_spec : {M : Type 1} → statement M
-unfolding posting_of
-cash_row_spec = tie.close (tie.spec (λ c. search rules))
