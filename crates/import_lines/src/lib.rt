@@ -5,65 +5,55 @@ ghost use Rattle.std.specs.Prelude.{◌++◌, ◌∷◌, [], map, ◌≡◌, ◌
 ghost use Rattle.rulebook.specs.Names.{field_name};
 ghost use Rattle.text.specs.Text.{text, Put};
 ghost use Rattle.text.specs.Parts.{line_feed};
-ghost use Rattle.import_lines.specs.Told.{kind_name, reason, place, shown, bracketed, told, name_at};
+ghost use Rattle.import_lines.specs.Told.{reason, place, shown, bracketed, told, name_at};
 
-// From kind 101.
-const KINDS: [u8; 482] = *b"the file has nothing in it\n\
-    there are more columns than a record has fields\n\
-    no field has this name\n\
-    a column before this one has the same name\n\
-    no column is named form\n\
-    no column is named minute\n\
-    the line has fewer cells than the first line\n\
-    the line has more cells than the first line\n\
-    the cell is empty\n\
-    the cell is not a number in plain decimal digits\n\
-    the number is too large\n\
-    cells are not quoted\n\
-    the cell is neither a number nor the name of a form\n\
-    the line is empty\n\
-    the line is too long";
+use cells::Kind;
+use table::Refused;
 
-fn put_kind(out: &mut [u8], at: usize, kind: u64) -> usize
-    requires { (at + 80 ≤ length out.old) × (101 ≤ kind) }
-    ensures put { Put out.old at (text (kind_name kind)) out.new result }
-    ensures upper_bound { result ≤ at + 80 }
-{
-    text::put_part(out, at, &KINDS, 10, kind - 100)
-}
-
-fn put_reason(out: &mut [u8], at: usize, kind: u64) -> usize
+fn put_reason(out: &mut [u8], at: usize, kind: Kind) -> usize
     requires { at + 200 ≤ length out.old }
     ensures put { Put out.old at (reason kind) out.new result }
     ensures upper_bound { result ≤ at + 200 }
 {
-    if kind < 101 {
-        return wording::put_filled(out, at, b"refused by #, !", &[kind, kind]);
-    }
-    put_kind(out, at, kind)
+    let sentence: &[u8] = match kind {
+        Kind::Record(number) => {
+            return wording::put_filled(out, at, b"refused by #, !", &[number, number]);
+        }
+        Kind::NoHeader => b"the file has nothing in it",
+        Kind::TooManyColumns => b"there are more columns than a record has fields",
+        Kind::UnknownName => b"no field has this name",
+        Kind::RepeatedName => b"a column before this one has the same name",
+        Kind::FormMissing => b"no column is named form",
+        Kind::MinuteMissing => b"no column is named minute",
+        Kind::TooFewCells => b"the line has fewer cells than the first line",
+        Kind::TooManyCells => b"the line has more cells than the first line",
+        Kind::EmptyCell => b"the cell is empty",
+        Kind::NotANumber => b"the cell is not a number in plain decimal digits",
+        Kind::TooLarge => b"the number is too large",
+        Kind::Quoted => b"cells are not quoted",
+        Kind::UnknownForm => b"the cell is neither a number nor the name of a form",
+        Kind::EmptyLine => b"the line is empty",
+        Kind::LongLine => b"the line is too long",
+    };
+    text::put_bytes(out, at, sentence)
 }
 
-fn put_place(out: &mut [u8], at: usize, number: u64, column: u64) -> usize
+fn put_place(out: &mut [u8], at: usize, why: Refused) -> usize
     requires { at + 200 ≤ length out.old }
-    ensures put { Put out.old at (place number column) out.new result }
+    ensures put { Put out.old at (place why.line why.wrong.column) out.new result }
     ensures upper_bound { result ≤ at + 200 }
 {
+    let column = why.wrong.column as u64;
     if column == 0 {
-        return wording::put_filled(out, at, b": line #", &[number]);
+        return wording::put_filled(out, at, b": line #", &[why.line]);
     }
-    wording::put_filled(out, at, b": line #, column #", &[number, column])
+    wording::put_filled(out, at, b": line #, column #", &[why.line, column])
 }
 
 fn visible(b: u8) -> u8
     ensures { result ≡ shown b }
 {
-    if b < 32 {
-        return 63;
-    }
-    if 126 < b {
-        return 63;
-    }
-    b
+    if matches!(b, b' '..=b'~') { b } else { b'?' }
 }
 
 fn put_visible(out: &mut [u8], at: usize, bytes: &[u8]) -> usize
@@ -71,12 +61,10 @@ fn put_visible(out: &mut [u8], at: usize, bytes: &[u8]) -> usize
     ensures put { Put out.old at (map shown bytes.now) out.new result }
     ensures upper_bound { result ≤ at + length bytes.now }
 {
-    let mut i: usize = 0;
-    while i < bytes.len() {
-        out[at + i] = visible(bytes[i]);
-        i += 1;
+    for (i, b) in bytes.iter().enumerate() {
+        out[at + i] = visible(*b);
     }
-    at + i
+    at + bytes.len()
 }
 
 fn put_brackets(out: &mut [u8], at: usize, name: &[u8]) -> usize
@@ -104,18 +92,18 @@ fn put_name(out: &mut [u8], at: usize, name: &[u8]) -> usize
 }
 
 // The file, and where in it.
-fn put_where(out: &mut [u8], file: &[u8], number: u64, column: u64, name: &[u8]) -> usize
+fn put_where(out: &mut [u8], file: &[u8], why: Refused, name: &[u8]) -> usize
     requires { length file.now + 600 ≤ length out.old }
-    ensures put { Put out.old 0 (file.now ++ place number column ++ bracketed name.now) out.new result }
+    ensures put { Put out.old 0 (file.now ++ place why.line why.wrong.column ++ bracketed name.now) out.new result }
     ensures upper_bound { result ≤ length file.now + 300 }
 {
     let filed = text::put_bytes(out, 0, file);
-    let placed = put_place(out, filed, number, column);
+    let placed = put_place(out, filed, why);
     put_name(out, placed, name)
 }
 
 // What is wrong, and the line's end.
-fn put_wrong(out: &mut [u8], at: usize, kind: u64) -> usize
+fn put_wrong(out: &mut [u8], at: usize, kind: Kind) -> usize
     requires { at + 300 ≤ length out.old }
     ensures { Put out.old at (text ": " ++ reason kind ++ (line_feed ∷ [])) out.new result }
 {
@@ -125,50 +113,35 @@ fn put_wrong(out: &mut [u8], at: usize, kind: u64) -> usize
 }
 
 // The whole line, with a name that is given.
-fn put_told(out: &mut [u8], file: &[u8], number: u64, column: u64, name: &[u8], kind: u64) -> usize
+fn put_told(out: &mut [u8], file: &[u8], why: Refused, name: &[u8]) -> usize
     requires { length file.now + 600 ≤ length out.old }
-    ensures { Put out.old 0 (told file.now number column name.now kind) out.new result }
+    ensures { Put out.old 0 (told file.now why name.now) out.new result }
 {
-    let next = put_where(out, file, number, column, name);
-    put_wrong(out, next, kind)
+    let next = put_where(out, file, why, name);
+    put_wrong(out, next, why.wrong.kind)
 }
 
 // The line with the field's name.
-fn put_field_told(
-    out: &mut [u8],
-    file: &[u8],
-    number: u64,
-    column: u64,
-    field: usize,
-    kind: u64,
-) -> usize
+fn put_field_told(out: &mut [u8], file: &[u8], why: Refused) -> usize
     requires { length file.now + 600 ≤ length out.old }
-    ensures { Put out.old 0 (told file.now number column (text (field_name field)) kind) out.new result }
+    ensures { Put out.old 0 (told file.now why (text (field_name why.wrong.place))) out.new result }
 {
     let mut name = [0u8; 80];
-    let end = names::put_field(&mut name, 0, field);
-    put_told(out, file, number, column, &name[..end], kind)
+    let end = names::put_field(&mut name, 0, why.wrong.place);
+    put_told(out, file, why, &name[..end])
 }
 
 // What is told of a table that is refused. The first bytes are its first line, whose cells are told themselves.
-pub fn put_refused(
-    out: &mut [u8],
-    file: &[u8],
-    first: &[u8],
-    kind: u64,
-    number: u64,
-    column: usize,
-    field: usize,
-) -> usize
+pub fn put_refused(out: &mut [u8], file: &[u8], first: &[u8], why: Refused) -> usize
     requires { length file.now + 600 ≤ length out.old }
-    ensures { Put out.old 0 (told file.now number column (name_at first.now number column field) kind) out.new result }
+    ensures { Put out.old 0 (told file.now why (name_at first.now why)) out.new result }
 {
-    if number == 1 {
-        if column == 0 {
-            return put_told(out, file, 1, 0, &first[..0], kind);
+    if why.line == 1 {
+        if why.wrong.column == 0 {
+            return put_told(out, file, why, b"");
         }
-        let name = cells::trimmed(text::part(first, 44, column - 1));
-        return put_told(out, file, 1, column as u64, name, kind);
+        let name = cells::trimmed(text::part(first, b',', why.wrong.column - 1));
+        return put_told(out, file, why, name);
     }
-    put_field_told(out, file, number, column as u64, field, kind)
+    put_field_told(out, file, why)
 }
