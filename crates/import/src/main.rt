@@ -11,10 +11,11 @@ ghost use Rattle.table_buffer.specs.Buffers.{INPUT, OUT};
 ghost use Rattle.import.specs.Reading.{FileRead};
 
 use std::env::FillError;
-use std::io::{Error, ErrorKind, Result};
+use std::io::{Error, ErrorKind};
 use std::rt::{Env, Files};
-use std::{fs, str};
+use std::{fs, io, str};
 use streams::Streams;
+use table::Refused;
 
 // Bytes of the buffer of lines.
 const INPUT: usize = table_buffer::INPUT;
@@ -22,23 +23,15 @@ const INPUT: usize = table_buffer::INPUT;
 // Bytes of the records of a buffer's lines.
 const OUT: usize = 327720;
 
-// What a reading came to: a refusal, which was told; the number behind that of the last line; or something failed, which was told.
+// Why a file was not read to its end: its table is refused, or something failed. Either was told.
 #[derive(Clone, Copy)]
-pub enum Read {
-    Refused {
-        kind: u64,
-        line: u64,
-        column: usize,
-        place: usize,
-    },
-    Ended {
-        line: u64,
-    },
+pub enum Stop {
+    Refused(Refused),
     Failed,
 }
 
 // Opens the file by its name, which has to be text.
-fn open_file<R: Files>(files: &R, file: &[u8]) -> Result<R::File> {
+fn open_file<R: Files>(files: &R, file: &[u8]) -> io::Result<R::File> {
     match str::from_utf8(file) {
         Ok(name) => fs::open(files, name),
         Err(_) => Err(Error::new(ErrorKind::InvalidFilename, "the name is not UTF-8")),
@@ -53,7 +46,7 @@ fn read_file(
     input: &mut [u8],
     out: &mut [u8],
     print: bool,
-) -> Read
+) -> Result<u64, Stop>
     requires { (length file.now ≤ 4096) × (length input.old ≡ INPUT) × (length out.old ≡ OUT) }
     ensures { FileRead result }
 {
@@ -61,7 +54,7 @@ fn read_file(
         Ok(mut from) => tables::read_table(&mut from, streams, file, input, out, print),
         Err(reason) => {
             streams::fail(streams.error, file, reason);
-            Read::Failed
+            Err(Stop::Failed)
         }
     }
 }
@@ -77,15 +70,14 @@ fn write_file(
 )
     requires { (length file.now ≤ 4096) × (length input.old ≡ INPUT) × (length out.old ≡ OUT) }
 {
-    let read = read_file(files, streams, file, input, out, true);
-    match read {
-        Read::Ended { line } => {
+    match read_file(files, streams, file, input, out, true) {
+        Ok(line) => {
             if line != lines {
                 telling::tell_changed(streams);
             }
         }
-        Read::Refused { .. } => telling::tell_changed(streams),
-        Read::Failed => (),
+        Err(Stop::Refused(_)) => telling::tell_changed(streams),
+        Err(Stop::Failed) => (),
     }
 }
 
@@ -93,11 +85,8 @@ fn write_file(
 fn run(files: &impl Files, streams: Streams, file: &[u8], input: &mut [u8], out: &mut [u8])
     requires { (length file.now ≤ 4096) × (length input.old ≡ INPUT) × (length out.old ≡ OUT) }
 {
-    let read = read_file(files, streams, file, input, out, false);
-    match read {
-        Read::Ended { line } => write_file(files, streams, file, input, out, line),
-        Read::Refused { .. } => (),
-        Read::Failed => (),
+    if let Ok(lines) = read_file(files, streams, file, input, out, false) {
+        write_file(files, streams, file, input, out, lines);
     }
 }
 

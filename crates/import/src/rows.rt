@@ -1,13 +1,14 @@
 // The lines of a table, block after block.
-ghost use Rattle.std.specs.Prelude.{◌≡◌, ◌≤◌, length};
+ghost use Rattle.std.specs.Prelude.{◌≡◌, ◌≤◌, length, MatchResult};
 ghost use Rattle.table_buffer.specs.Buffers.{INPUT, BLOCK};
-ghost use Rattle.table_buffer.specs.Blocks.{Given, Goes};
-ghost use Rattle.import.specs.Reading.{ReadOn, RowsRead, read_of};
+ghost use Rattle.table_buffer.specs.Blocks.{Given};
+ghost use Rattle.import.specs.declared.Stop.TheVariants.{Failed};
+ghost use Rattle.import.specs.Reading.{ReadOn, RowsRead, Comes};
 
-use crate::{Read, telling};
+use crate::{Stop, telling};
 use std::io;
 use streams::{Follows, Streams};
-use table_buffer::{Next, Reading};
+use table_buffer::{Next, Reading, Rest};
 
 // More blocks, and more lines, than any file has.
 const LAST: u64 = 1 << 62;
@@ -20,24 +21,27 @@ fn put(streams: Streams, bytes: &[u8], print: bool) -> bool {
     streams::print(streams, bytes, b"import: standard output cannot be written").is_ok()
 }
 
-// Converts the lines in the buffer, and writes their records.
+// Converts the lines in the buffer, and writes their records. A refusal is told.
 fn convert(
     streams: Streams,
+    file: &[u8],
     input: &mut [u8],
     out: &mut [u8],
     places: &[usize],
     reading: Reading,
     print: bool,
-) -> Next
-    requires { Given places.now input.old out.old reading }
-    ensures { Goes places.now reading input.old input.new result }
+) -> Result<Next, Stop>
+    requires { (length file.now ≤ 4096) × Given places.now input.old out.old reading }
+    ensures { Comes places.now reading input.old input.new result }
 {
     let converted = table_buffer::lines::convert(input, out, places, reading);
-    let wrote = converted.wrote;
-    if !put(streams, &out[..wrote], print) {
-        return Next::Failed;
+    if !put(streams, &out[..converted.wrote], print) {
+        return Err(Stop::Failed);
     }
-    converted.next
+    match converted.next {
+        Ok(next) => Ok(next),
+        Err(why) => Err(telling::refused(streams, file, b"", why)),
+    }
 }
 
 // Reads on behind the bytes that are left at the buffer's start.
@@ -48,41 +52,27 @@ pub fn read_on<F: io::Read>(
     input: &mut [u8],
     held: usize,
     line: u64,
-    empty: u64,
-) -> Reading
+    empty: Option<u64>,
+) -> Result<Reading, Stop>
     requires { (length input.old ≡ INPUT) × (held ≤ BLOCK) }
-    ensures { ReadOn input.old held line empty input.new result }
+    ensures { MatchResult result (ReadOn input.old held line empty input.new) (λ stop. stop ≡ Failed) }
 {
     let filled = streams::fill(from, &mut input[held..16383], streams.error, file);
-    Reading {
+    let rest = match filled.follows {
+        Follows::More => Rest::More,
+        Follows::Ended => Rest::Ended,
+        Follows::Failed => return Err(Stop::Failed),
+    };
+    Ok(Reading {
         from: 0,
         size: held + filled.size,
-        more: filled.follows == Follows::More,
-        ended: filled.follows == Follows::Ended,
-        line: line,
-        empty: empty,
-    }
+        rest,
+        line,
+        empty,
+    })
 }
 
-// A refusal is told.
-fn told(streams: Streams, file: &[u8], next: Next) -> Read
-    requires { length file.now ≤ 4096 }
-    ensures { result ≡ read_of next }
-{
-    match next {
-        Next::Refused {
-            kind,
-            line,
-            column,
-            place,
-        } => { telling::refused(streams, file, b"", kind, line, column, place) }
-        Next::Ended { line } => Read::Ended { line: line },
-        Next::More { .. } => Read::Failed,
-        Next::Failed => Read::Failed,
-    }
-}
-
-// The lines in the buffer, then those of the next block, until the file ends.
+// The lines in the buffer, then those of the next block, until the file ends: the number behind that of the last line.
 pub fn rows<F: io::Read>(
     from: &mut F,
     streams: Streams,
@@ -92,24 +82,21 @@ pub fn rows<F: io::Read>(
     places: &[usize],
     first: Reading,
     print: bool,
-) -> Read
+) -> Result<u64, Stop>
     requires { (length file.now ≤ 4096) × Given places.now input.old out.old first }
     ensures { RowsRead places.now input.old first result }
 {
     let mut reading = first;
-    let mut turns: u64 = 0;
-    while turns < LAST {
+    for _turn in 0..LAST {
         if LAST <= reading.line {
-            return Read::Failed;
+            return Err(Stop::Failed);
         }
-        let next = convert(streams, input, out, places, reading, print);
-        match next {
+        match convert(streams, file, input, out, places, reading, print)? {
+            Next::Ended { line } => return Ok(line),
             Next::More { held, line, empty } => {
-                reading = read_on(from, streams, file, input, held, line, empty);
-                turns += 1;
+                reading = read_on(from, streams, file, input, held, line, empty)?;
             }
-            _ => return told(streams, file, next),
         }
     }
-    Read::Failed
+    Err(Stop::Failed)
 }

@@ -1,9 +1,10 @@
 // What is told on standard error.
 ghost use Rattle.std.specs.Prelude.{◌≡◌, ◌≤◌, length};
-ghost use Rattle.import.specs.declared.Read;
+ghost use Rattle.import.specs.declared.Stop;
 
-use crate::Read;
+use crate::Stop;
 use streams::Streams;
+use table::Refused;
 use text::Buffer;
 
 pub fn tell_use(streams: Streams) {
@@ -21,25 +22,12 @@ pub fn tell_changed(streams: Streams) {
 }
 
 // Tells a refusal, with the first line of the table where it stands in that line, and answers it.
-pub fn refused(
-    streams: Streams,
-    file: &[u8],
-    first: &[u8],
-    kind: u64,
-    line: u64,
-    column: usize,
-    place: usize,
-) -> Read
+pub fn refused(streams: Streams, file: &[u8], first: &[u8], why: Refused) -> Stop
     requires { length file.now ≤ 4096 }
-    ensures { result ≡ Rattle.import.specs.declared.Read.Read.Refused kind line column place }
+    ensures { result ≡ Rattle.import.specs.declared.Stop.Stop.Refused why }
 {
     let mut out = Buffer::<8192>::new();
-    import_lines::put_refused(&mut out, file, first, kind, line, column, place);
+    import_lines::put_refused(&mut out, file, first, why);
     streams::tell(streams.error, out.bytes());
-    Read::Refused {
-        kind: kind,
-        line: line,
-        column: column,
-        place: place,
-    }
+    Stop::Refused(why)
 }

@@ -2,73 +2,59 @@
 #![tactic(auto)]
 
 ghost use Rattle.std.specs.Prelude.{◌++◌, ◌∷◌, [], map, ◌≡◌, ◌+◌, ◌≤◌, length};
-ghost use Rattle.rulebook.specs.Names.{field_name};
 ghost use Rattle.text.specs.Text.{text};
 ghost use Rattle.text.specs.Parts.{line_feed};
-ghost use Rattle.import_lines.specs.Told.{kind_name, reason, place, shown, bracketed, told, name_at};
+ghost use Rattle.import_lines.specs.Told.{reason, place, shown, bracketed, told, name_at};
 
+use cells::Kind;
 use names::Table;
+use table::Refused;
 use text::Buffer;
 
-// From kind 101.
-const KINDS: [u8; 482] = *b"the file has nothing in it\n\
-    there are more columns than a record has fields\n\
-    no field has this name\n\
-    a column before this one has the same name\n\
-    no column is named form\n\
-    no column is named minute\n\
-    the line has fewer cells than the first line\n\
-    the line has more cells than the first line\n\
-    the cell is empty\n\
-    the cell is not a number in plain decimal digits\n\
-    the number is too large\n\
-    cells are not quoted\n\
-    the cell is neither a number nor the name of a form\n\
-    the line is empty\n\
-    the line is too long";
-
-fn put_kind<const N: usize>(out: &mut Buffer<N>, kind: u64)
-    requires { (length out.old + 80 ≤ N) × (101 ≤ kind) }
-    ensures put { out.new ≡ out.old ++ text (kind_name kind) }
-    ensures upper_bound { length out.new ≤ length out.old + 80 }
-{
-    text::put_part(out, &KINDS, 10, kind - 100);
-}
-
-#[tactic(auto, unfolding(crate::specs::Told::reason))]
-fn put_reason<const N: usize>(out: &mut Buffer<N>, kind: u64)
+fn put_reason<const N: usize>(out: &mut Buffer<N>, kind: Kind)
     requires { length out.old + 200 ≤ N }
     ensures put { out.new ≡ out.old ++ reason kind }
     ensures upper_bound { length out.new ≤ length out.old + 200 }
 {
-    if kind < 101 {
-        return wording::put_filled(out, b"refused by #, !", &[kind, kind]);
-    }
-    put_kind(out, kind);
+    let sentence: &[u8] = match kind {
+        Kind::Record(number) => {
+            return wording::put_filled(out, b"refused by #, !", &[number, number]);
+        }
+        Kind::NoHeader => b"the file has nothing in it",
+        Kind::TooManyColumns => b"there are more columns than a record has fields",
+        Kind::UnknownName => b"no field has this name",
+        Kind::RepeatedName => b"a column before this one has the same name",
+        Kind::FormMissing => b"no column is named form",
+        Kind::MinuteMissing => b"no column is named minute",
+        Kind::TooFewCells => b"the line has fewer cells than the first line",
+        Kind::TooManyCells => b"the line has more cells than the first line",
+        Kind::EmptyCell => b"the cell is empty",
+        Kind::NotANumber => b"the cell is not a number in plain decimal digits",
+        Kind::TooLarge => b"the number is too large",
+        Kind::Quoted => b"cells are not quoted",
+        Kind::UnknownForm => b"the cell is neither a number nor the name of a form",
+        Kind::EmptyLine => b"the line is empty",
+        Kind::LongLine => b"the line is too long",
+    };
+    out.put(sentence);
 }
 
-#[tactic(auto, unfolding(crate::specs::Told::place))]
-fn put_place<const N: usize>(out: &mut Buffer<N>, number: u64, column: u64)
+fn put_place<const N: usize>(out: &mut Buffer<N>, why: Refused)
     requires { length out.old + 200 ≤ N }
-    ensures put { out.new ≡ out.old ++ place number column }
+    ensures put { out.new ≡ out.old ++ place why.line why.wrong.column }
     ensures upper_bound { length out.new ≤ length out.old + 200 }
 {
+    let column = why.wrong.column as u64;
     if column == 0 {
-        return wording::put_filled(out, b": line #", &[number]);
+        return wording::put_filled(out, b": line #", &[why.line]);
     }
-    wording::put_filled(out, b": line #, column #", &[number, column]);
+    wording::put_filled(out, b": line #, column #", &[why.line, column]);
 }
 
 fn visible(b: u8) -> u8
     ensures { result ≡ shown b }
 {
-    if b < 32 {
-        return 63;
-    }
-    if 126 < b {
-        return 63;
-    }
-    b
+    if matches!(b, b' '..=b'~') { b } else { b'?' }
 }
 
 fn put_visible<const N: usize>(out: &mut Buffer<N>, bytes: &[u8])
@@ -91,7 +77,6 @@ fn put_brackets<const N: usize>(out: &mut Buffer<N>, name: &[u8])
     out.put(b")");
 }
 
-#[tactic(auto, unfolding(crate::specs::Told::bracketed))]
 fn put_name<const N: usize>(out: &mut Buffer<N>, name: &[u8])
     requires { length out.old + 83 ≤ N }
     ensures put { out.new ≡ out.old ++ bracketed name.now }
@@ -107,24 +92,18 @@ fn put_name<const N: usize>(out: &mut Buffer<N>, name: &[u8])
 }
 
 // The file, and where in it.
-fn put_where<const N: usize>(
-    out: &mut Buffer<N>,
-    file: &[u8],
-    number: u64,
-    column: u64,
-    name: &[u8],
-)
+fn put_where<const N: usize>(out: &mut Buffer<N>, file: &[u8], why: Refused, name: &[u8])
     requires { length out.old + length file.now + 300 ≤ N }
-    ensures put { out.new ≡ out.old ++ (file.now ++ place number column ++ bracketed name.now) }
+    ensures put { out.new ≡ out.old ++ (file.now ++ place why.line why.wrong.column ++ bracketed name.now) }
     ensures upper_bound { length out.new ≤ length out.old + length file.now + 300 }
 {
     out.put(file);
-    put_place(out, number, column);
+    put_place(out, why);
     put_name(out, name);
 }
 
 // What is wrong, and the line's end.
-fn put_wrong<const N: usize>(out: &mut Buffer<N>, kind: u64)
+fn put_wrong<const N: usize>(out: &mut Buffer<N>, kind: Kind)
     requires { length out.old + 300 ≤ N }
     ensures { out.new ≡ out.old ++ (text ": " ++ reason kind ++ (line_feed ∷ [])) }
 {
@@ -135,58 +114,26 @@ fn put_wrong<const N: usize>(out: &mut Buffer<N>, kind: u64)
 
 // The whole line, with a name that is given.
 #[tactic(auto, unfolding(crate::specs::Told::told))]
-fn put_told<const N: usize>(
-    out: &mut Buffer<N>,
-    file: &[u8],
-    number: u64,
-    column: u64,
-    name: &[u8],
-    kind: u64,
-)
+fn put_told<const N: usize>(out: &mut Buffer<N>, file: &[u8], why: Refused, name: &[u8])
     requires { length out.old + length file.now + 600 ≤ N }
-    ensures { out.new ≡ out.old ++ told file.now number column name.now kind }
+    ensures { out.new ≡ out.old ++ told file.now why name.now }
 {
-    put_where(out, file, number, column, name);
-    put_wrong(out, kind);
+    put_where(out, file, why, name);
+    put_wrong(out, why.wrong.kind);
 }
 
-// The line with the field's name.
-#[tactic(auto, unfolding(crate::specs::Told::told))]
-fn put_field_told<const N: usize>(
-    out: &mut Buffer<N>,
-    file: &[u8],
-    number: u64,
-    column: u64,
-    field: usize,
-    kind: u64,
-)
+// What is told of a table that is refused. The first bytes are its first line, whose cells are told themselves; of any other line a field's name is told.
+pub fn put_refused<const N: usize>(out: &mut Buffer<N>, file: &[u8], first: &[u8], why: Refused)
     requires { length out.old + length file.now + 600 ≤ N }
-    ensures { out.new ≡ out.old ++ told file.now number column (text (field_name field)) kind }
+    ensures { out.new ≡ out.old ++ told file.now why (name_at first.now why) }
 {
-    let name = Table::Fields.name(field as u64);
-    put_told(out, file, number, column, name.as_bytes(), kind);
-}
-
-// What is told of a table that is refused. The first bytes are its first line, whose cells are told themselves.
-#[tactic(auto, unfolding(crate::specs::Told::told))]
-pub fn put_refused<const N: usize>(
-    out: &mut Buffer<N>,
-    file: &[u8],
-    first: &[u8],
-    kind: u64,
-    number: u64,
-    column: usize,
-    field: usize,
-)
-    requires { length out.old + length file.now + 600 ≤ N }
-    ensures { out.new ≡ out.old ++ told file.now number column (name_at first.now number column field) kind }
-{
-    if number == 1 {
-        if column == 0 {
-            return put_told(out, file, 1, 0, &first[..0], kind);
-        }
-        let name = cells::trimmed(text::part(first, 44, column - 1));
-        return put_told(out, file, 1, column as u64, name, kind);
+    if why.line != 1 {
+        let name = Table::Fields.name(why.wrong.place as u64);
+        return put_told(out, file, why, name.as_bytes());
     }
-    put_field_told(out, file, number, column as u64, field, kind);
+    if why.wrong.column == 0 {
+        return put_told(out, file, why, b"");
+    }
+    let name = cells::trimmed(text::part(first, b',', why.wrong.column - 1));
+    put_told(out, file, why, name);
 }

@@ -22,7 +22,7 @@ use Rattle.text.specs.Parts.{line_feed, split, joined, join, same_text, place_in
 use Rattle.names.specs.Numbers.{form_number}
 use Rattle.rulebook.specs.Forms.{forms}
 use Rattle.file.specs.Records as File
-use Rattle.cells.specs.Kinds.{unknown_form}
+use Rattle.cells.specs.declared.kind.Kind.TheVariants.{UnknownForm}
 use Rattle.cells.specs.Cells.{comma, lines_of, front, back, before, trim, is_empty, strange, full_lines}
 use Rattle.wording.specs.Fill.{is_sign, said, part, left, fill, line}
 use Rattle.table.specs.Lines.{form_in, field_number, with_number, fields_from, line_fields, ordered, row_of}
@@ -31,7 +31,7 @@ use Rattle.table.specs.Import.{import_of, import_lines, mark, unmarked}
 use Rattle.table.specs.Export.{name_cells, order_cells}
 use Rattle.table.specs.Theorems.{Along}
 use Rattle.table.specs.Theorems.Along.{one}
-use Rattle.table.specs.declared.Row.{Row}
+use Rattle.table.specs.Header.{refused}
 use Rattle.table.proofs.Meaning.{Taken, taken_so, imported, refused-unless}
 use Rattle.table.proofs.Theorems.{full-later}
 use Rattle.table.proofs.Exporting.{every, Without, line_first, order-no_end, order-full, names-plain, header_line}
@@ -82,13 +82,13 @@ module _ (octets : List ℕ) (refusal : Refusal) (e : read_of octets ≡ Err ref
   unfolding fill part left is_sign said refusal_names name_from1 decimal digits is_empty front
   not_empty = by_refusal (λ n. is_empty (words n)) (λ n. false) refl
 
-  is_no_form : row_of every (words number) ≡ Row.Refused unknown_form 1 0
+  is_no_form : row_of every (words number) ≡ refused UnknownForm 1 0
   unfolding fill part left is_sign said refusal_names name_from1 decimal digits row_of ordered line_fields is_empty front split joined fields_from
       with_number field_number form_in trim back before form_number place_in same_text forms strange
-  is_no_form = by_refusal (λ n. row_of every (words n)) (λ n. Row.Refused unknown_form 1 0) refl
+  is_no_form = by_refusal (λ n. row_of every (words n)) (λ n. refused UnknownForm 1 0) refl
 
   no_order : {order : Order} → Taken every (words number) order → ⊥
-  no_order t = let told = sym is_no_form ∙ taken_so t in let z : ◌≡◌ {A = ℕ} 0 1 = cc in omega arith
+  no_order t = let told = sym is_no_form ∙ taken_so t in cc
 
 -- ---- lines, one after the other
 
