@@ -112,8 +112,8 @@ fn number_of(told: Result<(), Wrong>) -> u64
     ensures { result ≡ number_in told }
 {
     match told {
-        Ok(()) => 0,
         Err(wrong) => wrong.into(),
+        Ok(_) => 0,
     }
 }
 
