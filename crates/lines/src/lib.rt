@@ -29,7 +29,12 @@ fn rows_of(answer: Result<Counts, Refusal>) -> u64
 }
 
 // A record's line: its number, the answer, rows.
-pub fn put_answer_line(out: &mut [u8], at: usize, number: u64, answer: Result<Counts, Refusal>) -> usize
+pub fn put_answer_line(
+    out: &mut [u8],
+    at: usize,
+    number: u64,
+    answer: Result<Counts, Refusal>,
+) -> usize
     requires { at + 63 ≤ length out.old }
     ensures put { Put out.old at (answer_line number answer) out.new result }
     ensures upper_bound { result ≤ at + 63 }

@@ -32,7 +32,13 @@ fn put_refused(out: &mut [u8], at: usize, number: u64, form: u64, refusal: u64) 
 }
 
 // A record's answer, with its form's name; form 0 is that of a record that does not read.
-pub fn put_answer(out: &mut [u8], at: usize, number: u64, form: u64, answer: Result<Counts, Refusal>) -> usize
+pub fn put_answer(
+    out: &mut [u8],
+    at: usize,
+    number: u64,
+    form: u64,
+    answer: Result<Counts, Refusal>,
+) -> usize
     requires { at + 512 ≤ length out.old }
     ensures put { Put out.old at (answer_line number form answer) out.new result }
     ensures upper_bound { result ≤ at + 512 }
