@@ -15,6 +15,7 @@ use Rattle.rulebook.specs.Shortfall.{takes, brings}
 use Rattle.rulebook.specs.Cycle.{fixed, offers}
 use Rattle.rulebook.specs.Forms.{counts, outcome, moving, silent, open_day, admit, deposit, withdraw, forms, row_of, used, least, most, window_of, effect}
 use Rattle.rulebook.specs.Refusals.{wrong_day, wrong_cycle, awaits_answer, nothing_sent, goes_back, outside_window, wrong_security, wrong_pair, wrong_parties, wrong_days, wrong_reference, wrong_cancel, cancels_sent, wrong_request, ends_too_soon, too_many_requests, too_little, over_ceiling, no_space, day_tests, order_tests, item_tests, request_tests, room_tests, refusals}
+use Rattle.rulebook.specs.Answers.{refusal_of, all_refusals}
 use Rattle.rulebook.specs.Call.{answer_rows, refused, put_minute, accepted, order_call, read_call, call_of}
 use Rattle.rulebook.specs.Desk.{party, nobody, order, opens, admits, deposits, withdraws}
 use Rattle.file.specs.Records.{parts, records_of}
@@ -37,5 +38,5 @@ unfolding
     sender_of sent_by not_cancellable takes brings fixed offers counts outcome moving silent open_day admit deposit withdraw forms row_of
     window_of effect wrong_day wrong_cycle awaits_answer nothing_sent goes_back outside_window wrong_security wrong_pair wrong_parties wrong_days wrong_reference
     wrong_cancel cancels_sent wrong_request ends_too_soon too_many_requests too_little over_ceiling no_space day_tests order_tests item_tests request_tests
-    room_tests refusals refused put_minute accepted order_call read_call call_of
+    room_tests refusals refusal_of all_refusals refused put_minute accepted order_call read_call call_of
 eight_lines = refl

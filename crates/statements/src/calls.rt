@@ -26,10 +26,7 @@ pub struct Part {
 fn form_of(record: &[u8]) -> u64
     ensures { result ≡ form_in (read_of «record».now) }
 {
-    match record::read(record) {
-        Ok(order) => order.form,
-        Err(_) => 0,
-    }
+    record::read(record).map_or(0, |order| order.form)
 }
 
 // Whether a form writes posting rows: cancel and close write notices.
@@ -47,10 +44,7 @@ fn posts(form: u64) -> bool
 fn rows_of(answer: Result<Counts, Refusal>) -> usize
     ensures { result ≡ answer_rows answer }
 {
-    match answer {
-        Ok(counts) => counts.rows as usize,
-        Err(_) => 0,
-    }
+    answer.map_or(0, |counts| counts.rows as usize)
 }
 
 // One record is called, and its lines put: its answer, then the rows that the call wrote.
