@@ -2,12 +2,14 @@
 // security. What it cannot do it tells in one line on standard error.
 #![tactic(auto)]
 
-ghost use Rattle.std.specs.Prelude.{◌≡◌, ◌+◌, ◌^◌, ◌≤◌, ◌<◌, length};
+ghost use Rattle.std.specs.Prelude.{[], ◌≡◌, ◌+◌, ◌^◌, ◌≤◌, ◌<◌, length};
 ghost use Rattle.book.specs.Meaning.{ledger_of};
 ghost use Rattle.book.specs.Stored.{Kept};
-ghost use Rattle.desk.specs.Printed.{BLOCK, OUT, BlockPrinted, CustodyPrinted, ReadAndCalled, FileRead};
+ghost use Rattle.printing.specs.Printed.{lent, BlockPut, custody_lines};
+ghost use Rattle.desk.specs.Printed.{BLOCK, ReadAndCalled, FileRead};
 
 use streams::{Follows, Streams, Told};
+use text::Buffer;
 
 // Bytes of a block of 1,024 records, whose lines fit the output buffer.
 const BLOCK: usize = 40960;
@@ -26,27 +28,28 @@ fn print(streams: Streams, lines: &[u8]) -> Result<(), Told> {
 // Prints the answer lines of a block, in one piece.
 fn print_answers(
     streams: Streams,
-    out: &mut [u8],
+    out: &mut Buffer<OUT>,
     number: &mut u64,
     book: &mut [u64],
     block: &[u8],
     area: &mut [u8],
 ) -> Result<(), Told>
-    requires { Kept book.old × (length out.old ≡ OUT) × (length block.now ≤ BLOCK) × (number.old + 1024 < 2 ^ 64) }
-    ensures { BlockPrinted block.now number.old book.old area.old out.old number.new
-        book.new area.new out.new }
+    requires { Kept book.old × (length block.now ≤ BLOCK) × (number.old + 1024 < 2 ^ 64) }
+    ensures { BlockPut block.now number.old (lent book.old area.old []) number.new (lent book.new area.new out.new) }
 {
-    let end = printing::put_block(out, number, book, block, area);
-    print(streams, &out[..end])
+    out.clear();
+    printing::put_block(out, number, book, block, area);
+    print(streams, out.bytes())
 }
 
 // Prints the custody lines of a book.
-fn print_custody(streams: Streams, out: &mut [u8], book: &[u64]) -> Result<(), Told>
-    requires { Kept book.now × (length out.old ≡ OUT) }
-    ensures { CustodyPrinted (ledger_of book.now) out.old out.new }
+fn print_custody(streams: Streams, out: &mut Buffer<OUT>, book: &[u64]) -> Result<(), Told>
+    requires { Kept book.now }
+    ensures { out.new ≡ custody_lines (ledger_of book.now).holdings }
 {
-    let end = printing::put_custody(out, 0, book);
-    print(streams, &out[..end])
+    out.clear();
+    printing::put_custody(out, book);
+    print(streams, out.bytes())
 }
 
 // Reads a block, calls its records and prints what they answer; tells what follows it. Where the input ends, the custody lines follow; after a read
@@ -56,10 +59,10 @@ fn print_block(
     book: &mut [u64],
     area: &mut [u8],
     input: &mut [u8],
-    out: &mut [u8],
+    out: &mut Buffer<OUT>,
     number: &mut u64,
 ) -> Result<Follows, Told>
-    requires { Kept book.old × (length input.old ≡ BLOCK) × (length out.old ≡ OUT) × (number.old + 1024 < 2 ^ 64) }
+    requires { Kept book.old × (length input.old ≡ BLOCK) × (number.old + 1024 < 2 ^ 64) }
     ensures { ReadAndCalled input.new result number.old book.old area.old number.new book.new
         area.new }
 {
@@ -77,10 +80,10 @@ fn run(
     book: &mut [u64],
     area: &mut [u8],
     input: &mut [u8],
-    out: &mut [u8],
+    out: &mut Buffer<OUT>,
     number: &mut u64,
 )
-    requires { Kept book.old × (length input.old ≡ BLOCK) × (length out.old ≡ OUT) }
+    requires { Kept book.old × (length input.old ≡ BLOCK) }
     ensures { FileRead number.old book.old area.old number.new book.new area.new }
 {
     while *number < LAST {
@@ -102,7 +105,7 @@ fn main(rt: HostRuntime) {
     let mut book = [0u64; ledger::BOOK_WORDS];
     let mut area = [0u8; 4096];
     let mut input = streams::zeros::<BLOCK>();
-    let mut out = streams::zeros::<OUT>();
+    let mut out = Buffer::<OUT>::new();
     let mut number: u64 = 1;
     if ledger::fresh(&mut book) {
         run(

@@ -7,7 +7,7 @@ use Rattle.desk.proofs.Blocks.{whole_none, block_more, whole_more}
 use Rattle.desk.proofs.run.Goals as goal
 
 pub loop-number-init : goal.loop-number-init
-loop-number-init c = (whole_none _ _ _ c.requires.0, refl, refl, refl, refl)
+loop-number-init c = (whole_none _ _ _ c.requires.0, refl, refl, refl)
 
 pub returns-in_default : goal.returns-in_default
 returns-in_default c = block_more c.loop-number.invariant.0 c.print_block.ensures.called
@@ -40,5 +40,4 @@ loop-number-preserved c =
       printed.auto.book ∙ before.1,
       printed.auto.area ∙ before.2,
       printed.auto.input ∙ before.3,
-      printed.auto.out ∙ before.4,
     )
