@@ -62,7 +62,9 @@ module _
 
 -- ---- tests 15 and 24, by what the search for the item finds
 
-module _ (b : Ledger) (o : Order) (s : ℕ) (f : Option ℕ) (form : o.form ≡ 15) (sender : s ≡ sender_of o) (found : f ≡ place_in (sent_by s o.reference) b.waiting)
+module _
+    (b : Ledger) (o : Order) (s : ℕ) (f : Option ℕ) (form : o.form ≡ 15)
+    (sender : s ≡ sender_of o) (found : f ≡ place_in (sent_by s o.reference) b.waiting)
   where
     none_under : (why : Item → Bool) → f ≡ None → some (λ item. sent_by s o.reference item && why item) b.waiting ≡ false
     none_under why e =

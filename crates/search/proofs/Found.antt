@@ -47,7 +47,9 @@ unfolding place_from
 found_some test i [] = refl
 found_some test i (x ∷ rest) = go (test x) (found_some test (suc i) rest)
   where
-    go : (t : Bool) → is_some (place_from test (suc i) rest) ≡ some test rest → is_some (if t then Some i else place_from test (suc i) rest) ≡ (t || some test rest)
+    go :
+        (t : Bool) → is_some (place_from test (suc i) rest) ≡ some test rest
+        → is_some (if t then Some i else place_from test (suc i) rest) ≡ (t || some test rest)
     go true e = refl
     go false e = e
 
