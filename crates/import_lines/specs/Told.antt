@@ -6,7 +6,8 @@ use Rattle.text.specs.Text.{text}
 use Rattle.text.specs.Parts.{line_feed}
 use Rattle.wording.specs.Fill.{line}
 use Rattle.cells.specs.declared.kind.Kind.{Kind}
-use Rattle.cells.specs.declared.kind.Kind.TheVariants.{NoHeader, TooManyColumns, UnknownName, RepeatedName, FormMissing, MinuteMissing, TooFewCells, TooManyCells, EmptyCell, NotANumber, TooLarge, Quoted, UnknownForm, EmptyLine, LongLine, Record}
+use Rattle.cells.specs.declared.kind.Kind.TheVariants.{NoHeader, TooManyColumns, UnknownName, RepeatedName, FormMissing, MinuteMissing, TooFewCells, TooManyCells}
+use Rattle.cells.specs.declared.kind.Kind.TheVariants.{EmptyCell, NotANumber, TooLarge, Quoted, UnknownForm, EmptyLine, LongLine, Record}
 use Rattle.cells.specs.Cells.{cells, trim}
 use Rattle.table.specs.declared.Refused.{Refused}
 

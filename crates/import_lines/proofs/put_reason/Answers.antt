@@ -2,7 +2,9 @@
 use Rattle.std.proofs.Common.{◌≡◌, ℕ, List, Bor, sym, ap, ◌∙◌}
 use Rattle.import_lines.specs.Told.{reason}
 use Rattle.import_lines.proofs.put_reason.Goals as goal
-use Rattle.import_lines.proofs.put_reason.Goals.{in-NoHeader, in-TooManyColumns, in-UnknownName, in-RepeatedName, in-FormMissing, in-MinuteMissing, in-TooFewCells, in-TooManyCells, in-EmptyCell, in-NotANumber, in-TooLarge, in-Quoted, in-UnknownForm, in-EmptyLine, in-LongLine}
+use Rattle.import_lines.proofs.put_reason.Goals.{in-NoHeader, in-TooManyColumns, in-UnknownName, in-RepeatedName, in-FormMissing, in-MinuteMissing}
+use Rattle.import_lines.proofs.put_reason.Goals.{in-TooFewCells, in-TooManyCells, in-EmptyCell, in-NotANumber, in-TooLarge, in-Quoted}
+use Rattle.import_lines.proofs.put_reason.Goals.{in-UnknownForm, in-EmptyLine, in-LongLine}
 
 pub returns-in-Record-clause-put : goal.returns-in-Record-clause-put
 unfolding reason
