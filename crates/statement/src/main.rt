@@ -106,6 +106,7 @@ fn run(
     ensures { FileRead number.old book.old area.old number.new book.new area.new out.new }
 {
     let mut at: usize = 0;
+    // A `while`, since its test bounds the numbers of records, which a `for` over blocks would not.
     while *number < LAST {
         let pending = state_block(streams, book, area, input, out, at, number);
         at = pending.end;
