@@ -86,6 +86,7 @@ fn run(
     requires { Kept book.old × (length input.old ≡ BLOCK) }
     ensures { FileRead number.old book.old area.old number.new book.new area.new }
 {
+    // A `while`, since its test bounds the numbers of records, which a `for` over blocks would not.
     while *number < LAST {
         let Ok(Follows::More) = print_block(streams, book, area, input, out, number) else {
             return;

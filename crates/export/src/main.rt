@@ -71,6 +71,7 @@ fn put_records(
     ensures upper_bound { result ≤ OUT }
 {
     let mut end = at;
+    // A `while`, since its test bounds the count of records, which a `for` over blocks would not.
     while *records < LAST {
         let Ok(room) = make_room(streams, out, end) else {
             return 0;

@@ -49,6 +49,7 @@ fn call_all(
     requires { Kept book.old × (length input.old ≡ BLOCK) × (length out.old ≡ OUT) }
     ensures { FileRead number.old book.old area.old number.new book.new area.new }
 {
+    // A `while`, since its test bounds the numbers of records, which a `for` over blocks would not.
     while *number < LAST {
         match call_block(streams, book, area, input, out, number) {
             Follows::More => (),

@@ -16,33 +16,32 @@ use Rattle.statements.proofs.Pieces.{stated_nothing, part-stated, stated_printed
 use Rattle.statement.specs.Read.{BLOCK, OUT, FileStated}
 use Rattle.statement.specs.declared.Pending.{Pending}
 
--- the walk has come to a place of the file: the records before it were called, and those from there on are left
-pub record Walked (file : List ℕ) (number : ℕ) (book lent waiting : List ℕ) (from number' : ℕ) (book' lent' waiting' : List ℕ) : Type 0 where
+-- the first records of the file were called, and those of the rest are left
+pub record Walked (file : List ℕ) (number : ℕ) (book lent waiting rest : List ℕ) (number' : ℕ) (book' lent' waiting' : List ℕ) : Type 0 where
   pub records : List (List ℕ)
-  pub left : records ++ records_of (drop from file) ≡ records_of file
+  pub left : records ++ records_of rest ≡ records_of file
   pub stated : RecordsStated records number book lent waiting number' book' lent' waiting'
 
-pub walked_none : (file : List ℕ) (number : ℕ) (book area waiting : List ℕ) → Kept book → Walked file number book area waiting 0 number book area waiting
+pub walked_none : (file : List ℕ) (number : ℕ) (book area waiting : List ℕ) → Kept book → Walked file number book area waiting file number book area waiting
 walked_none file number book area waiting kept = record { records = []; left = refl; stated = stated_nothing number book area waiting kept }
 
-module _ {file : List ℕ} {number : ℕ} {book area waiting : List ℕ} {from number' : ℕ} {book' area' waiting' : List ℕ}
-    (w : Walked file number book area waiting from number' book' area' waiting') where
-  pub walked_printed : Walked file number book area waiting from number' book' area' []
+module _ {file : List ℕ} {number : ℕ} {book area waiting rest : List ℕ} {number' : ℕ} {book' area' waiting' : List ℕ}
+    (w : Walked file number book area waiting rest number' book' area' waiting') where
+  pub walked_printed : Walked file number book area waiting rest number' book' area' []
   walked_printed = record { records = w.records; left = w.left; stated = stated_printed w.stated }
 
   -- how many records there are
-  pub walked_length : length w.records + length (records_of (drop from file)) ≡ length (records_of file)
-  walked_length = sym (length-append w.records (records_of (drop from file))) ∙ ap length w.left
+  pub walked_length : length w.records + length (records_of rest) ≡ length (records_of file)
+  walked_length = sym (length-append w.records (records_of rest)) ∙ ap length w.left
 
   -- the file has ended
-  pub walked_all : length file ≤ from → w.records ++ [] ≡ records_of file
-  walked_all behind =
-      ap (λ (l : List (List ℕ)). w.records ++ l) (sym (no_records (drop from file) (length-drop from file ∙ omega arith))) ∙ w.left
+  pub walked_all : length rest ≡ 0 → w.records ++ [] ≡ records_of file
+  walked_all none = ap (λ (l : List (List ℕ)). w.records ++ l) (sym (no_records rest none)) ∙ w.left
 
-module _ {file : List ℕ} {number : ℕ} {book area waiting : List ℕ} {from number' : ℕ} {book' area' out : List ℕ} {begin : ℕ} {part : Part}
-    {book'' area'' out'' : List ℕ} (w : Walked file number book area waiting from number' book' area' (take begin out))
-    (p : PartPut file from number' (lent book' area' out begin) part (lent book'' area'' out'' part.end)) where
-  pub walked_part : Walked file number book area waiting part.next part.number book'' area'' (take part.end out'')
+module _ {file : List ℕ} {number : ℕ} {book area waiting rest : List ℕ} {number' : ℕ} {book' area' out : List ℕ} {begin : ℕ} {part : Part}
+    {book'' area'' out'' : List ℕ} (w : Walked file number book area waiting rest number' book' area' (take begin out))
+    (p : PartPut rest number' (lent book' area' out begin) part (lent book'' area'' out'' part.end)) where
+  pub walked_part : Walked file number book area waiting (drop part.size rest) part.number book'' area'' (take part.end out'')
   walked_part = record {
     records = w.records ++ p.records;
     left =
@@ -54,15 +53,15 @@ module _ {file : List ℕ} {number : ℕ} {book area waiting : List ℕ} {from n
   part-inside = omega (arith, p.stated.lines.room, p.stated.lines.place)
 
   -- a part has records, or the buffer was printed before it
-  pub part-less : length out ≡ OUT → part.next < length file
-      → length (records_of (drop part.next file)) * 524289 < length (records_of (drop from file)) * 524289 + begin
+  pub part-less : length out ≡ OUT → part.size < length rest
+      → length (records_of (drop part.size rest)) * 524289 < length (records_of rest) * 524289 + begin
   unfolding statement_lines
   part-less long more = go p.records refl
     where
-      both : length p.records + length (records_of (drop part.next file)) ≡ length (records_of (drop from file))
-      both = sym (length-append p.records (records_of (drop part.next file))) ∙ ap length p.met
+      both : length p.records + length (records_of (drop part.size rest)) ≡ length (records_of rest)
+      both = sym (length-append p.records (records_of (drop part.size rest))) ∙ ap length p.met
 
-      go : (l : List (List ℕ)) → p.records ≡ l → length (records_of (drop part.next file)) * 524289 < length (records_of (drop from file)) * 524289 + begin
+      go : (l : List (List ℕ)) → p.records ≡ l → length (records_of (drop part.size rest)) * 524289 < length (records_of rest) * 524289 + begin
       go [] e =
           let none = ap length e in
           let lines = ap (λ (l : List (List ℕ)). length (statement_lines number' (ledger_of book') area' l)) e in

@@ -6,7 +6,7 @@ ghost use Rattle.std.specs.Prelude.{◌≡◌, ◌+◌, ◌^◌, ◌≤◌, ◌<
 ghost use Rattle.book.specs.Stored.{Kept};
 ghost use Rattle.statement.specs.Read.{BLOCK, OUT, FileStated, BlockStated, FileRead};
 
-use streams::Streams;
+use streams::{Follows, Streams, Told};
 
 // Bytes of a block of 1,024 records.
 const BLOCK: usize = 40960;
@@ -24,8 +24,8 @@ struct Pending {
     more: bool,
 }
 
-// Writes lines to standard output; false where it takes no more.
-fn print(streams: Streams, lines: &[u8]) -> bool {
+// Writes lines to standard output.
+fn print(streams: Streams, lines: &[u8]) -> Result<(), Told> {
     streams::print(
         streams,
         lines,
@@ -47,25 +47,25 @@ fn state_file(
     ensures { FileStated file.now number.old book.old area.old (take at out.old) result number.new
         book.new area.new out.new }
 {
-    let mut from: usize = 0;
+    let mut rest = file;
     let mut begin = at;
     loop {
-        let part = statements::put_part(out, begin, *number, book, file, from, area);
+        let part = statements::put_part(out, begin, *number, book, rest, area);
         *number = part.number;
         let end = part.end;
-        if file.len() <= part.next {
+        if rest.len() <= part.size {
             return Pending {
                 end: end,
                 more: true,
             };
         }
-        if !print(streams, &out[..end]) {
+        if print(streams, &out[..end]).is_err() {
             return Pending {
                 end: 0,
                 more: false,
             };
         }
-        from = part.next;
+        rest = &rest[part.size..];
         begin = 0;
     }
 }
@@ -89,7 +89,7 @@ fn state_block(
     let pending = state_file(streams, out, at, number, book, &input[..size], area);
     Pending {
         end: pending.end,
-        more: pending.more & filled.more,
+        more: pending.more & (filled.follows == Follows::More),
     }
 }
 
@@ -106,36 +106,20 @@ fn run(
     ensures { FileRead number.old book.old area.old number.new book.new area.new out.new }
 {
     let mut at: usize = 0;
+    // A `while`, since its test bounds the numbers of records, which a `for` over blocks would not.
     while *number < LAST {
         let pending = state_block(streams, book, area, input, out, at, number);
         at = pending.end;
         if !pending.more {
-            print(streams, &out[..at]);
+            let _ = print(streams, &out[..at]);
             return;
         }
     }
-    print(streams, &out[..at]);
-}
-
-// Zeros for a block. Its contract gives only the length.
-fn input_buffer() -> [u8; BLOCK]
-    ensures { length result ≡ BLOCK }
-{
-    [0; BLOCK]
-}
-
-fn output_buffer() -> [u8; OUT]
-    ensures { length result ≡ OUT }
-{
-    [0; OUT]
+    let _ = print(streams, &out[..at]);
 }
 
 fn main(rt: HostRuntime) {
-    let streams = Streams {
-        input: rt.stdin(),
-        output: rt.stdout(),
-        error: rt.stderr(),
-    };
+    let streams = Streams::new(&rt);
     if streams::has_word(&rt, 1) {
         streams::tell(
             streams.error,
@@ -145,8 +129,8 @@ fn main(rt: HostRuntime) {
     }
     let mut book = [0u64; ledger::BOOK_WORDS];
     let mut area = [0u8; 4096];
-    let mut input = input_buffer();
-    let mut out = output_buffer();
+    let mut input = streams::zeros::<BLOCK>();
+    let mut out = streams::zeros::<OUT>();
     let mut number: u64 = 1;
     if ledger::fresh(&mut book) {
         run(

@@ -58,6 +58,7 @@ pub fn fill<R: Read>(from: &mut R, input: &mut [u8], told: Stderr, complaint: &[
     ensures { Within result (length input.old) }
 {
     let mut size: usize = 0;
+    // A `while`, since std's `read_exact` says neither how much was read nor what is left after an `Err`.
     while size < input.len() {
         match from.read(&mut input[size..]) {
             Ok(0) => {

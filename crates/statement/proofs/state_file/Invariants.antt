@@ -4,13 +4,13 @@ use Rattle.file.specs.Records.{records_of}
 use Rattle.statement.proofs.Parts.{Walked}
 use Rattle.statement.proofs.state_file.Given as goal
 
-abbrev pub invariant-loop-streams : goal.invariant-loop-streams
-invariant-loop-streams l =
-    Walked l.file l.fn.number l.fn.book l.fn.area (take l.fn.at l.fn.out) l.from l.number l.book l.area (take l.begin l.out)
+abbrev pub invariant-loop-rest : goal.invariant-loop-rest
+invariant-loop-rest l =
+    Walked l.fn.file l.fn.number l.fn.book l.fn.area (take l.fn.at l.fn.out) l.rest l.number l.book l.area (take l.begin l.out)
     × (l.begin ≤ length l.out)
     × (length l.out ≡ length l.fn.out)
     × (length l.book ≡ length l.fn.book)
     × (length l.area ≡ length l.fn.area)
 
-abbrev pub decreases-loop-streams : goal.decreases-loop-streams
-decreases-loop-streams l = length (records_of (drop l.from l.file)) * 524289 + l.begin
+abbrev pub decreases-loop-rest : goal.decreases-loop-rest
+decreases-loop-rest l = length (records_of l.rest) * 524289 + l.begin
