@@ -1,31 +1,23 @@
 -- What the program makes of what it reads. No contract can say what the C library reads or writes: the buffers and the count of records are what these
 -- speak of. `printed` are bytes that have left the output buffer; that the system wrote them no contract can say.
 use Rattle.std.specs.Prelude.{ℕ, ◌+◌, ◌≤◌, List, ◌++◌, ◌≡◌, length, take}
-use Rattle.std.specs.declared.ops.ControlFlow.{ControlFlow}
-use Rattle.std.specs.declared.ops.ControlFlow.TheVariants.{Continue, Break}
+use Rattle.streams.specs.declared.Follows.{Follows}
+use Rattle.streams.specs.declared.Follows.TheVariants.{More}
 use Rattle.file.specs.Records.{records_of}
 use Rattle.table_lines.specs.Exported.{record_lines, exported}
 
--- bytes of the input buffer, 80 records, of the output buffer, and of half of it
+-- bytes of the input buffer, 80 records, and of half of the output buffer
 abbrev pub BLOCK : ℕ
 BLOCK = 3_200
-
-abbrev pub OUT : ℕ
-OUT = 262_144
 
 abbrev pub HALF : ℕ
 HALF = 131_072
 
 -- the first of the lines in the buffer have left it, so that there is room for a block's; the others still stand in it
-pub record Emptied (out : List ℕ) (at : ℕ) (end : ℕ) : Type 0 where
+pub record Emptied (out out' : List ℕ) : Type 0 where
   pub printed : List ℕ
-  pub lines : printed ++ take end out ≡ take at out
-  pub room : end ≤ HALF
-
--- how far the buffer is filled, whether more may follow or not
-abbrev pub end_in : ControlFlow ℕ ℕ → ℕ
-end_in (Continue end) = end
-end_in (Break end) = end
+  pub lines : printed ++ out' ≡ out
+  pub room : length out' ≤ HALF
 
 -- the lines of a file's records come behind those that waited in the buffer: the first of all these bytes have left it, and the rest waits in it. The count
 -- of records goes on by as many as the file has
@@ -35,11 +27,10 @@ pub record FileWritten (file : List ℕ) (count : ℕ) (waiting : List ℕ) (cou
   pub lines : printed ++ waiting' ≡ waiting ++ record_lines (records_of file)
 
 -- so it is of the first bytes of the input buffer, of all of it where more may follow
-pub record BlockWritten (input : List ℕ) (count : ℕ) (waiting : List ℕ) (end : ControlFlow ℕ ℕ) (count' : ℕ) (out' : List ℕ) : Type 0 where
+pub record BlockWritten (input : List ℕ) (count : ℕ) (waiting : List ℕ) (follows : Follows) (count' : ℕ) (waiting' : List ℕ) : Type 0 where
   pub size : ℕ
-  pub written : FileWritten (take size input) count waiting count' (take (end_in end) out')
-  pub inside : end_in end ≤ length out'
-  pub whole : (next : ℕ) → end ≡ Continue next → size ≡ BLOCK
+  pub written : FileWritten (take size input) count waiting count' waiting'
+  pub whole : follows ≡ More → size ≡ BLOCK
 
 -- and of some bytes, read block after block, as one file
 pub record RecordsWritten (count : ℕ) (waiting : List ℕ) (count' : ℕ) (waiting' : List ℕ) : Type 0 where

@@ -5,10 +5,12 @@
 ghost use Rattle.std.specs.Prelude.{◌≡◌, ◌+◌, ◌^◌, ◌<◌, length};
 ghost use Rattle.book.specs.Meaning.{ledger_of};
 ghost use Rattle.book.specs.Stored.{Kept};
-ghost use Rattle.sheet.specs.HandedOver.{BLOCK, OUT, BlockCalled, FileRead, SheetPrinted, HandedOver};
+ghost use Rattle.sheet.specs.HandedOver.{BLOCK, BlockCalled, FileRead, HandedOver};
+ghost use Rattle.sheets.specs.Sheet.{sheet_of};
 
 use std::rt::Env;
 use streams::{Follows, Streams};
+use text::Buffer;
 
 // Bytes of a block of 1,024 records.
 const BLOCK: usize = 40960;
@@ -25,14 +27,15 @@ fn call_block(
     book: &mut [u64],
     area: &mut [u8],
     input: &mut [u8],
-    out: &mut [u8],
+    out: &mut Buffer<OUT>,
     number: &mut u64,
 ) -> Follows
-    requires { Kept book.old × (length input.old ≡ BLOCK) × (length out.old ≡ OUT) × (number.old + 1024 < 2 ^ 64) }
+    requires { Kept book.old × (length input.old ≡ BLOCK) × (number.old + 1024 < 2 ^ 64) }
     ensures { BlockCalled input.new result number.old book.old area.old number.new book.new
         area.new }
 {
     let filled = streams::fill_records(streams, input, b"sheet: standard input cannot be read");
+    out.clear();
     printing::put_block(out, number, book, &input[..filled.size], area);
     filled.follows
 }
@@ -43,10 +46,10 @@ fn call_all(
     book: &mut [u64],
     area: &mut [u8],
     input: &mut [u8],
-    out: &mut [u8],
+    out: &mut Buffer<OUT>,
     number: &mut u64,
 ) -> bool
-    requires { Kept book.old × (length input.old ≡ BLOCK) × (length out.old ≡ OUT) }
+    requires { Kept book.old × (length input.old ≡ BLOCK) }
     ensures { FileRead number.old book.old area.old number.new book.new area.new }
 {
     // A `while`, since its test bounds the numbers of records, which a `for` over blocks would not.
@@ -61,14 +64,15 @@ fn call_all(
 }
 
 // Prints the sheet of a book.
-fn print_sheet(streams: Streams, out: &mut [u8], page: bool, book: &[u64])
-    requires { Kept book.now × (length out.old ≡ OUT) }
-    ensures { SheetPrinted page (ledger_of book.now) out.old out.new }
+fn print_sheet(streams: Streams, out: &mut Buffer<OUT>, page: bool, book: &[u64])
+    requires { Kept book.now }
+    ensures { out.new ≡ sheet_of page (ledger_of book.now) }
 {
-    let end = sheets::put_sheet(out, page, book);
+    out.clear();
+    sheets::put_sheet(out, page, book);
     let _ = streams::print(
         streams,
-        &out[..end],
+        out.bytes(),
         b"sheet: standard output cannot be written",
     );
 }
@@ -80,10 +84,10 @@ fn hand_over(
     book: &mut [u64],
     area: &mut [u8],
     input: &mut [u8],
-    out: &mut [u8],
+    out: &mut Buffer<OUT>,
     number: &mut u64,
 ) -> bool
-    requires { Kept book.old × (length input.old ≡ BLOCK) × (length out.old ≡ OUT) }
+    requires { Kept book.old × (length input.old ≡ BLOCK) }
     ensures { HandedOver page result number.old book.old area.old number.new book.new area.new
         out.new }
 {
@@ -113,7 +117,7 @@ fn run(streams: Streams, page: bool) {
     let mut book = [0u64; ledger::BOOK_WORDS];
     let mut area = [0u8; 4096];
     let mut input = streams::zeros::<BLOCK>();
-    let mut out = streams::zeros::<OUT>();
+    let mut out = Buffer::<OUT>::new();
     let mut number: u64 = 1;
     if ledger::fresh(&mut book) {
         hand_over(

@@ -1,20 +1,19 @@
 -- A walk over a file in parts, each printed before the next. Assumes nothing.
-use Prim.Native.Nat.{ℕ, ◌+◌, ◌*◌, ◌/◌, ◌%◌, ◌≤◌, ◌<◌}
-use mathlib.Core.Bool.{true}
+use Prim.Native.Nat.{ℕ, suc, ◌+◌, ◌*◌, ◌/◌, ◌%◌, ◌≤◌, ◌<◌}
+use native.Mathlib.Nat.{mul-add_right}
 use native.Mathlib.Omega.{arith}
 use mathlib.Core.List.{List, [], ◌∷◌, ◌++◌, append_assoc, append-nil}
 use mathlib.Core.Path.{◌≡◌, refl, sym, ap, ◌∙◌}
-use lib.ListN.{length, take, drop, length-append, length-drop}
+use lib.ListN.{length, drop, length-append}
 use Rattle.book.specs.Stored.{Kept}
 use Rattle.book.specs.Meaning.{ledger_of}
 use Rattle.file.specs.Records.{records_of}
 use Rattle.file.proofs.Walking.{no_records, records_append}
 use Rattle.printing.specs.Printed.{lent}
-use Rattle.statements.specs.Stated.{statement_lines, PartPut, RecordsStated}
+use Rattle.statements.specs.Stated.{statement_lines, RECORD, PartPut, RecordsStated}
 use Rattle.statements.specs.declared.calls.Part.{Part}
 use Rattle.statements.proofs.Pieces.{stated_nothing, part-stated, stated_printed, stated_more}
-use Rattle.statement.specs.Read.{BLOCK, OUT, FileStated}
-use Rattle.statement.specs.declared.Pending.{Pending}
+use Rattle.statement.specs.Read.{BLOCK, FileStated, FileRead}
 
 -- the first records of the file were called, and those of the rest are left
 pub record Walked (file : List ℕ) (number : ℕ) (book lent waiting rest : List ℕ) (number' : ℕ) (book' lent' waiting' : List ℕ) : Type 0 where
@@ -38,43 +37,45 @@ module _ {file : List ℕ} {number : ℕ} {book area waiting rest : List ℕ} {n
   pub walked_all : length rest ≡ 0 → w.records ++ [] ≡ records_of file
   walked_all none = ap (λ (l : List (List ℕ)). w.records ++ l) (sym (no_records rest none)) ∙ w.left
 
-module _ {file : List ℕ} {number : ℕ} {book area waiting rest : List ℕ} {number' : ℕ} {book' area' out : List ℕ} {begin : ℕ} {part : Part}
-    {book'' area'' out'' : List ℕ} (w : Walked file number book area waiting rest number' book' area' (take begin out))
-    (p : PartPut rest number' (lent book' area' out begin) part (lent book'' area'' out'' part.end)) where
-  pub walked_part : Walked file number book area waiting (drop part.size rest) part.number book'' area'' (take part.end out'')
+module _ {file : List ℕ} {number : ℕ} {book area waiting rest : List ℕ} {number' : ℕ} {book' area' out : List ℕ} {N : ℕ} {part : Part}
+    {book'' area'' out'' : List ℕ} (w : Walked file number book area waiting rest number' book' area' out)
+    (p : PartPut N rest number' (lent book' area' out) part (lent book'' area'' out'')) where
+  pub walked_part : Walked file number book area waiting (drop part.size rest) part.number book'' area'' out''
   walked_part = record {
     records = w.records ++ p.records;
     left =
         append_assoc w.records p.records _ ∙ ap (λ (l : List (List ℕ)). w.records ++ l) p.met ∙ w.left;
-    stated = stated_more w.stated (part-stated refl p);
+    stated = stated_more w.stated (part-stated p);
   }
 
-  pub part-inside : part.end ≤ length out
-  part-inside = omega (arith, p.stated.lines.room, p.stated.lines.place)
-
-  -- a part has records, or the buffer was printed before it
-  pub part-less : length out ≡ OUT → part.size < length rest
-      → length (records_of (drop part.size rest)) * 524289 < length (records_of rest) * 524289 + begin
+  -- a part has records, or what stood in the buffer leaves it
+  pub part-less : RECORD < N → part.size < length rest
+      → length (records_of (drop part.size rest)) * (N + 1) < length (records_of rest) * (N + 1) + length out
   unfolding statement_lines
-  part-less long more = go p.records refl
+  part-less room more = go p.records refl
     where
       both : length p.records + length (records_of (drop part.size rest)) ≡ length (records_of rest)
       both = sym (length-append p.records (records_of (drop part.size rest))) ∙ ap length p.met
 
-      go : (l : List (List ℕ)) → p.records ≡ l → length (records_of (drop part.size rest)) * 524289 < length (records_of rest) * 524289 + begin
+      go : (l : List (List ℕ)) → p.records ≡ l → length (records_of (drop part.size rest)) * (N + 1) < length (records_of rest) * (N + 1) + length out
       go [] e =
           let none = ap length e in
-          let lines = ap (λ (l : List (List ℕ)). length (statement_lines number' (ledger_of book') area' l)) e in
-          omega (arith, both, none, lines, p.stated.lines.place, p.full more)
-      go (r ∷ l) e = let some = ap length e in omega (arith, both, some)
+          let lines = ap (λ (l : List (List ℕ)). length (out ++ statement_lines number' (ledger_of book') area' l)) e in
+          let same : length (records_of (drop part.size rest)) ≡ length (records_of rest) = omega (arith, both, none) in
+          let long : length out'' ≡ length out = ap length p.stated.lines ∙ lines ∙ ap length (append-nil out) in
+          rw same (omega (arith, p.full more, long, room))
+      go (r ∷ l) e =
+          let some = ap length e in
+          let more : length (records_of rest) ≡ suc (length l) + length (records_of (drop part.size rest)) = omega (arith, both, some) in
+          rw more (omega (arith, mul-add_right (suc (length l)) (length (records_of (drop part.size rest))) (N + 1)))
 
 -- ---- block after block
 
--- where more may follow, all records of a block were called
+-- where all of a block's records were called, these are its records
 pub all-called :
-    {block : List ℕ} {number : ℕ} {book area waiting : List ℕ} {pending : Pending} {number' : ℕ} {book' area' out' : List ℕ}
-    → (f : FileStated block number book area waiting pending number' book' area' out') → pending.more ≡ true → f.records ≡ records_of block
-all-called f more = sym (append-nil f.records) ∙ ap (λ (l : List (List ℕ)). f.records ++ l) (sym (f.all more)) ∙ f.first
+    {block : List ℕ} {Whole : Type 0} {number : ℕ} {book area waiting : List ℕ} {number' : ℕ} {book' area' waiting' : List ℕ}
+    → (f : FileStated block Whole number book area waiting number' book' area' waiting') → Whole → f.records ≡ records_of block
+all-called f whole = sym (append-nil f.records) ∙ ap (λ (l : List (List ℕ)). f.records ++ l) (sym (f.all whole)) ∙ f.first
 
 -- whole records were read so far, and called as one file
 pub record Whole (number : ℕ) (book lent : List ℕ) (number' : ℕ) (book' lent' waiting' : List ℕ) : Type 0 where
@@ -90,35 +91,32 @@ module _ {number : ℕ} {book area : List ℕ} {number' : ℕ} {book' area' wait
   both : (block : List ℕ) → records_of (w.file ++ block) ≡ records_of w.file ++ records_of block
   both block = records_append (length w.file / 40) w.file block (omega (arith, w.whole))
 
-  module _ {block : List ℕ} {pending : Pending} {number'' : ℕ} {book'' area'' out'' : List ℕ}
-      (f : FileStated block number' book' area' waiting' pending number'' book'' area'' out'') where
-    pub file_read : FileStated (w.file ++ block) number book area [] pending number'' book'' area'' out''
+  module _ {block : List ℕ} {All : Type 0} {number'' : ℕ} {book'' area'' waiting'' : List ℕ}
+      (f : FileStated block All number' book' area' waiting' number'' book'' area'' waiting'') where
+    pub file_read : FileRead number book area number'' book'' area'' waiting''
     file_read = record {
+      file = w.file ++ block;
       records = records_of w.file ++ f.records;
       left = f.left;
       first =
           append_assoc (records_of w.file) f.records f.left ∙ ap (λ (l : List (List ℕ)). records_of w.file ++ l) f.first ∙ sym (both block);
-      all = f.all;
-      inside = f.inside;
       stated = stated_more w.stated f.stated;
     }
 
     -- a full block, all of whose records were called
-    pub whole-block : length block ≡ BLOCK → pending.more ≡ true → Whole number book area number'' book'' area'' (take pending.end out'')
-    whole-block full more = record {
+    pub whole-block : length block ≡ BLOCK → All → Whole number book area number'' book'' area'' waiting''
+    whole-block full all = record {
       file = w.file ++ block;
       whole = omega (arith, w.whole, full, length-append w.file block);
-      stated = rw (both block, ← all-called f more) (stated_more w.stated f.stated);
+      stated = rw (both block, ← all-called f all) (stated_more w.stated f.stated);
     }
 
   -- nothing more is read
-  pub all_read : {end : ℕ} {out' : List ℕ} → waiting' ≡ take end out' → end ≤ length out'
-      → FileStated w.file number book area [] (record { end = end; more = true }) number' book' area' out'
-  all_read e inside = record {
+  pub all_read : FileRead number book area number' book' area' waiting'
+  all_read = record {
+    file = w.file;
     records = records_of w.file;
     left = [];
     first = append-nil (records_of w.file);
-    all = λ _. refl;
-    inside = inside;
-    stated = rw (← e) w.stated;
+    stated = w.stated;
   }

@@ -1,8 +1,9 @@
 -- What is printed leaves the buffer.
-use Rattle.std.proofs.Common.{rules, take, append-nil}
+use Rattle.std.proofs.Common.{rules, refl, append-nil}
 use Rattle.export.proofs.make_room.Goals as goal
 
-pub returns-in-Ok : goal.returns-in-Ok
-returns-in-Ok c =
-    let all = take c.args.at c.args.out.now in
-    record { printed = all; lines = append-nil all; room = search rules }
+pub returns-then-out-le131072 : goal.returns-then-out-le131072
+returns-then-out-le131072 c = record { printed = []; lines = refl; room = search rules }
+
+pub returns : goal.returns
+returns c = record { printed = c.args.out.now; lines = append-nil c.args.out.now; room = search rules }

@@ -8,7 +8,7 @@ use Rattle.sheet.proofs.Blocks.{whole_none, block_more, whole_more}
 use Rattle.sheet.proofs.call_all.Goals as goal
 
 pub loop-number-init : goal.loop-number-init
-loop-number-init c = (whole_none _ _ _ c.requires.0, refl, refl, refl, refl)
+loop-number-init c = (whole_none _ _ _ c.requires.0, refl, refl, refl)
 
 pub returns-in-Ended : goal.returns-in-Ended
 returns-in-Ended c = block_more c.loop-number.invariant.0 c.call_block.ensures.called
@@ -41,5 +41,4 @@ loop-number-preserved c =
       called.auto.book ∙ before.1,
       called.auto.area ∙ before.2,
       called.auto.input ∙ before.3,
-      called.auto.out ∙ before.4,
     )

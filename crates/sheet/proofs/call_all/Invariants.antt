@@ -9,7 +9,6 @@ invariant-loop-number l =
     × (length l.book ≡ length l.fn.book)
     × (length l.area ≡ length l.fn.area)
     × (length l.input ≡ length l.fn.input)
-    × (length l.out ≡ length l.fn.out)
 
 abbrev pub decreases-loop-number : goal.decreases-loop-number
 decreases-loop-number l = 2 ^ 64 - l.number

@@ -2,4 +2,4 @@
 use Rattle.sheet.proofs.run.Goals as goal
 
 pub hand_over-requires : goal.hand_over-requires
-hand_over-requires c = (c.fresh.ensures.kept c.if-fresh.true, c.zeros-input.ensures.len, c.zeros-out.ensures.len)
+hand_over-requires c = (c.fresh.ensures.kept c.if-fresh.true, c.zeros-input.ensures.len)

@@ -1,16 +1,14 @@
 -- What was read so far are whole records, called as one file. What is left of the numbers falls at each turn.
-use Rattle.std.proofs.Common.{◌≡◌, ◌-◌, ◌^◌, ◌≤◌, length, take}
+use Rattle.std.proofs.Common.{◌≡◌, ◌-◌, ◌^◌, length}
 use Rattle.statement.proofs.Parts.{Whole}
 use Rattle.statement.proofs.run.Given as goal
 
 abbrev pub invariant-loop-number : goal.invariant-loop-number
 invariant-loop-number l =
-    Whole l.fn.number l.fn.book l.fn.area l.number l.book l.area (take l.at l.out)
-    × (l.at ≤ length l.out)
+    Whole l.fn.number l.fn.book l.fn.area l.number l.book l.area l.out
     × (length l.book ≡ length l.fn.book)
     × (length l.area ≡ length l.fn.area)
     × (length l.input ≡ length l.fn.input)
-    × (length l.out ≡ length l.fn.out)
 
 abbrev pub decreases-loop-number : goal.decreases-loop-number
 decreases-loop-number l = 2 ^ 64 - l.number
