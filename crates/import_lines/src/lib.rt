@@ -11,6 +11,7 @@ use names::Table;
 use table::Refused;
 use text::Buffer;
 
+#[tactic(auto, unfolding(crate::specs::Told::reason))]
 fn put_reason<const N: usize>(out: &mut Buffer<N>, kind: Kind)
     requires { length out.old + 200 ≤ N }
     ensures put { out.new ≡ out.old ++ reason kind }
@@ -39,6 +40,7 @@ fn put_reason<const N: usize>(out: &mut Buffer<N>, kind: Kind)
     out.put(sentence);
 }
 
+#[tactic(auto, unfolding(crate::specs::Told::place))]
 fn put_place<const N: usize>(out: &mut Buffer<N>, why: Refused)
     requires { length out.old + 200 ≤ N }
     ensures put { out.new ≡ out.old ++ place why.line why.wrong.column }
@@ -77,6 +79,7 @@ fn put_brackets<const N: usize>(out: &mut Buffer<N>, name: &[u8])
     out.put(b")");
 }
 
+#[tactic(auto, unfolding(crate::specs::Told::bracketed))]
 fn put_name<const N: usize>(out: &mut Buffer<N>, name: &[u8])
     requires { length out.old + 83 ≤ N }
     ensures put { out.new ≡ out.old ++ bracketed name.now }
@@ -123,6 +126,7 @@ fn put_told<const N: usize>(out: &mut Buffer<N>, file: &[u8], why: Refused, name
 }
 
 // What is told of a table that is refused. The first bytes are its first line, whose cells are told themselves; of any other line a field's name is told.
+#[tactic(auto, unfolding(crate::specs::Told::told))]
 pub fn put_refused<const N: usize>(out: &mut Buffer<N>, file: &[u8], first: &[u8], why: Refused)
     requires { length out.old + length file.now + 600 ≤ N }
     ensures { out.new ≡ out.old ++ told file.now why (name_at first.now why) }

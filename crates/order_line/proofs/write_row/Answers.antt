@@ -1,6 +1,6 @@
 -- `order_line::write_row` meets its contract: the line's fields, then the record writer. Assumes nothing.
 use Rattle.std.proofs.lemmas.Result.{err_from_is_err_and}
-use Rattle.std.proofs.Common.{refl, sym, ap, ◌∙◌, Ok, Err}
+use Rattle.std.proofs.Common.{refl, sym, ◌∙◌, Ok, Err}
 use Rattle.table.specs.Lines.{row_written}
 use Rattle.order_line.proofs.Writing.{row-unread, row_told}
 use Rattle.order_line.proofs.write_row.Goals as goal
@@ -26,4 +26,4 @@ returns-in-Err c =
     row_told _ _ _ (sym c.in_ok-values.was ∙ c.line_fields.ensures) _ c.order_of-order.ensures c.args.out.now c.requires.2 (Err _)
     (sym c.in-Err.is ∙ c.write.ensures.answered)
     in
-    record { value = ap Err (c.wrong_order.ensures ∙ ?) ∙ both.0; out_after = c.write.ensures.written ∙ both.1 }
+    record { value = rw (c.wrong_order.ensures, c.into.ensures) both.0; out_after = c.write.ensures.written ∙ both.1 }
