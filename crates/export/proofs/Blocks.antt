@@ -64,6 +64,10 @@ module _ {count : ℕ} {waiting : List ℕ} {count' : ℕ} {waiting' : List ℕ}
   pub whole-printed : {waiting'' : List ℕ} (printed : List ℕ) → printed ++ waiting'' ≡ waiting' → Whole count waiting count' waiting''
   whole-printed printed e = record { file = w.file; whole = w.whole; written = then_printed w.written printed e }
 
+  -- nothing more is read
+  pub whole_written : RecordsWritten count waiting count' waiting'
+  whole_written = record { file = w.file; written = w.written }
+
   -- a block more, and a full one
   module _ {block : List ℕ} {count'' : ℕ} {waiting'' : List ℕ} (m : FileWritten block count' waiting' count'' waiting'') where
     pub block_more : RecordsWritten count waiting count'' waiting''

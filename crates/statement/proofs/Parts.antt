@@ -1,6 +1,5 @@
 -- A walk over a file in parts, each printed before the next. Assumes nothing.
-use Prim.Native.Nat.{ℕ, suc, ◌+◌, ◌*◌, ◌/◌, ◌%◌, ◌≤◌, ◌<◌}
-use native.Mathlib.Nat.{mul-add_right}
+use Prim.Native.Nat.{ℕ, ◌+◌, ◌*◌, ◌/◌, ◌%◌, ◌≤◌, ◌<◌}
 use native.Mathlib.Omega.{arith}
 use mathlib.Core.List.{List, [], ◌∷◌, ◌++◌, append_assoc, append-nil}
 use mathlib.Core.Path.{◌≡◌, refl, sym, ap, ◌∙◌}
@@ -10,7 +9,7 @@ use Rattle.book.specs.Meaning.{ledger_of}
 use Rattle.file.specs.Records.{records_of}
 use Rattle.file.proofs.Walking.{no_records, records_append}
 use Rattle.printing.specs.Printed.{lent}
-use Rattle.statements.specs.Stated.{statement_lines, RECORD, PartPut, RecordsStated}
+use Rattle.statements.specs.Stated.{statement_lines, PartPut, RecordsStated}
 use Rattle.statements.specs.declared.calls.Part.{Part}
 use Rattle.statements.proofs.Pieces.{stated_nothing, part-stated, stated_printed, stated_more}
 use Rattle.statement.specs.Read.{BLOCK, FileStated, FileRead}
@@ -37,9 +36,9 @@ module _ {file : List ℕ} {number : ℕ} {book area waiting rest : List ℕ} {n
   pub walked_all : length rest ≡ 0 → w.records ++ [] ≡ records_of file
   walked_all none = ap (λ (l : List (List ℕ)). w.records ++ l) (sym (no_records rest none)) ∙ w.left
 
-module _ {file : List ℕ} {number : ℕ} {book area waiting rest : List ℕ} {number' : ℕ} {book' area' out : List ℕ} {N : ℕ} {part : Part}
+module _ {file : List ℕ} {number : ℕ} {book area waiting rest : List ℕ} {number' : ℕ} {book' area' out : List ℕ} {part : Part}
     {book'' area'' out'' : List ℕ} (w : Walked file number book area waiting rest number' book' area' out)
-    (p : PartPut N rest number' (lent book' area' out) part (lent book'' area'' out'')) where
+    (p : PartPut 524288 rest number' (lent book' area' out) part (lent book'' area'' out'')) where
   pub walked_part : Walked file number book area waiting (drop part.size rest) part.number book'' area'' out''
   walked_part = record {
     records = w.records ++ p.records;
@@ -49,25 +48,21 @@ module _ {file : List ℕ} {number : ℕ} {book area waiting rest : List ℕ} {n
   }
 
   -- a part has records, or what stood in the buffer leaves it
-  pub part-less : RECORD < N → part.size < length rest
-      → length (records_of (drop part.size rest)) * (N + 1) < length (records_of rest) * (N + 1) + length out
+  pub part-less : part.size < length rest
+      → length (records_of (drop part.size rest)) * 524289 < length (records_of rest) * 524289 + length out
   unfolding statement_lines
-  part-less room more = go p.records refl
+  part-less more = go p.records refl
     where
       both : length p.records + length (records_of (drop part.size rest)) ≡ length (records_of rest)
       both = sym (length-append p.records (records_of (drop part.size rest))) ∙ ap length p.met
 
-      go : (l : List (List ℕ)) → p.records ≡ l → length (records_of (drop part.size rest)) * (N + 1) < length (records_of rest) * (N + 1) + length out
+      go : (l : List (List ℕ)) → p.records ≡ l → length (records_of (drop part.size rest)) * 524289 < length (records_of rest) * 524289 + length out
       go [] e =
           let none = ap length e in
           let lines = ap (λ (l : List (List ℕ)). length (out ++ statement_lines number' (ledger_of book') area' l)) e in
-          let same : length (records_of (drop part.size rest)) ≡ length (records_of rest) = omega (arith, both, none) in
           let long : length out'' ≡ length out = ap length p.stated.lines ∙ lines ∙ ap length (append-nil out) in
-          rw same (omega (arith, p.full more, long, room))
-      go (r ∷ l) e =
-          let some = ap length e in
-          let more : length (records_of rest) ≡ suc (length l) + length (records_of (drop part.size rest)) = omega (arith, both, some) in
-          rw more (omega (arith, mul-add_right (suc (length l)) (length (records_of (drop part.size rest))) (N + 1)))
+          omega (arith, both, none, long, p.full more)
+      go (r ∷ l) e = let some = ap length e in omega (arith, both, some)
 
 -- ---- block after block
 

@@ -1,9 +1,6 @@
 -- What is printed leaves the buffer.
-use Rattle.std.proofs.Common.{rules, refl, append-nil}
+use Rattle.std.proofs.Common.{arith, append-nil}
 use Rattle.export.proofs.make_room.Goals as goal
 
-pub returns-then-out-le131072 : goal.returns-then-out-le131072
-returns-then-out-le131072 c = record { printed = []; lines = refl; room = search rules }
-
 pub returns : goal.returns
-returns c = record { printed = c.args.out.now; lines = append-nil c.args.out.now; room = search rules }
+returns c = record { printed = c.args.out.now; lines = rw c.clear.ensures (append-nil c.args.out.now); room = rw c.clear.ensures (omega arith) }
