@@ -14,7 +14,7 @@ returns g c =
     mid_len a.held 16383 a.input.now (omega (arith, c.requires.0)) in
     let most : filled.result.size ≤ 16383 - a.held = omega (arith, filled.ensures.inside, room) in
     let all : c.match-filled.rest ≡ More → a.held + filled.result.size ≡ 16383 =
- elim c.match-filled.branch [ in-More w ↦ (λ e. omega (arith, filled.ensures.full w.in-More.is, room, c.requires.1)) | in-Ended w ↦ (λ e. cc (w.rest-is)) ] in
+    elim c.match-filled.branch [ in-More w ↦ (λ e. omega (arith, filled.ensures.full w.in-More.is, room, c.requires.1)) | in-Ended w ↦ (λ e. cc (w.rest-is)) ] in
     record {
       more = take filled.result.size filled.new.input;
       bytes =
