@@ -12,8 +12,8 @@ put_part-part-requires c =
     let before = c.loop-rest.invariant in (
       search rules,
       (
-      before.0.stated.kept,
-      omega (arith, before.0.stated.numbered, walked_length before.0, records_length c.args.file.now, c.requires.1, c.requires.2),
+        before.0.stated.kept,
+        omega (arith, before.0.stated.numbered, walked_length before.0, records_length c.args.file.now, c.requires.1, c.requires.2),
       ),
     )
 
