@@ -22,11 +22,24 @@ pub struct Legs {
 }
 
 impl Legs {
-    ghost use Rattle.std.specs.Prelude.{false, not, ◌≡◌, ◌<◌};
+    ghost use Rattle.std.specs.Prelude.{false, not, ◌≡◌, ◌<◌, replicate};
     ghost use Rattle.marks.specs.Marks.{is_on};
     ghost use Rattle.legs.specs.Figures.{Room, Cover, RoomAll, short_at, short_with};
     ghost use Rattle.legs.specs.Slots.{WithLeg, WithoutLeg, WithMarked, FineFrom};
     ghost use Rattle.legs.specs.Legs.{figures_in, SameLegs};
+
+    // No trade's legs: columns of zeros, to be filled where they lie.
+    pub fn none() -> Legs
+        ensures trades { result.trades ≡ 0 }
+        ensures columns { (result.legs ≡ replicate 192 0) × (result.slots ≡ replicate 128 0) × (result.figures ≡ replicate 128 0) }
+    {
+        Legs {
+            trades: 0,
+            legs: [0; 192],
+            slots: [0; 128],
+            figures: [0; 128],
+        }
+    }
 
     // The figures with the leg of the trade at `j`.
     #[tactic(auto, using(crate::proofs::Placed::from_below, crate::proofs::Placed::to_below))]

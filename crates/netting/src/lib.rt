@@ -15,6 +15,7 @@ ghost use Rattle.marks.specs.Marks.{marked_of};
 ghost use Rattle.netting.specs.Rounds.{mark_of};
 ghost use Rattle.netting.specs.Selected.{Taken, Selected};
 
+use legs::Legs;
 use marks::Marks;
 
 // The waiting trades that are due, and those of them that a cycle fixes.
@@ -31,9 +32,11 @@ fn selected_marks(book: &[u64], due: Marks) -> Marks
     requires taken { Ready b × Taken b due }
     ensures { marked_of result b.waiting ≡ map mark_of (selection b) }
 {
-    let mut shares = slots::share_legs(book);
+    let mut shares = Legs::none();
+    slots::fill_shares(&mut shares, book);
     shares.add_marked(due);
-    let mut cash = slots::cash_legs(book);
+    let mut cash = Legs::none();
+    slots::fill_cash(&mut cash, book);
     cash.add_marked(due);
     let kept = rounds::drop_short(due, &mut shares, &mut cash);
     passes::put_back(due, kept, &mut shares, &mut cash)

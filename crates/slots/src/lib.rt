@@ -80,43 +80,35 @@ fn fill(slots: &mut [u64], legs: &[u64], n: usize)
     }
 }
 
-// The legs of some trades, with their slots, before any is added.
-fn legs_of<F: Fn(usize) -> Leg>(trades: usize, leg_of: F) -> Legs
+// The legs of some trades, with their slots, before any is added. They are filled where they lie: a `Legs` has 448 words, and handing it on copies them.
+fn fill_legs<F: Fn(usize) -> Leg>(legs: &mut Legs, trades: usize, leg_of: F)
     requires few { trades ≤ 64 }
     requires asked { (i : ℕ) → i < trades → F.pre leg_of i }
-    ensures as_many { result.trades ≡ trades }
-    ensures filled { (k : ℕ) → k < trades → F.post leg_of k (leg_in result.legs result.figures k) }
-    ensures started { Started trades result.legs result.figures }
+    ensures as_many { legs.new.trades ≡ trades }
+    ensures filled { (k : ℕ) → k < trades → F.post leg_of k (leg_in legs.new.legs legs.new.figures k) }
+    ensures started { Started trades legs.new.legs legs.new.figures }
 {
-    let mut legs = [0u64; 192];
-    let mut figures = [0u64; 128];
-    legs::fill(&mut legs, &mut figures, trades, leg_of);
-    let mut slots = [0u64; 128];
-    fill(&mut slots, &legs, trades);
-    Legs {
-        trades,
-        legs,
-        slots,
-        figures,
-    }
+    legs::fill(&mut legs.legs, &mut legs.figures, trades, leg_of);
+    fill(&mut legs.slots, &legs.legs, trades);
+    legs.trades = trades;
 }
 
 // The legs of the waiting trades' shares, with the balances that they debit.
-pub fn share_legs(book: &[u64]) -> Legs
+pub fn fill_shares(legs: &mut Legs, book: &[u64])
     requires { Stored book.now × Ready (ledger_of book.now) }
-    ensures trades { result.trades ≡ length (ledger_of book.now).waiting }
-    ensures share_legs { ShareLegs (ledger_of book.now).waiting result.legs }
-    ensures share_start { ShareStart (ledger_of book.now) result.figures }
+    ensures trades { legs.new.trades ≡ length (ledger_of book.now).waiting }
+    ensures share_legs { ShareLegs (ledger_of book.now).waiting legs.new.legs }
+    ensures share_start { ShareStart (ledger_of book.now) legs.new.figures }
 {
-    legs_of(book_items::items(book), |i| legs::share_leg(book, i))
+    fill_legs(legs, book_items::items(book), |i| legs::share_leg(book, i));
 }
 
 // The legs of their cash, with the amounts that they debit.
-pub fn cash_legs(book: &[u64]) -> Legs
+pub fn fill_cash(legs: &mut Legs, book: &[u64])
     requires { Stored book.now × Ready (ledger_of book.now) }
-    ensures trades { result.trades ≡ length (ledger_of book.now).waiting }
-    ensures cash_legs { CashLegs (ledger_of book.now).waiting result.legs }
-    ensures cash_start { CashStart (ledger_of book.now) result.figures }
+    ensures trades { legs.new.trades ≡ length (ledger_of book.now).waiting }
+    ensures cash_legs { CashLegs (ledger_of book.now).waiting legs.new.legs }
+    ensures cash_start { CashStart (ledger_of book.now) legs.new.figures }
 {
-    legs_of(book_items::items(book), |i| legs::cash_leg(book, i))
+    fill_legs(legs, book_items::items(book), |i| legs::cash_leg(book, i));
 }

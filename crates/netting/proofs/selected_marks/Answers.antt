@@ -15,41 +15,41 @@ Shares l b = (l.trades ≡ length b.waiting) × ShareLegs b.waiting l.legs × Sh
 abbrev Cash : Legs → Ledger → Type 0
 Cash l b = (l.trades ≡ length b.waiting) × CashLegs b.waiting l.legs × CashStart b l.figures
 
-pub share_legs-shares-requires : goal.share_legs-shares-requires
-share_legs-shares-requires g c = (c.requires.0.stored, subst Ready (sym c.requires.0.ledger) c.requires.1.0)
+pub fill_shares-requires : goal.fill_shares-requires
+fill_shares-requires g c = (c.requires.0.stored, subst Ready (sym c.requires.0.ledger) c.requires.1.0)
 
-pub cash_legs-cash-requires : goal.cash_legs-cash-requires
-cash_legs-cash-requires g c = (c.requires.0.stored, subst Ready (sym c.requires.0.ledger) c.requires.1.0)
+pub fill_cash-requires : goal.fill_cash-requires
+fill_cash-requires g c = (c.requires.0.stored, subst Ready (sym c.requires.0.ledger) c.requires.1.0)
 
 pub add_marked-requires : goal.add_marked-requires
 add_marked-requires g c =
-    let l = c.share_legs-shares in
-    let s = subst (Shares l.result) c.requires.0.ledger (l.ensures.trades, l.ensures.share_legs, l.ensures.share_start) in
-    share_room_in g.b c.requires.1.0 c.args.due l.result s.0 s.1 s.2
+    let l = c.fill_shares in
+    let s = subst (Shares l.new.legs) c.requires.0.ledger (l.ensures.trades, l.ensures.share_legs, l.ensures.share_start) in
+    share_room_in g.b c.requires.1.0 c.args.due l.new.legs s.0 s.1 s.2
 
 pub add_marked-requires-2 : goal.add_marked-requires-2
 add_marked-requires-2 g c =
-    let l = c.cash_legs-cash in
-    let s = subst (Cash l.result) c.requires.0.ledger (l.ensures.trades, l.ensures.cash_legs, l.ensures.cash_start) in
-    cash_room_in g.b c.requires.1.0 c.args.due l.result s.0 s.1 s.2
+    let l = c.fill_cash in
+    let s = subst (Cash l.new.legs) c.requires.0.ledger (l.ensures.trades, l.ensures.cash_legs, l.ensures.cash_start) in
+    cash_room_in g.b c.requires.1.0 c.args.due l.new.legs s.0 s.1 s.2
 
 pub drop_short-kept-requires : goal.drop_short-kept-requires
 drop_short-kept-requires g c =
     let r = c.requires.1.0 in
-    let l = c.share_legs-shares in
-    let s = subst (Shares l.result) c.requires.0.ledger (l.ensures.trades, l.ensures.share_legs, l.ensures.share_start) in
+    let l = c.fill_shares in
+    let s = subst (Shares l.new.legs) c.requires.0.ledger (l.ensures.trades, l.ensures.share_legs, l.ensures.share_start) in
     let h = c.add_marked.ensures in
-    let m = c.cash_legs-cash in
-    let t = subst (Cash m.result) c.requires.0.ledger (m.ensures.trades, m.ensures.cash_legs, m.ensures.cash_start) in
+    let m = c.fill_cash in
+    let t = subst (Cash m.new.legs) c.requires.0.ledger (m.ensures.trades, m.ensures.cash_legs, m.ensures.cash_start) in
     let k = c.add_marked-2.ensures in (
       r,
       record {
         share_trades = h.same.trades ∙ s.0;
         share_legs = subst (ShareLegs g.b.waiting) (sym h.same.legs) s.1;
-        held_figures = share_figures_in g.b r c.args.due l.result s.0 _ h.same h.with_marked s.1 s.2;
+        held_figures = share_figures_in g.b r c.args.due l.new.legs s.0 _ h.same h.with_marked s.1 s.2;
         cash_trades = k.same.trades ∙ t.0;
         cash_legs = subst (CashLegs g.b.waiting) (sym k.same.legs) t.1;
-        funds_figures = cash_figures_in g.b r c.args.due m.result t.0 _ k.same k.with_marked t.1 t.2;
+        funds_figures = cash_figures_in g.b r c.args.due m.new.legs t.0 _ k.same k.with_marked t.1 t.2;
       },
     )
 

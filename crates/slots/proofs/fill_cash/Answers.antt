@@ -1,15 +1,15 @@
--- `slots::cash_legs` meets its contract: what is asked of each place is what its trade moves of cash. Assumes nothing.
+-- `slots::fill_cash` meets its contract: what is asked of each place is what its trade moves of cash. Assumes nothing.
 use Rattle.std.proofs.Common.{ℕ, ◌<◌, ◌∙◌, length, rules, arith}
 use Rattle.book.specs.Meaning.{ledger_of}
 use Rattle.marks.specs.Marks.{item_in}
 use Rattle.legs.specs.Filled.{CashLeg, leg_in}
-use Rattle.slots.proofs.cash_legs.Goals as goal
+use Rattle.slots.proofs.fill_cash.Goals as goal
 
 pub returns : goal.returns
 returns c =
     let b = ledger_of c.args.book.now in
-    let l = c.legs_of.result in
-    let e = c.legs_of.ensures in
+    let l = c.fill_legs.new.legs in
+    let e = c.fill_legs.ensures in
     let many = c.items.ensures in
     let leg : (k : ℕ) → k < length b.waiting → CashLeg b (item_in b.waiting k) (leg_in l.legs l.figures k) =
     λ k h. (let t = e.filled k (omega arith) in search rules)
