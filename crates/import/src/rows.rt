@@ -1,5 +1,5 @@
 // The lines of a table, block after block.
-ghost use Rattle.std.specs.Prelude.{◌≡◌, ◌≤◌, length, MatchResult};
+ghost use Rattle.std.specs.Prelude.{◌≡◌, ◌≤◌, length, take, MatchResult};
 ghost use Rattle.table_buffer.specs.Buffers.{INPUT, BLOCK};
 ghost use Rattle.table_buffer.specs.Blocks.{Given};
 ghost use Rattle.import.specs.declared.Stop.TheVariants.{Failed};
@@ -44,7 +44,7 @@ fn convert(
     }
 }
 
-// Reads on behind the bytes that are left at the buffer's start.
+// Reads on behind the bytes that are left at the buffer's start: these stay, where the read fails too.
 pub fn read_on<F: io::Read>(
     from: &mut F,
     streams: Streams,
@@ -55,7 +55,7 @@ pub fn read_on<F: io::Read>(
     empty: Option<u64>,
 ) -> Result<Reading, Stop>
     requires { (length input.old ≡ INPUT) × (held ≤ BLOCK) }
-    ensures { MatchResult result (ReadOn input.old held line empty input.new) (λ stop. stop ≡ Failed) }
+    ensures { MatchResult result (ReadOn input.old held line empty input.new) (λ stop. (stop ≡ Failed) × (take held input.new ≡ take held input.old)) }
 {
     let filled = streams::fill(from, &mut input[held..16383], streams.error, file);
     let rest = match filled.follows {

@@ -45,7 +45,7 @@ read_on-requires g c =
 pub returns-in_err-reading-in-More : goal.returns-in_err-reading-in-More
 returns-in_err-reading-in-More g c =
     let p = err_from_is_err_and c.from_residual-in_err-reading-in-More.result c.from_residual-in_err-reading-in-More.ensures.1 in
-    rw (p.1, p.2, c.in_err-reading-in-More.ensures) (so_failed c.loop-turn.invariant.so)
+    rw (p.1, p.2, c.in_err-reading-in-More.ensures.0) (so_failed c.loop-turn.invariant.so)
 
 pub loop-turn-preserved : goal.loop-turn-preserved
 loop-turn-preserved g c =

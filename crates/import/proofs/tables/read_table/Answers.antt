@@ -9,7 +9,7 @@ pub returns-in_err-reading : goal.returns-in_err-reading
 unfolding Says
 returns-in_err-reading g c =
     let p = err_from_is_err_and c.from_residual.result c.from_residual.ensures.1 in
-    rw (p.1, p.2, c.in_err-reading.ensures) (record { file = []; says = tt })
+    rw (p.1, p.2, c.in_err-reading.ensures.0) (record { file = []; says = tt })
 
 pub returns-in-Err : goal.returns-in-Err
 returns-in-Err g c =
