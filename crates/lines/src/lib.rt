@@ -1,4 +1,4 @@
-// The lines of the printing program. Each function puts bytes into a buffer from a place on, and answers the place behind them.
+// The lines of the printing program. Each function puts bytes into a buffer, behind those that were put.
 #![tactic(auto)]
 
 ghost use Rattle.std.specs.Prelude.{◌++◌, ◌≡◌, ◌+◌, ◌≤◌, length};

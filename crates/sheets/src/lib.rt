@@ -1,4 +1,4 @@
-// The handover sheet of a book, in a buffer. Each function puts bytes from a place on, and answers the place behind them.
+// The handover sheet of a book, in a buffer. Each function puts bytes behind those that were put.
 #![tactic(auto)]
 
 mod page;

@@ -1,4 +1,4 @@
-// A sheet is lines of text, or a page of tables. Each function puts bytes into a buffer from a place on, and answers the place behind them.
+// A sheet is lines of text, or a page of tables. Each function puts bytes into a buffer, behind those that were put.
 #![tactic(auto)]
 
 ghost use Rattle.std.specs.Prelude.{◌++◌, ◌≡◌, if◌then◌else◌, [], ◌∷◌, ◌+◌, ◌*◌, ◌≤◌, length};
